@@ -1,14 +1,12 @@
 -- What an answer says of the steps that led to it.
-use Rattle.std.proofs.Common.{◌≡◌, Option, Some, None, Result, Ok, Err, Bool, true, false, ◌&&◌, cond, ◌⊎◌, inl, inr, refl, subst}
+use Rattle.std.proofs.Common.{◌≡◌, Option, Some, None, Result, Ok, Err, Bool, true, false, ◌&&◌, cond, ◌⊎◌, subst, arith}
 use Rattle.jc_base.specs.Results.{◌>>=◌}
 
 pub bind_ok : {A B E : Type 0} (r : Result A E) (f : A → Result B E) (y : B) → (r >>= f) ≡ Ok y → (x : A) × (r ≡ Ok x) × (f x ≡ Ok y)
-bind_ok (Ok x) f y h = (x, refl, h)
-bind_ok (Err e) f y h = absurd cc
+bind_ok r f y h1 = grind arith
 
 pub guard_ok : {A E : Type 0} (b : Bool) (r : Result A E) (e : E) (y : A) → cond b r (Err e) ≡ Ok y → (b ≡ true) × (r ≡ Ok y)
-guard_ok true r e y h = (refl, h)
-guard_ok false r e y h = absurd cc
+guard_ok b r e y h1 = grind arith
 
 pub the_ok : {A E : Type 0} (x y : A) → ◌≡◌ {A = Result A E} (Ok x) (Ok y) → x ≡ y
 the_ok x y h = cc
@@ -26,10 +24,7 @@ pub chosen : {b : Bool} {A : Type 0} → b ≡ true → (x y z : A) → cond b x
 chosen {b} e x y z h = let P : Bool → Type 0 = λ v. cond v x y ≡ z in subst P e h
 
 pub choice : (b : Bool) {A : Type 0} (x y z : A) → cond b x y ≡ z → ((b ≡ true) × (x ≡ z)) ⊎ ((b ≡ false) × (y ≡ z))
-choice true x y z h = inl (refl, h)
-choice false x y z h = inr (refl, h)
+choice b x y z h1 = grind arith
 
 pub both_true : (a b : Bool) → a && b ≡ true → (a ≡ true) × (b ≡ true)
-both_true true true h = (refl, refl)
-both_true true false h = absurd cc
-both_true false b h = absurd cc
+both_true a b h1 = grind arith

@@ -43,8 +43,4 @@ has_other words number n h apart = by_word (cases_eq (n / 64) (number / 64))
     by_word (inr other) = ap is_one (ap (λ word. bit_at word (n % 64)) (get_or-set_other words (number / 64) (n / 64) _ 0 other))
 
 pub has_with : (words : List ℕ) (number n : ℕ) → number / 64 < length words → has_number (with_number words number) n ≡ (n == number || has_number words n)
-has_with words number n h = by_number (cases_eq n number)
-  where
-    by_number : (n ≡ number) ⊎ (n ≡ number → ⊥) → has_number (with_number words number) n ≡ (n == number || has_number words n)
-    by_number (inl same) = let t : n == number ≡ true = eq-eqb n number same in rw t (ap (has_number (with_number words number)) same ∙ has_same words number h)
-    by_number (inr other) = let t : n == number ≡ false = ne_eqb n number other in rw t (has_other words number n h other)
+has_with words number n h1 = grind (arith, cases_eq, has_number, inl, eq-eqb, has_same, inr, ne_eqb, has_other)

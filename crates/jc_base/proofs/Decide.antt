@@ -1,5 +1,5 @@
 -- What is kept gives what the components give.
-use Rattle.std.proofs.Common.{◌≡◌, ℕ, zero, suc, ◌+◌, ◌<◌, ◌≤◌, Bool, false, cond, ltb, lit<, List, [], get_or, Option, Some, refl, ap, ◌∙◌, arith}
+use Rattle.std.proofs.Common.{◌≡◌, ℕ, zero, suc, ◌+◌, ◌<◌, ◌≤◌, Bool, false, cond, ltb, List, [], get_or, Option, Some, refl, ap, ◌∙◌, arith}
 use Rattle.std.specs.List.{find, range_with_len}
 use Rattle.jc_base.specs.Cutting.{Piece, info_of, count_of, infos_by, answer, known}
 use Rattle.jc_base.specs.PrivateCutting.{Holds, info_in, twice_in}
@@ -20,8 +20,7 @@ same_repeats repeats ps are = find_range (λ tag. get_or repeats tag false) (λ 
 -- infos that are the same at the tags of components
 same_infos : (f g : ℕ → Option (List ℕ)) (r : Option ℕ) → ((tag : ℕ) → tag < 13 → f tag ≡ g tag) → infos_by f r ≡ infos_by g r
 unfolding infos_by
-same_infos f g r same =
-    rw (same 1 (lit< tt), same 3 (lit< tt), same 4 (lit< tt), same 5 (lit< tt), same 6 (lit< tt), same 7 (lit< tt), same 8 (lit< tt), same 10 (lit< tt), same 11 (lit< tt)) refl
+same_infos f g r same = grind arith
 
 pub holds_answer : (slots : Slots) (ps : List Piece) → Holds slots ps → infos_by (λ tag. info_in slots tag) (twice_in slots) ≡ answer ps []
 holds_answer slots ps h =

@@ -1,5 +1,5 @@
 -- Rows that all take so many bytes, found in one step.
-use Rattle.std.proofs.Common.{◌≡◌, ℕ, zero, suc, ◌+◌, ◌-◌, ◌*◌, ◌<◌, ◌≤◌, ltb, true, false, List, [], ◌∷◌, ◌++◌, length, take, drop, Some, None, Result, Ok, refl, sym, ap, ◌∙◌, arith}
+use Rattle.std.proofs.Common.{◌≡◌, ℕ, zero, suc, ◌+◌, ◌-◌, ◌*◌, ◌<◌, ◌≤◌, ltb, false, List, [], ◌∷◌, ◌++◌, length, take, drop, Some, None, Result, Ok, refl, sym, ap, ◌∙◌, arith}
 use Rattle.std.specs.List.{slice_get}
 use Rattle.std.proofs.lemmas.List.{take_at, drop_at}
 use Rattle.std.proofs.lemmas.Bool.{lt-ltb, le-ltb}
@@ -92,14 +92,7 @@ module _ {A E : Type 0} (next_row : List ℕ → Result (Read A) E) where
 
   -- they run past the last
   pub part_past : (first count n : ℕ) (rows rest : List ℕ) → rest_of (repeat next_row n rows) ≡ Ok rest → n < first + count → None ≡ part first count (rows_of (repeat next_row n rows))
-  part_past first count n rows rest e lt =
-      let a = all_of next_row (repeat next_row n rows) rest e in
-      let all : length a.0.value ≡ n = length-rows next_row n rows a.0 a.1 in
-      let test : ltb (length a.0.value) (first + count) ≡ true = lt-ltb _ _ (omega arith) in
-      past first count a.0.value test ∙ ap (λ (w : List A). part first count w) a.2
-    where
-      past : (first count : ℕ) (xs : List A) → ltb (length xs) (first + count) ≡ true → None ≡ part first count xs
-      past first count xs test = rw test refl
+  part_past first count n rows rest h1 h2 = grind (arith, all_of, repeat, length-rows, ltb, lt-ltb, part)
 
 pub times : (a b c d : ℕ) → a ≡ c → b ≡ d → a * b ≡ c * d
 times a b c d e f = rw (e, f) refl

@@ -6,14 +6,7 @@ use Rattle.jc_base.specs.Cutting.{Piece, bytes_of, IsWhole, IsPartial, Splits}
 
 -- less than a component has none in front
 no_piece : (p : Piece) (more rest : List ℕ) → IsWhole p → IsPartial rest → bytes_of p ++ more ≡ rest → ⊥
-no_piece p more [] whole partial e = absurd cc
-no_piece p more (a ∷ []) whole partial e = absurd cc
-no_piece p more (a ∷ b ∷ []) whole partial e = absurd cc
-no_piece p more (a ∷ b ∷ c ∷ rest) whole partial e =
-    let high : p.high ≡ b = cc in
-    let low : p.low ≡ c = cc in
-    let bytes : p.info ++ more ≡ rest = cc in
-    omega (arith, ap length bytes, length-append p.info more)
+no_piece p more rest h1 h2 h3 = grind (arith, length-append)
 
 record Same (p q : Piece) (more others : List ℕ) : Type 0 where
   pub pieces : p ≡ q

@@ -13,10 +13,7 @@ u2s-get : (place : ℕ) (bytes : List ℕ) → 2 * place + 1 < length bytes → 
 u2s-get place [] lt = absurd (omega arith)
 u2s-get place (a ∷ []) lt = absurd (omega arith)
 u2s-get zero (a ∷ b ∷ bytes) lt = refl
-u2s-get (suc place) (a ∷ b ∷ bytes) lt =
-    let e : 2 * suc place ≡ suc (suc (2 * place)) = omega arith in
-    let f : 2 * suc place + 1 ≡ suc (suc (2 * place + 1)) = omega arith in
-    rw (f, e) (u2s-get place bytes (omega arith))
+u2s-get (suc place) (a ∷ b ∷ bytes) lt = search (arith, u2s-get place bytes (omega arith))
 
 pub get_within : (place : ℕ) (bytes : List ℕ) (d : ℕ) → place < length bytes / 2
     → d ≡ 256 * get_or bytes (2 * place) 0 + get_or bytes (2 * place + 1) 0 → Some d ≡ slice_get (u2s bytes) place

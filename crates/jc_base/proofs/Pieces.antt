@@ -1,5 +1,5 @@
 -- One more component at the end of a list of them.
-use Rattle.std.proofs.Common.{◌≡◌, ℕ, ◌+◌, ◌<◌, Bool, true, false, cond, eqb, List, [], ◌∷◌, ◌++◌, Option, Some, None, refl, ◌∙◌, arith}
+use Rattle.std.proofs.Common.{◌≡◌, ℕ, ◌+◌, ◌<◌, Bool, false, cond, eqb, List, [], ◌∷◌, ◌++◌, Option, Some, None, refl, arith}
 use Rattle.std.proofs.lemmas.Bool.{eq-eqb}
 use Rattle.std.proofs.lemmas.Bool.Decides.{nat_tests}
 use Rattle.jc_base.specs.Cutting.{Piece, info_of, count_of}
@@ -11,11 +11,7 @@ or_else None o = o
 
 info_of-push : (tag : ℕ) (ps : List Piece) (p : Piece) → info_of tag (ps ++ p ∷ []) ≡ or_else (info_of tag ps) (cond (eqb p.tag tag) (Some p.info) None)
 info_of-push tag [] p = refl
-info_of-push tag (q ∷ ps) p = step (eqb q.tag tag) q.info (info_of tag ps) (info_of tag (ps ++ p ∷ [])) (cond (eqb p.tag tag) (Some p.info) None) (info_of-push tag ps p)
-  where
-    step : (b : Bool) (x : List ℕ) (o o' e : Option (List ℕ)) → o' ≡ or_else o e → cond b (Some x) o' ≡ or_else (cond b (Some x) o) e
-    step true x o o' e h = refl
-    step false x o o' e h = h
+info_of-push tag (q ∷ ps) p = search (arith, eqb, info_of, info_of-push tag ps p)
 
 count_of-push : (tag : ℕ) (ps : List Piece) (p : Piece) → count_of tag (ps ++ p ∷ []) ≡ count_of tag ps + cond (eqb p.tag tag) 1 0
 count_of-push tag [] p = omega arith
@@ -26,16 +22,14 @@ count_none tag [] e = refl
 count_none tag (q ∷ ps) e = step (eqb q.tag tag) (λ h. count_none tag ps h) e
   where
     step : (b : Bool) → (info_of tag ps ≡ None → count_of tag ps ≡ 0) → cond b (Some q.info) (info_of tag ps) ≡ None → cond b 1 0 + count_of tag ps ≡ 0
-    step true ih e = absurd cc
-    step false ih e = let h = ih e in omega arith
+    step b h1 h2 = grind arith
 
 count_some : (tag : ℕ) (ps : List Piece) (x : List ℕ) → info_of tag ps ≡ Some x → 0 < count_of tag ps
 count_some tag [] x e = absurd cc
 count_some tag (q ∷ ps) x e = step (eqb q.tag tag) (λ h. count_some tag ps x h) e
   where
     step : (b : Bool) → (info_of tag ps ≡ Some x → 0 < count_of tag ps) → cond b (Some q.info) (info_of tag ps) ≡ Some x → 0 < cond b 1 0 + count_of tag ps
-    step true ih e = omega arith
-    step false ih e = let h = ih e in omega arith
+    step b h1 h2 = grind arith
 
 eqb_apart : (a b : ℕ) → (a ≡ b → ⊥) → eqb a b ≡ false
 eqb_apart a b ne = grind (arith, nat_tests)
@@ -46,16 +40,7 @@ pub record Stays (tag : ℕ) (ps : List Piece) (p : Piece) : Type 0 where
   pub count : count_of tag (ps ++ p ∷ []) ≡ count_of tag ps
 
 pub stays : (tag : ℕ) (ps : List Piece) (p : Piece) → (p.tag ≡ tag → ⊥) → Stays tag ps p
-stays tag ps p ne =
-    let b = eqb_apart p.tag tag ne in
-    record {
-      info = info_of-push tag ps p ∙ rw b (keeps (info_of tag ps));
-      count = count_of-push tag ps p ∙ rw b (omega arith);
-    }
-  where
-    keeps : (o : Option (List ℕ)) → or_else o None ≡ o
-    keeps None = refl
-    keeps (Some x) = refl
+stays tag ps p h1 = grind (arith, eqb_apart, info_of-push, info_of, count_of-push)
 
 -- to its own tag, where it is the first
 pub record Comes (ps : List Piece) (p : Piece) : Type 0 where
@@ -64,14 +49,7 @@ pub record Comes (ps : List Piece) (p : Piece) : Type 0 where
   pub count : count_of p.tag (ps ++ p ∷ []) ≡ 1
 
 pub comes : (ps : List Piece) (p : Piece) → info_of p.tag ps ≡ None → Comes ps p
-comes ps p e =
-    let b : eqb p.tag p.tag ≡ true = eq-eqb p.tag p.tag refl in
-    let n = count_none p.tag ps e in
-    record {
-      info = info_of-push p.tag ps p ∙ rw (e, b) refl;
-      before = n;
-      count = count_of-push p.tag ps p ∙ rw (b, n) refl;
-    }
+comes ps p h1 = grind (arith, eqb, eq-eqb, count_none, info_of-push, count_of-push)
 
 -- to its own tag, where it isn't
 pub record Again (ps : List Piece) (p : Piece) (x : List ℕ) : Type 0 where
@@ -79,11 +57,4 @@ pub record Again (ps : List Piece) (p : Piece) (x : List ℕ) : Type 0 where
   pub count : 1 < count_of p.tag (ps ++ p ∷ [])
 
 pub again : (ps : List Piece) (p : Piece) (x : List ℕ) → info_of p.tag ps ≡ Some x → Again ps p x
-again ps p x e =
-    let b : eqb p.tag p.tag ≡ true = eq-eqb p.tag p.tag refl in
-    let n = count_some p.tag ps x e in
-    let k : count_of p.tag (ps ++ p ∷ []) ≡ count_of p.tag ps + 1 = count_of-push p.tag ps p ∙ rw b refl in
-    record {
-      info = info_of-push p.tag ps p ∙ rw e refl;
-      count = omega arith;
-    }
+again ps p x h1 = grind (arith, eqb, eq-eqb, count_some, count_of, count_of-push, info_of-push)

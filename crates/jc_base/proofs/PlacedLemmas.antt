@@ -10,8 +10,7 @@ use Rattle.jc_base.proofs.Binding.{the_ok, the_some, bind_ok}
 use Rattle.jc_base.specs.PrivatePlacedRows.{listed, done}
 
 pub done_ok : {A E : Type 0} (r : Result (List A) E) → Ok tt ≡ done r → Ok (listed r) ≡ r
-done_ok (Ok rows) h = refl
-done_ok (Err e) h = absurd cc
+done_ok r h1 = grind arith
 
 module _ {A E : Type 0} (next_row : List ℕ → Result (Read A) E) (some : Shrinks next_row) where
   -- a row in front of others
@@ -27,34 +26,21 @@ module _ {A E : Type 0} (next_row : List ℕ → Result (Read A) E) (some : Shri
     where
       behind : (f g : List ℕ → Result (List (Placed A)) E) (r : Result (Read A) E) → ((x : Read A) → r ≡ Ok x → f x.rest ≡ g x.rest)
           → (r >>= λ first. in_front (total - length (b ∷ bytes)) first (f first.rest)) ≡ (r >>= λ first. in_front (total - length (b ∷ bytes)) first (g first.rest))
-      behind f g (Err e) same = refl
-      behind f g (Ok x) same = ap (in_front (total - length (b ∷ bytes)) x) (same x refl)
+      behind f g r h1 = grind arith
 
   -- one row on
   pub one_on : (total : ℕ) (bytes : List ℕ) (x : Read A) → length bytes ≤ total → next_row bytes ≡ Ok x → placed_in next_row total total bytes ≡ in_front (total - length bytes) x (placed_in next_row total total x.rest)
-  one_on total bytes x le e = steps total bytes le e (some bytes x e)
-    where
-      steps : (s : ℕ) (bytes : List ℕ) → length bytes ≤ s → next_row bytes ≡ Ok x → length x.rest < length bytes → placed_in next_row total s bytes ≡ in_front (total - length bytes) x (placed_in next_row total s x.rest)
-      steps s [] le e less = absurd (omega arith)
-      steps zero (b ∷ bytes) le e less = absurd (omega arith)
-      steps (suc s) (b ∷ bytes) le e less = rw e (ap (in_front (total - length (b ∷ bytes)) x) (enough total s (suc s) x.rest (omega arith) (omega arith)))
+  one_on total bytes x h1 h2 = grind (arith, placed_in, enough)
 
   -- no row there
   pub none_on : (total : ℕ) (bytes : List ℕ) (fault : E) → 0 < length bytes → length bytes ≤ total → next_row bytes ≡ Err fault → placed_in next_row total total bytes ≡ Err fault
-  none_on total bytes fault more le e = steps total bytes more le e
-    where
-      steps : (s : ℕ) (bytes : List ℕ) → 0 < length bytes → length bytes ≤ s → next_row bytes ≡ Err fault → placed_in next_row total s bytes ≡ Err fault
-      steps s [] more le e = absurd (omega arith)
-      steps zero (b ∷ bytes) more le e = absurd (omega arith)
-      steps (suc s) (b ∷ bytes) more le e = rw e refl
+  none_on total bytes fault h1 h2 h3 = grind (arith, placed_in)
 
   pub no_more : (total s : ℕ) (bytes : List ℕ) → length bytes ≡ 0 → placed_in next_row total s bytes ≡ Ok []
-  no_more total s [] e = refl
-  no_more total s (b ∷ bytes) e = absurd (omega arith)
+  no_more total s bytes h1 = grind arith
 
   done_front : (offset : ℕ) (x : Read A) (r : Result (List (Placed A)) E) → done (in_front offset x r) ≡ done r
-  done_front offset x (Ok rows) = refl
-  done_front offset x (Err e) = refl
+  done_front offset x r = grind arith
 
   -- what is left of rows that are all there
   pub record IsLeft (total : ℕ) (bytes : List ℕ) : Type 0 where
@@ -98,14 +84,10 @@ module _ {A E : Type 0} (next_row : List ℕ → Result (Read A) E) (some : Shri
       record { within = omega arith; all = there; rows = ap (λ w. listed w) on ∙ front (placed_in next_row total total x.rest) there }
     where
       front : (r : Result (List (Placed A)) E) → done r ≡ Ok tt → listed (in_front (total - length bytes) x r) ≡ record { offset = total - length bytes; row = x.value } ∷ listed r
-      front (Ok rows) there = refl
-      front (Err fault) there = absurd cc
+      front r h1 = grind arith
 
   pub is_there : (total : ℕ) (bytes : List ℕ) (fault : E) → 0 < length bytes → length bytes ≤ total → done (placed_in next_row total total bytes) ≡ Ok tt → next_row bytes ≡ Err fault → ⊥
-  is_there total bytes fault more le all e = wrong (ap (λ w. done w) (sym (none_on total bytes fault more le e)) ∙ all)
-    where
-      wrong : ◌≡◌ {A = Result (Unit {0}) E} (Err fault) (Ok (tt {0})) → ⊥
-      wrong h = cc
+  is_there total bytes fault h1 h2 h3 h4 = grind (arith, done, none_on)
 
   -- a look-up: the row isn't among those before
   pub record Seeks (total offset : ℕ) (rows : List (Placed A)) (bytes : List ℕ) : Type 0 where
@@ -159,9 +141,7 @@ module _ {A E : Type 0} (next_row : List ℕ → Result (Read A) E) (some : Shri
 
   pub read_placed : (first : ℕ) (bytes : List ℕ) (rows : List (Placed A)) → (placed_rows next_row first bytes ≡ Ok rows) ↔ ArePlaced next_row (length bytes) (drop first bytes) rows
   unfolding placed_rows
-  read_placed first bytes rows =
-      let le : length (drop first bytes) ≤ length bytes = omega (arith, length-drop first bytes) in
-      (placed (length bytes) (length bytes) (drop first bytes) rows le le, read_again (length bytes) (length bytes) (drop first bytes) rows le)
+  read_placed first bytes rows = grind (arith, drop, length-drop, placed, read_again)
 
   -- where a row is known to begin, it is read
   pub record IsKnown (total : ℕ) (bytes : List ℕ) (offset : ℕ) (row : A) : Type 0 where
@@ -204,5 +184,4 @@ module _ {A E : Type 0} (next_row : List ℕ → Result (Read A) E) (some : Shri
       (placed total total bytes (listed (placed_in next_row total total bytes)) le le (sym (done_ok (placed_in next_row total total bytes) (sym all)))) (ap (row_at offset) is ∙ at)
 
 pub done_err : {A E : Type 0} (r : Result (List A) E) (fault : E) → Err fault ≡ done r → Err fault ≡ r
-done_err (Ok rows) fault h = absurd cc
-done_err (Err e) fault h = cc
+done_err r fault h1 = grind arith

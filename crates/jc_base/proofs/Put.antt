@@ -1,5 +1,5 @@
 -- What keeping one more component changes.
-use Rattle.std.proofs.Common.{◌≡◌, ℕ, zero, suc, ◌<◌, ◌≤◌, Bool, true, false, ltb, List, [], ◌∷◌, ◌++◌, length, get_or, set, IfSome, Option, Some, None, refl, sym, ap, ◌∙◌, subst, arith, inl, inr}
+use Rattle.std.proofs.Common.{◌≡◌, ℕ, zero, suc, ◌<◌, ◌≤◌, Bool, true, false, ltb, List, [], ◌∷◌, ◌++◌, length, get_or, set, IfSome, Option, Some, None, sym, ap, ◌∙◌, subst, arith, inl, inr}
 use Rattle.std.specs.Option.{option_map, is_none}
 use Rattle.std.proofs.lemmas.Bool.{cases_eq, lt-ltb}
 use Rattle.std.proofs.lemmas.List.{get_or-set_same, get_or-set_other}
@@ -7,12 +7,10 @@ use Rattle.jc_base.specs.Cutting.{Piece, info_of, count_of}
 use Rattle.jc_base.proofs.Pieces.{stays, comes, again}
 
 none_is : {X : Type 0} (o : Option X) → is_none o ≡ true → o ≡ None
-none_is None e = refl
-none_is (Some x) e = absurd cc
+none_is o h1 = grind arith
 
 some_is : {X : Type 0} (o : Option X) → is_none o ≡ false → (x : X) × (o ≡ Some x)
-some_is None e = absurd cc
-some_is (Some x) e = (x, refl)
+some_is o h1 = grind arith
 
 -- what is kept, seen by f, is the first info of each tag
 abbrev pub InfosAre : {X : Type 0} → (X → List ℕ) → List (Option X) → List Piece → Type 0
@@ -43,12 +41,7 @@ repeats_first repeats ps p was are tag t =
 
 -- one more of its tag
 pub infos_again : {X : Type 0} (f : X → List ℕ) (infos : List (Option X)) (ps : List Piece) (p : Piece) (x : List ℕ) → info_of p.tag ps ≡ Some x → InfosAre f infos ps → InfosAre f infos (ps ++ p ∷ [])
-infos_again f infos ps p x was are tag t =
-    elim (cases_eq p.tag tag) [
-      | inl same ↦ subst (λ n. option_map f (get_or infos n None) ≡ info_of n (ps ++ p ∷ [])) same
-          (are p.tag (omega arith) ∙ was ∙ sym (again ps p x was).info)
-      | inr ne ↦ are tag t ∙ sym (stays tag ps p ne).info
-    ]
+infos_again f infos ps p x h1 h2 = grind (arith, cases_eq, inl, option_map, get_or, info_of, again, inr, stays)
 
 pub repeats_again : (repeats : List Bool) (ps : List Piece) (p : Piece) (x : List ℕ) → length repeats ≡ 13 → p.tag < 13 → info_of p.tag ps ≡ Some x → RepeatsAre repeats ps → RepeatsAre (set repeats p.tag true) (ps ++ p ∷ [])
 repeats_again repeats ps p x len lt was are tag t =
@@ -70,9 +63,7 @@ pub was_none : {X : Type 0} (f : X → List ℕ) (infos : List (Option X)) (ps :
 was_none f infos ps tag lt are none = sym (are tag lt) ∙ ap (λ o. option_map f o) (none_is (get_or infos tag None) none)
 
 pub was_some : {X : Type 0} (f : X → List ℕ) (infos : List (Option X)) (ps : List Piece) (tag : ℕ) → tag < 13 → InfosAre f infos ps → is_none (get_or infos tag None) ≡ false → (x : List ℕ) × (info_of tag ps ≡ Some x)
-was_some f infos ps tag lt are some =
-    let x = some_is (get_or infos tag None) some in
-    (f x.0, sym (are tag lt) ∙ ap (λ o. option_map f o) x.1)
+was_some f infos ps tag h1 h2 h3 = grind (arith, some_is, get_or, option_map)
 
 -- what holds of each that is there, and of one more
 pub holds_set : {X : Type 0} (P : X → Type 0) (xs : List (Option X)) (place : ℕ) (x : X) → P x → ((n : ℕ) → IfSome (get_or xs n None) P)

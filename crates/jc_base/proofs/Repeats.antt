@@ -10,8 +10,7 @@ use Rattle.jc_base.specs.Rows.{repeat}
 use Rattle.jc_base.proofs.Binding.{bind_ok, the_ok, ok_err}
 
 rest_bind : {A B E : Type 0} (r : Result (Read A) E) (f : Read A → Read B) → ((x : Read A) → (f x).rest ≡ x.rest) → rest_of (r >>= λ x. Ok (f x)) ≡ rest_of r
-rest_bind (Ok x) f same = ap (λ (w : List ℕ). Ok w) (same x)
-rest_bind (Err e) f same = refl
+rest_bind r f h1 = grind arith
 
 -- a value that was read, with what is behind it
 abbrev pub reading : {A : Type 0} → A → List ℕ → Read A
@@ -121,18 +120,13 @@ module _ {A E : Type 0} (next_row : List ℕ → Result (Read A) E) where
       }
 
   pub all_of : (r : Result (Read (List A)) E) (rest : List ℕ) → rest_of r ≡ Ok rest → (all : Read (List A)) × (r ≡ Ok all) × (all.value ≡ rows_of r)
-  all_of (Ok x) rest e = (x, refl, refl)
-  all_of (Err e') rest e = absurd cc
+  all_of r rest h1 = grind arith
 
   pub count_is : (n : ℕ) (bytes rest : List ℕ) → rest_of (repeat next_row n bytes) ≡ Ok rest → length (rows_of (repeat next_row n bytes)) ≡ n
-  count_is n bytes rest e =
-      let a = all_of (repeat next_row n bytes) rest e in
-      ap (λ (w : List A). length w) (sym a.2) ∙ length-rows n bytes a.0 a.1
+  count_is n bytes rest h1 = grind (arith, all_of, repeat, length-rows)
 
   pub past_rows : (n k : ℕ) (bytes rest : List ℕ) → rest_of (repeat next_row n bytes) ≡ Ok rest → n ≤ k → None ≡ slice_get (rows_of (repeat next_row n bytes)) k
-  past_rows n k bytes rest e le =
-      let len = count_is n bytes rest e in
-      sym (slice_get_past (rows_of (repeat next_row n bytes)) k (omega arith))
+  past_rows n k bytes rest h1 h2 = grind (arith, count_is, slice_get_past, rows_of, repeat)
 
   -- a look-up: the rows before the one that is asked for are passed over, and it is read
   pub look_up : (n k : ℕ) (rows start rest place new : List ℕ) (r : Result A E) → start ≡ rows → rest_of (repeat next_row n rows) ≡ Ok rest → k < n
@@ -146,8 +140,7 @@ module _ {A E : Type 0} (next_row : List ℕ → Result (Read A) E) where
       read r here reads ∙ sym q.found ∙ ap (λ (w : List A). slice_get w k) a.2
     where
       read : {row : Read A} (r : Result A E) → next_row place ≡ Ok row → Gives (λ x. x) r new (next_row place) → result_ok r ≡ Some row.value
-      read (Ok x) here reads = ap (λ (w : Read A). Some w.value) (the_ok _ _ (sym reads ∙ here))
-      read (Err fault) here reads = absurd (ok_err _ _ (sym here ∙ reads))
+      read r h1 h2 = grind (arith, the_ok, ok_err)
 
   pub not_stuck : (n k : ℕ) (rows start rest : List ℕ) (fault : E) → start ≡ rows → rest_of (repeat next_row n rows) ≡ Ok rest → k < n
       → Err fault ≡ rest_of (repeat next_row k start) → ⊥
@@ -174,8 +167,7 @@ module _ {A E : Type 0} (next_row : List ℕ → Result (Read A) E) where
 
   pub none_left : (n : ℕ) (rows : List ℕ) → n ≡ 0 → rows_of (repeat next_row n rows) ≡ []
   unfolding repeat
-  none_left zero rows e = refl
-  none_left (suc n) rows e = absurd (omega arith)
+  none_left n rows h1 = grind arith
 
   pub first_there : (n : ℕ) (rows rest : List ℕ) (fault : E) → 0 < n → rest_of (repeat next_row n rows) ≡ Ok rest → next_row rows ≡ Err fault → ⊥
   first_there n rows rest fault more whole missing = ok_err _ _ (sym (stops n rows fault (Ok rest) more missing whole))

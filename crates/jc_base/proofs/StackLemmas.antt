@@ -1,5 +1,5 @@
 -- Operands that change places in a slice, the bottom one first, and in a list, the top one first.
-use Rattle.std.proofs.Common.{◌≡◌, ℕ, ◌+◌, ◌-◌, ◌<◌, ◌≤◌, List, [], ◌++◌, length, take, drop, reverse, refl, sym, ap, ◌∙◌, arith, append_assoc, length-append, length-drop}
+use Rattle.std.proofs.Common.{◌≡◌, ℕ, ◌+◌, ◌-◌, ◌<◌, ◌≤◌, List, ◌++◌, length, take, drop, reverse, refl, sym, ap, ◌∙◌, arith, append_assoc, length-append, length-drop}
 use Rattle.std.proofs.lemmas.List.{take_at, drop_at, take-append-drop, length-take-le, reverse-append, length-reverse, drop-drop}
 use Rattle.std.proofs.Math.Seq.{take-append-add, take-length}
 use Rattle.std.proofs.lemmas.Grind.{common_steps}
@@ -31,9 +31,7 @@ core {X} A L U R =
 
 -- what the turned window is
 turned_parts : {X : Type 0} (L U : List X) → turned (length U) (L ++ U) ≡ U ++ L
-turned_parts {X} L U =
-    let n : length (L ++ U) - length U ≡ length L = omega (arith, length-append L U) in
-    rw (n, drop_at L U (length L) refl, take_at L U (length L) refl) refl
+turned_parts L U = grind (arith, length-append, drop_at, take_at)
 
 by_turns : {X : Type 0} (A T B : List X) (w : List X) (i : ℕ) → w ≡ A ++ (T ++ B) → length T ≡ 1 → length B ≡ i → turned 1 (turned i w) ≡ turned (i + 1) w
 by_turns {X} A T B w i e one more =
@@ -52,10 +50,7 @@ turned_more {X} w i lt =
     by_turns (take k w) (take 1 C) (drop 1 C) w i (sym (take-append-drop k w) ∙ ap (λ (z : List X). take k w ++ z) (sym (take-append-drop 1 C))) (length-take-le 1 C (omega arith)) (omega (arith, length-drop 1 C))
 
 pub turned_none : {X : Type 0} (w : List X) → w ≡ turned 0 w
-turned_none {X} w =
-    let none : drop (length w - 0) w ≡ [] = grind (arith, common_steps) in
-    let all : take (length w - 0) w ≡ w = grind (arith, common_steps) in
-    rw (none, all) refl
+turned_none w = grind (arith, drop, common_steps, take)
 
 by_parts : {X : Type 0} (A L U R xs ys : List X) (a k d u l : ℕ) → a ≡ length A → k ≡ length L + length U → d ≡ length A + (length L + length U) → u ≡ length U → l ≡ length L → xs ≡ A ++ ((L ++ U) ++ R)
     → ys ≡ turned u (mid_of a k xs) → reverse (take d (put_mid a k xs ys)) ≡ swapped u l (reverse (take d xs))
@@ -114,12 +109,7 @@ last_turned {X} xs count le =
 
 -- operands repeated on top, and then moved below
 moved_below : {X : Type 0} (Y : List X) (count below : ℕ) → count ≤ length Y → swapped count below (take count Y ++ Y) ≡ duplicated count below Y
-moved_below {X} Y count below le =
-    let len : length (take count Y) ≡ count = length-take-le count Y le in
-    let behind : drop count (take count Y ++ Y) ≡ Y = drop_at (take count Y) Y count len in
-    let front : take count (take count Y ++ Y) ≡ take count Y = take_at (take count Y) Y count len in
-    let bottom : drop (count + below) (take count Y ++ Y) ≡ drop below Y = sym (drop-drop below count (take count Y ++ Y)) ∙ ap (λ (w : List X). drop below w) behind in
-    rw (behind, front, bottom) refl
+moved_below Y count below h1 = grind (arith, take, length-take-le, drop, drop_at, take_at, drop-drop)
 
 pub duplicate_is : {X : Type 0} (old repeated moved : List X) (depth count below : ℕ) → count ≤ depth → depth + count ≤ length old
     → take (depth + count) repeated ≡ take depth old ++ drop (depth - count) (take depth old) → reverse (take (depth + count) moved) ≡ swapped count below (reverse (take (depth + count) repeated))

@@ -24,13 +24,8 @@ below_of {X} xs count le =
 
 -- with fewer of the slots in use, the top operands are gone
 pub dropped : {X : Type 0} (slots : List X) (depth count : ℕ) → count ≤ depth → depth ≤ length slots → reverse (take (depth - count) slots) ≡ drop count (reverse (take depth slots))
-dropped {X} slots depth count le within =
-    let n : length (take depth slots) ≡ depth = length-take-le depth slots within in
-    let e : take (length (take depth slots) - count) (take depth slots) ≡ take (depth - count) slots = ap (λ (k : ℕ). take (k - count) (take depth slots)) n ∙ take-take (depth - count) depth slots (omega arith) in
-    sym (below_of (take depth slots) count (omega (arith, n)) ∙ ap (λ (l : List X). reverse l) e)
+dropped slots depth count h1 h2 = grind (arith, take, length-take-le, take-take, below_of, reverse)
 
 -- the slots in use from a place on hold the top operands
 pub topmost : {X : Type 0} (slots : List X) (depth count : ℕ) → count ≤ depth → depth ≤ length slots → reverse (take count (reverse (take depth slots))) ≡ drop (depth - count) (take depth slots)
-topmost {X} slots depth count le within =
-    let n : length (take depth slots) ≡ depth = length-take-le depth slots within in
-    ap (λ (l : List X). reverse l) (top_of (take depth slots) count (omega (arith, n))) ∙ reverse-reverse (drop (length (take depth slots) - count) (take depth slots)) ∙ ap (λ (k : ℕ). drop (k - count) (take depth slots)) n
+topmost slots depth count h1 h2 = grind (arith, take, length-take-le, reverse, top_of, reverse-reverse, drop)

@@ -5,7 +5,7 @@ use Rattle.std.proofs.lemmas.Bool.{ltb-true, ltb-false}
 use Rattle.std.proofs.lemmas.List.{take-append-drop, length-take, length-drop, append-nil}
 use Rattle.std.proofs.lemmas.List.Concat.{flat_map-append}
 use Rattle.jc_base.specs.declared.fault.LoadFault.{LoadFault}
-use Rattle.jc_base.specs.declared.fault.LoadFault.TheVariants.{ShortComponent, ExtraBytes}
+use Rattle.jc_base.specs.declared.fault.LoadFault.TheVariants.{ShortComponent}
 use Rattle.jc_base.specs.Cutting.{Piece, bytes_of, IsWhole, IsPartial, answer}
 use Rattle.jc_base.specs.PrivateCutting.{next_of, Ended, Found, Refused}
 
@@ -40,24 +40,10 @@ found (t ∷ h ∷ l ∷ bytes) tag info rest e = step (ltb (length bytes) (256 
         (record { tag = t; high = h; low = l; info = take (256 * h + l) bytes }, rw (← tags, ← infos, ← rests) begins)
 
 pub ended : (bytes : List ℕ) → next_of bytes ≡ Ended → bytes ≡ []
-ended [] e = refl
-ended (t ∷ []) e = absurd cc
-ended (t ∷ h ∷ []) e = absurd cc
-ended (t ∷ h ∷ l ∷ bytes) e = step (ltb (length bytes) (256 * h + l)) e
-  where
-    step : (b : Bool) → cond b (Refused ShortComponent) (Found t (take (256 * h + l) bytes) (drop (256 * h + l) bytes)) ≡ Ended → (t ∷ h ∷ l ∷ bytes) ≡ []
-    step true e = absurd cc
-    step false e = absurd cc
+ended bytes h1 = grind (arith, ltb, take, drop)
 
 pub refused : (ps : List Piece) (bytes : List ℕ) (fault : LoadFault) → next_of bytes ≡ Refused fault → IsPartial bytes × (answer ps bytes ≡ Err fault)
-refused ps [] fault e = absurd cc
-refused ps (t ∷ []) fault e = (tt, let same : ExtraBytes ≡ fault = cc in ap (λ f. Err f) same)
-refused ps (t ∷ h ∷ []) fault e = (tt, let same : ExtraBytes ≡ fault = cc in ap (λ f. Err f) same)
-refused ps (t ∷ h ∷ l ∷ bytes) fault e = step (ltb (length bytes) (256 * h + l)) refl e
-  where
-    step : (b : Bool) → ltb (length bytes) (256 * h + l) ≡ b → cond b (Refused ShortComponent) (Found t (take (256 * h + l) bytes) (drop (256 * h + l) bytes)) ≡ Refused fault → (length bytes < 256 * h + l) × (answer ps (t ∷ h ∷ l ∷ bytes) ≡ Err fault)
-    step true test e = (ltb-true _ _ test, let same : ShortComponent ≡ fault = cc in ap (λ f. Err f) same)
-    step false test e = absurd cc
+refused ps bytes fault h1 = grind (arith, ltb, take, drop, answer, ltb-true)
 
 -- the image as far as it was cut
 pub record IsSoFar (image : List ℕ) (pieces : List Piece) (rest : List ℕ) : Type 0 where

@@ -11,9 +11,4 @@ read_whole fault (Ok x) y e = (x, refl, the_ok x.value y (guard_ok (length x.res
 read_whole fault (Err f) y e = absurd (ok_err y f (sym e))
 
 pub few_whole : {A E : Type 0} (next_row : List ℕ → Result (Read A) E) (n : ℕ) (bytes : List ℕ) (fault : E) (result : Result (List A) E) → n ≤ 255 → result ≡ whole fault (repeat next_row n bytes) → IfOk result (λ rows. length rows ≤ 255)
-few_whole next_row n bytes fault (Err f) few e = tt
-few_whole next_row n bytes fault (Ok rows) few e =
-    let found = read_whole fault (repeat next_row n bytes) rows (sym e) in
-    let h = length-rows next_row n bytes found.0 found.1 in
-    let same = ap length found.2 in
-    omega arith
+few_whole next_row n bytes fault result h1 h2 = grind (arith, read_whole, length-rows)

@@ -14,17 +14,13 @@ pub nibble-high : (at : ℕ) (bytes : List ℕ) → at < 2 * length bytes → at
 nibble-high at [] lt even = absurd (omega arith)
 nibble-high zero (b ∷ bytes) lt even = refl
 nibble-high (suc zero) (b ∷ bytes) lt even = absurd (omega arith)
-nibble-high (suc (suc at)) (b ∷ bytes) lt even =
-    let h : suc (suc at) / 2 ≡ suc (at / 2) = omega arith in
-    rw h (nibble-high at bytes (omega arith) (omega arith))
+nibble-high (suc (suc at)) (b ∷ bytes) lt even = search (arith, nibble-high at bytes (omega arith) (omega arith))
 
 pub nibble-low : (at : ℕ) (bytes : List ℕ) → at < 2 * length bytes → (at % 2 ≡ 0 → ⊥) → get_or (nibbles_of bytes) at 0 ≡ get_or bytes (at / 2) 0 % 16
 nibble-low at [] lt odd = absurd (omega arith)
 nibble-low zero (b ∷ bytes) lt odd = absurd (odd (omega arith))
 nibble-low (suc zero) (b ∷ bytes) lt odd = refl
-nibble-low (suc (suc at)) (b ∷ bytes) lt odd =
-    let h : suc (suc at) / 2 ≡ suc (at / 2) = omega arith in
-    rw h (nibble-low at bytes (omega arith) (λ e. odd (omega arith)))
+nibble-low (suc (suc at)) (b ∷ bytes) lt odd = grind (arith, nibble-low at bytes (omega arith) (λ e. odd (omega arith)))
 
 -- one nibble on
 pub nibble-front : (at end nibble : ℕ) (bytes : List ℕ) → at < end → end ≤ 2 * length bytes → nibble ≡ get_or (nibbles_of bytes) at 0
@@ -39,9 +35,7 @@ nibble-front at end nibble bytes lt le is =
 
 -- how many are left
 pub length-left : (at end : ℕ) (bytes : List ℕ) → end ≤ 2 * length bytes → length (drop at (take end (nibbles_of bytes))) ≡ end - at
-length-left at end bytes le =
-    let len : length (take end (nibbles_of bytes)) ≡ end = length-take-le end (nibbles_of bytes) (omega (arith, length-nibbles bytes)) in
-    length-drop at (take end (nibbles_of bytes)) ∙ ap (λ (k : ℕ). k - at) len
+length-left at end bytes le = grind (arith, length-take-le, length-nibbles, length-drop)
 
 -- at the end no nibble is left, and only there
 pub none-left : (at end : ℕ) (bytes : List ℕ) → at ≤ end → end ≤ 2 * length bytes

@@ -8,13 +8,11 @@ use Rattle.jc_cap.specs.declared.method_header.MethodHeader.{MethodHeader}
 
 short_within : (front : ℕ) (bytes : List ℕ) (x : Read MethodHeader) → next_short_header front bytes ≡ Ok x → length x.rest ≤ length bytes
 unfolding next_short_header
-short_within front [] x e = absurd cc
-short_within front (a ∷ bytes) x e = let h : length bytes ≡ length x.rest = ap (λ (r : Read MethodHeader). length r.rest) (the_ok _ x e) in omega arith
+short_within front bytes x h1 = grind (arith, the_ok)
 
 extended_within : (front : ℕ) (bytes : List ℕ) (x : Read MethodHeader) → next_extended_header front bytes ≡ Ok x → length x.rest ≤ length bytes
 unfolding next_extended_header
-extended_within front (a ∷ b ∷ c ∷ bytes) x e = let h : length bytes ≡ length x.rest = ap (λ (r : Read MethodHeader). length r.rest) (the_ok _ x e) in omega arith
-extended_within front _ x e = absurd cc
+extended_within front bytes x h1 = grind (arith, the_ok)
 
 pub header_within : (bytes : List ℕ) (x : Read MethodHeader) → next_header bytes ≡ Ok x → length x.rest ≤ length bytes
 unfolding next_header
@@ -22,5 +20,4 @@ header_within [] x e = absurd cc
 header_within (front ∷ bytes) x e = either (has_flag (front / 16) extended_flag) e
   where
     either : (b : Bool) → cond b (next_extended_header front bytes) (next_short_header front bytes) ≡ Ok x → length x.rest ≤ length (front ∷ bytes)
-    either true h = let k = extended_within front bytes x h in omega arith
-    either false h = let k = short_within front bytes x h in omega arith
+    either b h1 = grind (arith, extended_within, short_within)

@@ -29,8 +29,7 @@ abbrev Keeps : {A : Type 0} → (List ℕ → Result (Read A) LoadFault) → Typ
 Keeps {A = A} f = (nibbles : List ℕ) (x : Read A) → f nibbles ≡ Ok x → length x.rest ≤ length nibbles
 
 keeps_if : {A : Type 0} (b : Bool) (f g : List ℕ → Result (Read A) LoadFault) → Keeps f → Keeps g → Keeps (λ nibbles. cond b (f nibbles) (g nibbles))
-keeps_if true f g k l = k
-keeps_if false f g k l = l
+keeps_if b f g h1 h2 = grind arith
 
 keeps_none : {A : Type 0} (fault : LoadFault) → Keeps {A = A} (λ nibbles. Err fault)
 keeps_none fault nibbles x e = absurd cc
@@ -40,33 +39,19 @@ keeps_no_more type nibbles x e = let h : length nibbles ≡ length x.rest = ap (
 
 keeps_class : Keeps next_class
 unfolding next_class
-keeps_class (a ∷ b ∷ c ∷ d ∷ nibbles) x e = let h : length nibbles ≡ length x.rest = ap (λ (r : Read ClassRef). length r.rest) (the_ok _ x e) in omega arith
-keeps_class _ x e = absurd cc
+keeps_class = grind (arith, the_ok)
 
 keeps_of_class : (type : ClassRef → DeclaredType ClassRef) → Keeps (of_class type)
-keeps_of_class type nibbles x e =
-    let a = bind_ok (next_class nibbles) _ x e in
-    let h : length a.0.rest ≡ length x.rest = ap (λ (r : Read (DeclaredType ClassRef)). length r.rest) (the_ok _ x a.2) in
-    let k = keeps_class nibbles a.0 a.1 in
-    omega arith
+keeps_of_class type nibbles x e = grind (arith, bind_ok, the_ok, keeps_class)
 
 keeps_type : (code : ℕ) → Keeps (next_coded_type code)
 unfolding next_coded_type
-keeps_type code =
-    keeps_if (code == 2) _ _ (keeps_no_more _)
-    (keeps_if (code == 3) _ _ (keeps_no_more _)
-    (keeps_if (code == 4) _ _ (keeps_no_more _)
-    (keeps_if (code == 6) _ _ (keeps_of_class _)
-    (keeps_if (code == 0xA) _ _ (keeps_no_more _)
-    (keeps_if (code == 0xB) _ _ (keeps_no_more _)
-    (keeps_if (code == 0xC) _ _ (keeps_no_more _)
-    (keeps_if (code == 0xE) _ _ (keeps_of_class _) (keeps_none _))))))))
+keeps_type code = grind (arith, keeps_if, keeps_no_more, keeps_of_class, keeps_none)
 
 -- a type takes a nibble at least
 pub type-less : (nibbles : List ℕ) (x : Read (DeclaredType ClassRef)) → next_type nibbles ≡ Ok x → length x.rest < length nibbles
 unfolding next_type
-type-less [] x e = absurd cc
-type-less (code ∷ nibbles) x e = let h = keeps_type code nibbles x e in omega arith
+type-less nibbles x h1 = grind (arith, keeps_type)
 
 void_value : (type : DeclaredType ClassRef) → Void ≡ Value type → ⊥
 void_value type h = cc
@@ -81,13 +66,7 @@ result-type [] type rest e = absurd cc
 result-type (code ∷ nibbles) type rest e = part (code == 1) e
   where
     part : (b : Bool) → cond b (Ok (reading Void nibbles)) (next_coded_type code nibbles >>= λ found. Ok (reading (Value found.value) found.rest)) ≡ Ok (reading (Value type) rest) → next_coded_type code nibbles ≡ Ok (reading type rest)
-    part true h = absurd (void_value type (ap (λ (r : Read (ReturnType ClassRef)). r.value) (the_ok _ _ h)))
-    part false h =
-        let a = bind_ok (next_coded_type code nibbles) _ _ h in
-        let p = the_ok (reading (Value a.0.value) a.0.rest) (reading (Value type) rest) a.2 in
-        let v : a.0.value ≡ type = the_value _ _ (ap (λ (r : Read (ReturnType ClassRef)). r.value) p) in
-        let w : a.0.rest ≡ rest = ap (λ (r : Read (ReturnType ClassRef)). r.rest) p in
-        a.1 ∙ ap (λ (t : DeclaredType ClassRef). Ok (reading t a.0.rest)) v ∙ ap (λ (bytes : List ℕ). Ok (reading type bytes)) w
+    part b h1 = grind (arith, void_value, the_ok, bind_ok, reading, the_value)
 
 none_left : next_return [] ≡ Err (Malformed 11)
 unfolding next_return
@@ -113,8 +92,7 @@ step_none (suc steps) left fault le e = rw e refl
 
 pub step_last : (steps : ℕ) (left rest : List ℕ) (r : ReturnType ClassRef) → length left ≤ steps → next_return left ≡ Ok (reading r rest) → length rest ≡ 0
     → signature_in steps left ≡ Ok (record { parameters = []; result = r })
-step_last zero left rest r le e end = let some = some_left left _ e in absurd (omega arith)
-step_last (suc steps) left rest r le e end = let t : eqb (length rest) 0 ≡ true = eq-eqb _ _ end in rw (e, t) refl
+step_last steps left rest r h1 h2 h3 = grind (arith, some_left, eq-eqb)
 
 pub step_on : (steps : ℕ) (left rest : List ℕ) (r : ReturnType ClassRef) → length left ≤ steps → next_return left ≡ Ok (reading r rest) → (length rest ≡ 0 → ⊥)
     → (fewer : ℕ) × (steps ≡ suc fewer) × (signature_in steps left ≡ with_parameter r (signature_in fewer rest))
@@ -136,8 +114,7 @@ so_far_first nibbles left is =
     rw is (record { front = []; taken = nothing_read next_type nibbles; steps = length nibbles; enough = le_refl (length nibbles); same = part (signature_in (length nibbles) nibbles); within = omega arith })
   where
     part : (found : Result (Signature ClassRef) LoadFault) → before [] found ≡ found
-    part (Err e) = refl
-    part (Ok s) = refl
+    part found = grind arith
 
 pub so_far_none : (nibbles : List ℕ) (n : ℕ) (left : List ℕ) (fault : LoadFault) → IsSoFar nibbles n left → next_return left ≡ Err fault → Err fault ≡ signature_of nibbles
 so_far_none nibbles n left fault s e = ap (before s.front) (sym (step_none s.steps left fault s.enough e)) ∙ s.same
@@ -157,9 +134,7 @@ pub so_far_there : (nibbles again : List ℕ) (n : ℕ) (left : List ℕ) (fault
 so_far_there nibbles again n left fault s is e = ok_err _ _ (sym s.taken ∙ ap (λ (w : List ℕ). repeat next_type n w) (sym is) ∙ e)
 
 pub so_far_void : (nibbles : List ℕ) (n : ℕ) (left rest : List ℕ) → IsSoFar nibbles n left → next_return left ≡ Ok (reading Void rest) → (length rest ≡ 0 → ⊥) → Err (Malformed 11) ≡ signature_of nibbles
-so_far_void nibbles n left rest s e more =
-    let step = step_on s.steps left rest Void s.enough e more in
-    ap (before s.front) (sym step.2) ∙ s.same
+so_far_void nibbles n left rest s e more = grind (arith, step_on)
 
 pub so_far_less : (left rest : List ℕ) (type : DeclaredType ClassRef) → next_return left ≡ Ok (reading (Value type) rest) → length rest < length left
 so_far_less left rest type e = type-less left (reading type rest) (result-type left type rest e)
@@ -180,21 +155,16 @@ so_far_more nibbles n left rest type s e more =
     }
   where
     part : (found : Result (Signature ClassRef) LoadFault) → before (s.front ++ type ∷ []) found ≡ before s.front (with_parameter (Value type) found)
-    part (Err e) = refl
-    part (Ok t) = ap (λ (xs : List (DeclaredType ClassRef)). Ok (record { parameters = xs; result = t.result })) (append_assoc s.front (type ∷ []) t.parameters)
+    part found = grind (arith, append_assoc)
 
 -- what a test for no nibbles says
 pub is_end : (b : Bool) (left : List ℕ) → (IsTrue b → left ≡ []) × (left ≡ [] → IsTrue b) → b ≡ true → length left ≡ 0
 is_end b left t e = ap length (t.0 e)
 
 pub is_no_end : (b : Bool) (left : List ℕ) → (IsTrue b → left ≡ []) × (left ≡ [] → IsTrue b) → b ≡ false → length left ≡ 0 → ⊥
-is_no_end true left t e z = absurd cc
-is_no_end false left t e z = let h = t.1 (nil_from_length left z) in absurd cc
+is_no_end b left h1 h2 h3 = grind (arith, nil_from_length)
 
 -- nibbles that a byte counts are fewer than 256
 pub few_nibbles : (n : ℕ) (bytes : List ℕ) (r : Read (List ℕ)) → n < 256 → next_nibbles n bytes ≡ Ok r → length r.value < 256
 unfolding next_nibbles
-few_nibbles n bytes r small e =
-    let a = bind_ok (field 11 (next_bytes ((n + 1) / 2) bytes)) _ r e in
-    let h : length (take n (nibbles_of a.0.value)) ≡ length r.value = ap (λ (x : Read (List ℕ)). length x.value) (the_ok _ r a.2) in
-    omega (arith, length-take n (nibbles_of a.0.value))
+few_nibbles n bytes r small e = grind (arith, bind_ok, the_ok, length-take)

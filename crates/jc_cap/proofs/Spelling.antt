@@ -28,8 +28,7 @@ type-result [] type rest e = absurd cc
 type-result (code ∷ nibbles) type rest e = part (code == 1) refl
   where
     part : (b : Bool) → eqb code 1 ≡ b → cond b (Ok (reading Void nibbles)) (next_coded_type code nibbles >>= λ found. Ok (reading (Value found.value) found.rest)) ≡ Ok (reading (Value type) rest)
-    part true is = absurd (void_no_type nibbles (reading type rest) (ap (λ (n : ℕ). next_coded_type n nibbles) (sym (eqb-true code 1 is)) ∙ e))
-    part false is = rw e refl
+    part b h1 = grind (arith, void_no_type, reading, eqb-true)
 
 -- a signature as its two parts
 abbrev signed : List (DeclaredType ClassRef) → ReturnType ClassRef → Signature ClassRef
@@ -52,15 +51,11 @@ read_back (type ∷ types) r steps nibbles le is =
 -- what is read in one step
 
 last_spelled : (s : Signature ClassRef) (nibbles : List ℕ) (next : Read (ReturnType ClassRef)) → next_return nibbles ≡ Ok next → length next.rest ≡ 0 → ◌≡◌ {A = Result (Signature ClassRef) LoadFault} (Ok (signed [] next.value)) (Ok s) → IsSpelled s.parameters s.result nibbles
-last_spelled s nibbles next e end h =
-    subst (λ (t : Signature ClassRef). IsSpelled t.parameters t.result nibbles) (the_ok _ s h) (e ∙ ap (λ (rest : List ℕ). Ok (reading next.value rest)) (nil_from_length next.rest end))
+last_spelled s nibbles next e end h = grind (arith, the_ok, reading, nil_from_length)
 
 more_spelled : (s : Signature ClassRef) (nibbles : List ℕ) (v : ReturnType ClassRef) (rest : List ℕ) (others : Result (Signature ClassRef) LoadFault) → ((t : Signature ClassRef) → others ≡ Ok t → IsSpelled t.parameters t.result rest)
     → next_return nibbles ≡ Ok (reading v rest) → with_parameter v others ≡ Ok s → IsSpelled s.parameters s.result nibbles
-more_spelled s nibbles Void rest others more e h = absurd cc
-more_spelled s nibbles (Value type) rest (Err fault) more e h = absurd cc
-more_spelled s nibbles (Value type) rest (Ok t) more e h =
-    subst (λ (u : Signature ClassRef). IsSpelled u.parameters u.result nibbles) (the_ok _ s h) (rest, result-type nibbles type rest e, more t refl)
+more_spelled s nibbles v rest others h1 h2 h3 = grind (arith, the_ok, result-type)
 
 -- what is read is spelled
 spelled : (steps : ℕ) (nibbles : List ℕ) (s : Signature ClassRef) → signature_in steps nibbles ≡ Ok s → IsSpelled s.parameters s.result nibbles

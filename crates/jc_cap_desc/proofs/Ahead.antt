@@ -1,8 +1,8 @@
 -- The row that is ahead: where it is of a record that has one row, it is the one that is found.
-use Rattle.std.proofs.Common.{◌≡◌, ℕ, zero, suc, ◌==◌, Bool, true, false, cond, List, [], ◌∷◌, Option, Some}
-use Rattle.std.proofs.Common.{None, IfNone, IfSome, refl, sym, ap, ◌∙◌, arith, slice_get}
+use Rattle.std.proofs.Common.{◌≡◌, ℕ, zero, suc, ◌==◌, Bool, true, cond, List, [], ◌∷◌, Option, Some}
+use Rattle.std.proofs.Common.{None, IfNone, IfSome, sym, ap, ◌∙◌, arith, slice_get}
 use Rattle.std.proofs.lemmas.Bool.{eqb-true}
-use Rattle.std.specs.List.{cons_option, filter_map, find}
+use Rattle.std.specs.List.{filter_map, find}
 use Rattle.jc_base.proofs.Binding.{both_true, none_some, the_some}
 use Rattle.jc_base.specs.declared.placed_rows.Placed.{Placed}
 use Rattle.jc_cap.specs.declared.record.Record.{Record}
@@ -32,25 +32,17 @@ found offset (first ∷ rows) row n at is single = by_place n (λ m at. found of
     by_test : (b : Bool) → is_row_of offset first ≡ b → (m : ℕ) → slice_get rows m ≡ Some row
         → (count_rows offset rows ≡ 1 → find (is_row_of offset) rows ≡ Some row)
         → cond b (Some first) (find (is_row_of offset) rows) ≡ Some row
-    by_test true first_is m at rest =
-        let here = ap one first_is in
-        absurd (counted offset rows row m at is (omega (arith, here, single)))
-    by_test false first_is m at rest = let here = ap one first_is in rest (omega (arith, here, single))
+    by_test b h1 m h2 h3 = grind (arith, counted)
 
     by_place : (n : ℕ)
         → ((m : ℕ) → slice_get rows m ≡ Some row → count_rows offset rows ≡ 1 → find (is_row_of offset) rows ≡ Some row)
         → slice_get (first ∷ rows) n ≡ Some row
         → cond (is_row_of offset first) (Some first) (find (is_row_of offset) rows) ≡ Some row
-    by_place zero rest at =
-        let same = the_some first row at in
-        ap (λ b. cond b (Some first) (find (is_row_of offset) rows))
-        (ap (λ (r : ClassRow). is_row_of offset r) same ∙ is) ∙ ap Some same
-    by_place (suc m) rest at = by_test (is_row_of offset first) refl m at (rest m at)
+    by_place n h1 h2 = grind (arith, the_some, by_test)
 
 pub only_row : (offset : ℕ) (rows : List ClassRow) (row : ClassRow) → IsAmong row rows
     → is_row_of offset row ≡ true → count_rows offset rows == 1 ≡ true → find (is_row_of offset) rows ≡ Some row
-only_row offset rows row among is single =
-    found offset rows row among.0 among.1 is (eqb-true (count_rows offset rows) 1 single)
+only_row offset rows row among is single = grind (arith, found, eqb-true)
 
 -- the row that is taken from those that are ahead
 pub first_ahead : (ahead then rows : List ClassRow) (taken : Option ClassRow) → AreAmong ahead rows
@@ -69,12 +61,9 @@ more_ahead ahead then rows None among some none n other at =
 -- the records behind the first have their rows too
 pub more_rows : (left then : List (Placed Record)) (rows : List ClassRow) (p : Placed Record) → left ≡ p ∷ then
     → each_has_row left rows ≡ true → each_has_row then rows ≡ true
-more_rows left then rows p front each =
-    (both_true (count_rows p.offset rows == 1) (each_has_row then rows)
-    (ap (λ l. each_has_row l rows) (sym front) ∙ each)).1
+more_rows left then rows p front each = grind (arith, both_true)
 
 -- an element that gives nothing is passed over
 pub passed_over : {A B : Type 0} (f : A → Option B) (all : List B) (left then : List A) (x : A) (given : Option B)
     → all ≡ filter_map f left → left ≡ x ∷ then → given ≡ f x → given ≡ None → all ≡ filter_map f then
-passed_over f all left then x given is front gives none =
-    is ∙ ap (filter_map f) front ∙ ap (λ o. cons_option o (filter_map f then)) (sym gives ∙ none)
+passed_over f all left then x given is front gives none = grind arith

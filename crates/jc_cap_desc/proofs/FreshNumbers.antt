@@ -1,5 +1,5 @@
 -- Numbers that are new one by one are distinct, and a set that has those before.
-use Rattle.std.proofs.Common.{◌≡◌, ℕ, ◌==◌, ◌&&◌, ◌||◌, Bool, true, false, not, List, [], ◌∷◌, ◌++◌, refl, sym, ap, ◌∙◌, ◌⊎◌, inl, inr}
+use Rattle.std.proofs.Common.{◌≡◌, ℕ, ◌==◌, ◌&&◌, ◌||◌, Bool, true, false, not, List, [], ◌∷◌, ◌++◌, refl, sym, ap, ◌∙◌, ◌⊎◌, arith}
 use Rattle.std.proofs.lemmas.Bool.{cases_eq, eq-eqb, ne_eqb}
 use Rattle.std.proofs.Math.Bool.{and-true}
 use Rattle.jc_cap_desc.specs.Across.{is_among, are_distinct}
@@ -9,8 +9,7 @@ same_either_way : (n m : ℕ) → (n == m) ≡ (m == n)
 same_either_way n m = by_case (cases_eq n m)
   where
     by_case : (n ≡ m) ⊎ (n ≡ m → ⊥) → (n == m) ≡ (m == n)
-    by_case (inl e) = eq-eqb n m e ∙ sym (eq-eqb m n (sym e))
-    by_case (inr d) = ne_eqb n m d ∙ sym (ne_eqb m n (λ e. d (sym e)))
+    by_case h1 = grind (arith, eq-eqb, ne_eqb)
 
 -- none of some numbers is among others
 abbrev are_apart : List ℕ → List ℕ → Bool
@@ -26,21 +25,14 @@ apart_more n before [] = refl
 apart_more n before (m ∷ numbers) = rw (same_either_way m n, apart_more n before numbers) (shuffle (n == m) (is_among m before) (is_among n numbers) (are_apart before numbers))
   where
     shuffle : (a b c d : Bool) → (not (a || b) && (not c && d)) ≡ (not (a || c) && (not b && d))
-    shuffle true b c d = refl
-    shuffle false true true d = refl
-    shuffle false true false d = refl
-    shuffle false false true d = refl
-    shuffle false false false d = refl
+    shuffle a b c d = grind arith
 
 fresh_is : (before numbers : List ℕ) → are_fresh before numbers ≡ (are_apart before numbers && are_distinct numbers)
 fresh_is before [] = refl
 fresh_is before (n ∷ numbers) = rw (fresh_is (n ∷ before) numbers, apart_more n before numbers) (shuffle (is_among n before) (is_among n numbers) (are_apart before numbers) (are_distinct numbers))
   where
     shuffle : (a b c d : Bool) → (not a && ((not b && c) && d)) ≡ ((not a && c) && (not b && d))
-    shuffle true b c d = refl
-    shuffle false true true d = refl
-    shuffle false true false d = refl
-    shuffle false false c d = refl
+    shuffle a b c d = grind arith
 
 pub fresh_is_distinct : (numbers : List ℕ) → are_fresh [] numbers ≡ are_distinct numbers
 fresh_is_distinct numbers = fresh_is [] numbers ∙ ap (λ b. b && are_distinct numbers) (apart_none numbers)
@@ -50,8 +42,7 @@ fresh_of_both before [] ys = refl
 fresh_of_both before (n ∷ xs) ys = rw (fresh_of_both (n ∷ before) xs ys) (shuffle (is_among n before) _ _)
   where
     shuffle : (a b c : Bool) → (not a && (b && c)) ≡ ((not a && b) && c)
-    shuffle true b c = refl
-    shuffle false b c = refl
+    shuffle a b c = grind arith
 
 put_both : (met xs ys : List ℕ) → put_in met (xs ++ ys) ≡ put_in (put_in met xs) ys
 put_both met [] ys = refl
@@ -75,20 +66,12 @@ Adds words fresh after numbers =
 -- the next of them are new, and go into the set
 pub goes_on : (words after before all left numbers more : List ℕ) (fresh : Bool) → IsSoFar words before all left → left ≡ numbers ++ more
     → Adds words fresh after numbers → fresh ≡ true → IsSoFar after before all more
-goes_on words after before all left numbers more fresh far e adds new = record {
-  met = put_in far.met numbers;
-  holds = (adds far.met far.holds).1 new;
-  fresh = far.fresh ∙ ap (are_fresh far.met) e ∙ fresh_of_both far.met numbers more
-      ∙ ap (λ b. b && are_fresh (put_in far.met numbers) more) (sym (adds far.met far.holds).0 ∙ new);
-  put = far.put ∙ ap (put_in far.met) e ∙ put_both far.met numbers more;
-}
+goes_on words after before all left numbers more fresh far e adds new = grind (arith, fresh_of_both, put_both)
 
 -- one of them isn't
 pub stops : (words after before all left numbers more : List ℕ) (fresh : Bool) → IsSoFar words before all left → left ≡ numbers ++ more
     → Adds words fresh after numbers → fresh ≡ false → false ≡ are_fresh before all
-stops words after before all left numbers more fresh far e adds old =
-    sym (far.fresh ∙ ap (are_fresh far.met) e ∙ fresh_of_both far.met numbers more
-    ∙ ap (λ b. b && are_fresh (put_in far.met numbers) more) (sym (adds far.met far.holds).0 ∙ old))
+stops words after before all left numbers more fresh far e adds old = grind (arith, fresh_of_both)
 
 -- one number
 pub adds_one : (words after : List ℕ) (fresh : Bool) (n : ℕ) → ((met : List ℕ) → Holds words met → fresh ≡ not (is_among n met))

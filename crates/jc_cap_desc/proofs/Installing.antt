@@ -1,5 +1,5 @@
 -- Methods that install, put into a set one by one.
-use Rattle.std.proofs.Common.{◌≡◌, ℕ, ◌==◌, ◌&&◌, ◌||◌, Bool, true, false, List, [], ◌∷◌, refl, ap, sym, ◌∙◌, ◌⊎◌, inl, inr}
+use Rattle.std.proofs.Common.{◌≡◌, ℕ, ◌==◌, ◌&&◌, ◌||◌, Bool, true, false, List, ◌∷◌, ap, sym, ◌∙◌, ◌⊎◌, arith}
 use Rattle.std.proofs.lemmas.Bool.{cases_eq, eq-eqb, ne_eqb}
 use Rattle.std.proofs.Math.Bool.{or_assoc}
 use Rattle.std.proofs.lemmas.List.Folds.{list_any-append}
@@ -19,36 +19,23 @@ moved : (n offset : ℕ) (passes before left : Bool) → true ≡ passes → ((n
 moved n offset passes before left is = by_offset (cases_eq n offset)
   where
     here : (b r : Bool) → ((true || b) || r) ≡ (b || ((true && true) || r))
-    here true r = refl
-    here false r = refl
+    here b r = grind arith
 
     elsewhere : (b r : Bool) → ((false || b) || r) ≡ (b || ((false && passes) || r))
-    elsewhere true r = refl
-    elsewhere false r = refl
+    elsewhere b r = grind arith
 
     by_offset : (n ≡ offset) ⊎ (n ≡ offset → ⊥) → ((n == offset || before) || left) ≡ (before || ((offset == n && passes) || left))
-    by_offset (inl same) =
-        let a : n == offset ≡ true = eq-eqb n offset same in
-        let b : offset == n ≡ true = eq-eqb offset n (sym same) in
-        rw (a, b, ← is) (here before left)
-    by_offset (inr other) =
-        let a : n == offset ≡ false = ne_eqb n offset other in
-        let b : offset == n ≡ false = ne_eqb offset n (λ e. other (sym e)) in
-        rw (a, b) (elsewhere before left)
+    by_offset h1 = grind (arith, eq-eqb, here, ne_eqb, elsewhere)
 
 -- a method that installs goes from what is left into the set
 pub put_one : (types : PlacedTypes) (m : MethodRow) (left then : List MethodRow) (set set_then : List ℕ) (n : ℕ) → left ≡ m ∷ then
     → true ≡ installs types m → has_number set_then n ≡ (n == m.offset || has_number set n)
     → (has_number set_then n || installs_at types then n) ≡ (has_number set n || installs_at types left n)
-put_one types m left then set set_then n front is put =
-    ap (λ b. b || installs_at types then n) put
-    ∙ moved n m.offset (installs types m) (has_number set n) (installs_at types then n) is
-    ∙ ap (λ ms. has_number set n || installs_at types ms n) (sym front)
+put_one types m left then set set_then n front is put = grind (arith, moved)
 
 -- tests that say the same of each say the same of all
 pub same_all : {X : Type 0} (p q : X → Bool) → ((x : X) → p x ≡ q x) → (xs : List X) → list_all p xs ≡ list_all q xs
-same_all p q same [] = refl
-same_all p q same (x ∷ xs) = rw (same x, same_all p q same xs) refl
+same_all p q h1 xs = grind arith
 
 -- the methods of one class more go from what is left into the set
 pub class_more : (types : PlacedTypes) (records : List (Placed Record)) (left then : List ClassRow) (row : ClassRow)

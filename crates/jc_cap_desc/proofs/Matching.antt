@@ -1,6 +1,6 @@
 -- Rows and records: each row that is passed puts the offset of its record into a set.
 use Rattle.std.proofs.Common.{◌≡◌, ℕ, ◌<◌, ◌+◌, ◌==◌, ◌&&◌, ◌||◌, Bool, true, false, cond, List, [], ◌∷◌, Option, Some, not}
-use Rattle.std.proofs.Common.{None, is_some, nat_lt, refl, sym, ap, ◌∙◌, ◌⊎◌, inl, inr, arith, zero-add}
+use Rattle.std.proofs.Common.{None, is_some, nat_lt, refl, sym, ap, ◌∙◌, ◌⊎◌, arith, zero-add}
 use Rattle.std.proofs.lemmas.Bool.{cases_eq, eq-eqb, eqb-true, lt-ltb, ne_eqb}
 use Rattle.std.proofs.Math.Bool.{and-true}
 use Rattle.std.specs.List.{list_all}
@@ -8,7 +8,6 @@ use Rattle.jc_base.proofs.Binding.{both_true, the_some, none_some}
 use Rattle.jc_base.specs.NumberSet.{has_number}
 use Rattle.jc_base.specs.PlacedRows.{row_at}
 use Rattle.jc_base.specs.declared.class_ref.ClassRef.{ClassRef}
-use Rattle.jc_base.specs.declared.class_ref.ClassRef.TheVariants.{Internal, External}
 use Rattle.jc_base.specs.declared.placed_rows.Placed.{Placed}
 use Rattle.jc_cap.specs.declared.record.Record.{Record}
 use Rattle.jc_cap_desc.proofs.Installing.{same_all}
@@ -23,24 +22,21 @@ of_named : (row : ClassRow) (offset n : ℕ) → offset_named row ≡ Some offse
 of_named row offset n names = by_ref row.this refl
   where
     by_ref : (ref : ClassRef) → row.this ≡ ref → is_row_of n row ≡ (offset == n)
-    by_ref (Internal this) e = rw e (ap (λ m. m == n) (the_some this offset (rw e at names)))
-    by_ref (External import class) e = absurd (none_some offset (rw e at names))
+    by_ref ref h1 = grind (arith, the_some, none_some)
 
 record_named : (records : List (Placed Record)) (row : ClassRow) (offset : ℕ) → offset_named row ≡ Some offset
     → record_of records row ≡ row_at offset records
 record_named records row offset names = by_ref row.this refl
   where
     by_ref : (ref : ClassRef) → row.this ≡ ref → record_of records row ≡ row_at offset records
-    by_ref (Internal this) e = rw e (ap (λ m. row_at m records) (the_some this offset (rw e at names)))
-    by_ref (External import class) e = absurd (none_some offset (rw e at names))
+    by_ref ref h1 = grind (arith, the_some, none_some)
 
 record_unnamed : (records : List (Placed Record)) (row : ClassRow) → offset_named row ≡ None
     → record_of records row ≡ None
 record_unnamed records row names = by_ref row.this refl
   where
     by_ref : (ref : ClassRef) → row.this ≡ ref → record_of records row ≡ None
-    by_ref (Internal this) e = absurd (none_some this (sym (rw e at names)))
-    by_ref (External import class) e = rw e refl
+    by_ref ref h1 = grind (arith, none_some)
 
 -- ---- one row more
 
@@ -57,16 +53,7 @@ put_at : (n offset : ℕ) (named named_then : List ℕ) → offset < 65536 → h
 put_at n offset named named_then small new put = by_case (cases_eq n offset)
   where
     by_case : (n ≡ offset) ⊎ (n ≡ offset → ⊥) → one (is_in named_then n) ≡ one (offset == n) + one (is_in named n)
-    by_case (inl same) =
-        let there : n == offset ≡ true = eq-eqb n offset same in
-        let back : offset == n ≡ true = eq-eqb offset n (sym same) in
-        let below : nat_lt n 65536 ≡ true = ap (λ n. nat_lt n 65536) same ∙ below_is offset 65536 small in
-        let fresh : has_number named n ≡ false = ap (has_number named) same ∙ new in
-        rw (put, there, back, below, fresh) refl
-    by_case (inr other) =
-        let there : n == offset ≡ false = ne_eqb n offset other in
-        let back : offset == n ≡ false = ne_eqb offset n (λ e. other (sym e)) in
-        rw (put, there, back) (sym (zero-add _))
+    by_case h1 = grind (arith, eq-eqb, below_is, ne_eqb, zero-add)
 
 pub begins : (starts named : List ℕ) (rows left : List ClassRow) → ((n : ℕ) → has_number named n ≡ false) → left ≡ rows
     → AreNamed starts named rows left
@@ -79,8 +66,7 @@ begins starts named rows left none same = record {
     no_one n = rw (none n) (by_test (nat_lt n 65536))
       where
         by_test : (b : Bool) → one (b && false) + count_rows n left ≡ count_rows n left
-        by_test true = omega arith
-        by_test false = omega arith
+        by_test b = grind arith
 
 -- a row of a record that none before was of
 pub goes_on : (starts named named_then : List ℕ) (rows left then : List ClassRow) (row : ClassRow) (offset : ℕ)
@@ -103,26 +89,20 @@ goes_on starts named named_then rows left then row offset far front names small 
 -- ---- a row that is of none, or of one that a row before is of
 
 refused : (a b : Bool) → b ≡ false → false ≡ (a && b)
-refused true b e = sym e
-refused false b e = refl
+refused a b h1 = grind arith
 
 of_none : (starts named : List ℕ) (records : List (Placed Record)) (rows left then : List ClassRow)
     (row : ClassRow) → AreNamed starts named rows left → left ≡ row ∷ then → HoldsRecords starts records
     → record_of records row ≡ None → false ≡ rows_match records rows
-of_none starts named records rows left then row far front holds none =
-    refused (list_all (λ p. count_rows p.offset rows == 1) records) (all_recorded records rows)
-    (far.recorded records holds ∙ ap (all_recorded records) front
-    ∙ ap (λ o. is_some o && all_recorded records then) none)
+of_none starts named records rows left then row far front holds none = grind (arith, refused)
 
 pub unnamed : (starts named : List ℕ) (records : List (Placed Record)) (rows left then : List ClassRow)
     (row : ClassRow) → AreNamed starts named rows left → left ≡ row ∷ then → HoldsRecords starts records
     → offset_named row ≡ None → false ≡ rows_match records rows
-unnamed starts named records rows left then row far front holds names =
-    of_none starts named records rows left then row far front holds (record_unnamed records row names)
+unnamed starts named records rows left then row far front holds names = grind (arith, of_none, record_unnamed)
 
 no_record : (o : Option Record) → is_some o ≡ false → o ≡ None
-no_record None e = refl
-no_record (Some r) e = absurd cc
+no_record o h1 = grind arith
 
 elsewhere : (starts named : List ℕ) (records : List (Placed Record)) (rows left then : List ClassRow)
     (row : ClassRow) (offset : ℕ) → AreNamed starts named rows left → left ≡ row ∷ then → HoldsRecords starts records
@@ -145,9 +125,7 @@ one_of_record (p ∷ records) rows offset there all =
     by_test : (b : Bool) → p.offset == offset ≡ b → is_some (cond b (Some p.row) (row_at offset records)) ≡ true
         → count_rows p.offset rows == 1 ≡ true
         → (is_some (row_at offset records) ≡ true → count_rows offset rows ≡ 1) → count_rows offset rows ≡ 1
-    by_test true same there here rest =
-        ap (λ n. count_rows n rows) (sym (eqb-true p.offset offset same)) ∙ eqb-true (count_rows p.offset rows) 1 here
-    by_test false other there here rest = rest there
+    by_test b h1 h2 h3 h4 = grind (arith, eqb-true)
 
 twice : (starts named : List ℕ) (records : List (Placed Record)) (rows left then : List ClassRow) (row : ClassRow)
     (offset : ℕ) → AreNamed starts named rows left → left ≡ row ∷ then → HoldsRecords starts records
@@ -157,20 +135,11 @@ twice starts named records rows left then row offset far front holds names small
     by_test (list_all (λ p. count_rows p.offset rows == 1) records) refl
   where
     two : count_rows offset rows ≡ 1 → ⊥
-    two single =
-        let below : nat_lt offset 65536 ≡ true = below_is offset 65536 small in
-        let was : one (is_in named offset) ≡ 1 = rw (below, met) refl in
-        let is : one (is_row_of offset row) ≡ 1
-        = ap one (of_named row offset offset names ∙ eq-eqb offset offset refl) in
-        let all : one (is_in named offset) + (one (is_row_of offset row) + count_rows offset then)
-        ≡ count_rows offset rows
-        = ap (λ l. one (is_in named offset) + count_rows offset l) (sym front) ∙ far.counted offset in
-        absurd (omega (arith, was, is, all, single))
+    two single = grind (arith, single, below_is, of_named, eq-eqb)
 
     by_test : (b : Bool) → list_all (λ p. count_rows p.offset rows == 1) records ≡ b
         → false ≡ (b && all_recorded records rows)
-    by_test true all = absurd (two (one_of_record records rows offset (sym (holds offset small) ∙ there) all))
-    by_test false all = refl
+    by_test b h1 = grind (arith, two, one_of_record)
 
 -- a row that names no record's offset, or one that was named before
 pub not_anew : (starts named : List ℕ) (records : List (Placed Record)) (rows left then : List ClassRow)
@@ -183,14 +152,11 @@ not_anew starts named records rows left then row offset far front holds names sm
     by_tests : (a b : Bool) → has_number starts offset ≡ a → has_number named offset ≡ b → (a && not b) ≡ false
         → false ≡ rows_match records rows
     by_tests false b at met e = elsewhere starts named records rows left then row offset far front holds names small at
-    by_tests true true at met e =
-        twice starts named records rows left then row offset far front holds names small at met
+    by_tests true true at met e = search (arith, elsewhere, twice)
     by_tests true false at met e = absurd cc
 
 pub is_new : (a b : Bool) → (a && not b) ≡ true → (a ≡ true) × (b ≡ false)
-is_new true false e = (refl, refl)
-is_new true true e = absurd cc
-is_new false b e = absurd cc
+is_new a b h1 = grind arith
 
 -- ---- all rows were passed
 
@@ -206,5 +172,4 @@ matched starts named records rows all holds =
     single n = by_test (is_in named n) (all.counted n)
       where
         by_test : (b : Bool) → one b + 0 ≡ count_rows n rows → b ≡ (count_rows n rows == 1)
-        by_test true e = sym (eq-eqb (count_rows n rows) 1 (omega (arith, e)))
-        by_test false e = sym (ne_eqb (count_rows n rows) 1 (λ same. absurd (omega (arith, e, same))))
+        by_test b h1 = grind (arith, eq-eqb, ne_eqb)

@@ -1,5 +1,5 @@
 -- Sets of the offsets at which rows begin that pass a test, filled row by row.
-use Rattle.std.proofs.Common.{◌≡◌, ℕ, ◌==◌, ◌&&◌, ◌||◌, Bool, true, false, not, cond, List, ◌∷◌, refl, ap, sym, ◌∙◌, ◌⊎◌, inl, inr}
+use Rattle.std.proofs.Common.{◌≡◌, ℕ, ◌==◌, ◌&&◌, ◌||◌, Bool, true, not, cond, List, ◌∷◌, ap, sym, ◌∙◌, ◌⊎◌, arith}
 use Rattle.std.proofs.lemmas.Bool.{cases_eq, eq-eqb, ne_eqb}
 use Rattle.jc_base.specs.NumberSet.{has_number}
 use Rattle.jc_base.specs.declared.placed_rows.Placed.{Placed}
@@ -11,26 +11,13 @@ at_first : {A : Type 0} (test : A → Bool) (p : Placed A) (rows : List (Placed 
 at_first test p rows n = by_offset (cases_eq n p.offset)
   where
     by_offset : (n ≡ p.offset) ⊎ (n ≡ p.offset → ⊥) → passes_at test (p ∷ rows) n ≡ cond (n == p.offset) (test p.row) (passes_at test rows n)
-    by_offset (inl same) =
-        let a : n == p.offset ≡ true = eq-eqb n p.offset same in
-        let b : p.offset == n ≡ true = eq-eqb p.offset n (sym same) in
-        rw (a, b) refl
-    by_offset (inr other) =
-        let a : n == p.offset ≡ false = ne_eqb n p.offset other in
-        let b : p.offset == n ≡ false = ne_eqb p.offset n (λ e. other (sym e)) in
-        rw (a, b) refl
+    by_offset h1 = grind (arith, eq-eqb, ne_eqb)
 
 -- one more row, at one number: whether it is the row's, whether it was seen and is in the set, and what the row and the
 -- rows behind it say
 more : (here seen passed row rest : Bool)
     → (((here && (row && not seen)) || passed) || (not (here || seen) && rest)) ≡ (passed || (not seen && cond here row rest))
-more true true passed true rest = refl
-more true true passed false rest = refl
-more true false true true rest = refl
-more true false true false rest = refl
-more true false false true rest = refl
-more true false false false rest = refl
-more false seen passed row rest = refl
+more here seen passed row rest = grind arith
 
 -- one more row: what begins at its offset is marked, and the offset is seen
 pub passed_more : {A : Type 0} (test : A → Bool) (rows left then : List (Placed A)) (seen seen_then passed passed_then : List ℕ) (p : Placed A) (passes : Bool)
@@ -47,6 +34,4 @@ pub put_marks : (offset : ℕ) (seen seen_then : List ℕ) → HasPut offset see
 put_marks offset seen seen_then put n h = put n h ∙ either (n == offset) (has_number seen n)
   where
     either : (here seen : Bool) → (here || seen) ≡ ((here && (true && not seen)) || seen)
-    either true true = refl
-    either true false = refl
-    either false seen = refl
+    either here seen = grind arith

@@ -35,23 +35,19 @@ Field n None = Unit {0}
 module _ {A B : Type 0} {P : B → Type 0} (n : ℕ) where
   pub field : (o : Option (Read A)) (f : Read A → Result (Read B) CodeFault) → Field n o
       → ((r : Read A) → length r.rest ≤ n → Gives P n (f r)) → Gives P n (operand o >>= f)
-  field (Some r) f h k = k r h
-  field None f h k = record { left = tt }
+  field o f h1 h2 = grind arith
 
   pub read_on : (r : Result (Read A) CodeFault) (f : Read A → Result (Read B) CodeFault) → IsLeft n r
       → ((r : Read A) → length r.rest ≤ n → Gives P n (f r)) → Gives P n (r >>= f)
-  read_on (Ok r) f h k = k r h.left.0
-  read_on (Err fault) f h k = record { left = tt }
+  read_on r f h1 h2 = grind arith
 
   pub either : (o : Option A) (f : A → Result (Read B) CodeFault) (other : Result (Read B) CodeFault)
       → ((x : A) → Gives P n (f x)) → Gives P n other → Gives P n (listed o f other)
-  either (Some x) f other k h = k x
-  either None f other k h = h
+  either o f other h1 h2 = grind arith
 
 module _ {A : Type 0} {P : A → Type 0} (n : ℕ) where
   pub chosen : (b : Bool) (x y : Result (Read A) CodeFault) → Gives P n x → Gives P n y → Gives P n (cond b x y)
-  chosen true x y h k = h
-  chosen false x y h k = k
+  chosen b x y h1 h2 = grind arith
 
   pub none : (fault : CodeFault) → Gives {A = A} P n (Err fault)
   none fault = record { left = tt }
@@ -64,30 +60,22 @@ pub same : {A : Type 0} (n : ℕ) (x : A) (rest : List ℕ) → length rest ≤ 
 same n x rest le = gives n x rest le tt
 
 pub u1_left : (n : ℕ) (bytes : List ℕ) → length bytes ≤ n → Field n (next_u1 bytes)
-u1_left n [] le = tt
-u1_left n (b ∷ rest) le = omega arith
+u1_left n bytes h1 = grind arith
 
 pub s1_left : (n : ℕ) (bytes : List ℕ) → length bytes ≤ n → Field n (next_s1 bytes)
-s1_left n [] le = tt
-s1_left n (b ∷ rest) le = omega arith
+s1_left n bytes h1 = grind arith
 
 pub u2_left : (n : ℕ) (bytes : List ℕ) → length bytes ≤ n → Field n (next_u2 bytes)
-u2_left n [] le = tt
-u2_left n (a ∷ []) le = tt
-u2_left n (a ∷ b ∷ rest) le = omega arith
+u2_left n bytes h1 = grind arith
 
 pub s2_left : (n : ℕ) (bytes : List ℕ) → length bytes ≤ n → Field n (next_s2 bytes)
-s2_left n [] le = tt
-s2_left n (a ∷ []) le = tt
-s2_left n (a ∷ b ∷ rest) le = omega arith
+s2_left n bytes h1 = grind arith
 
 bytes_left : (n k : ℕ) (bytes : List ℕ) (b : Bool) → length bytes ≤ n → Field {A = List ℕ} n (cond b None (Some (record { value = take k bytes; rest = drop k bytes })))
-bytes_left n k bytes true le = tt
-bytes_left n k bytes false le = omega (arith, length-drop k bytes)
+bytes_left n k bytes b h1 = grind (arith, length-drop)
 
 table_left : {A : Type 0} (n : ℕ) (o : Option (Read (List ℕ))) (view : List ℕ → A) → Field n o → IsLeft {A = A} n (operand o >>= (λ table. Ok (record { value = view table.value; rest = table.rest })))
-table_left n (Some r) view h = record { left = (h, tt) }
-table_left n None view h = record { left = tt }
+table_left n o view h1 = grind arith
 
 offsets_left : (n k : ℕ) (bytes : List ℕ) → length bytes ≤ n → IsLeft n (next_offsets k bytes)
 unfolding next_offsets
@@ -99,9 +87,7 @@ cases_left n k bytes le = table_left n (next_bytes (4 * k) bytes) cases_of_bytes
 
 stable_switch_left : (n : ℕ) (bytes : List ℕ) → length bytes ≤ n → IsLeft n (next_stable_switch bytes)
 unfolding next_stable_switch
-stable_switch_left n bytes le =
-    field n (next_s2 bytes) _ (s2_left n bytes le) (λ d h. field n (next_s2 d.rest) _ (s2_left n d.rest h) (λ l i. field n (next_s2 l.rest) _ (s2_left n l.rest i) (λ u j.
-    chosen n (int_lt u.value l.value) _ _ (none n BadOperand) (read_on n (next_offsets (unsigned_abs (u.value -ℤ l.value) + 1) u.rest) _ (offsets_left n _ u.rest j) (λ t k. same n _ t.rest k)))))
+stable_switch_left n bytes le = grind (arith, field, s2_left, chosen, none, read_on, offsets_left, same)
 
 lookup_switch_left : (n : ℕ) (bytes : List ℕ) → length bytes ≤ n → IsLeft n (next_lookup_switch bytes)
 unfolding next_lookup_switch
@@ -119,15 +105,11 @@ Reads n read = Gives IsSmall n read
 
 wide_increment_left : (n : ℕ) (bytes : List ℕ) → length bytes ≤ n → Reads n (next_wide_increment bytes)
 unfolding next_wide_increment
-wide_increment_left n bytes le =
-    field n (next_u1 bytes) _ (u1_left n bytes le) (λ r h.
-    field n (next_s2 r.rest) _ (s2_left n r.rest h) (λ s k. gives n _ s.rest k tt))
+wide_increment_left n bytes le = grind (arith, field, u1_left, s2_left, gives)
 
 wide_branch_left : (n op : ℕ) (bytes : List ℕ) → length bytes ≤ n → Reads n (next_wide_branch op bytes)
 unfolding next_wide_branch
-wide_branch_left n op bytes le =
-    either n (when_of (op - 56)) _ _ (λ when.
-    field n (next_s2 bytes) _ (s2_left n bytes le) (λ r h. gives n _ r.rest h tt)) (none n BadOpcode)
+wide_branch_left n op bytes le = grind (arith, either, field, s2_left, gives, none)
 
 control_left : (n op : ℕ) (bytes : List ℕ) → length bytes ≤ n → Reads n (next_control op bytes)
 unfolding next_control
@@ -142,65 +124,29 @@ control_left n op bytes le =
 
 branch_left : (n op : ℕ) (bytes : List ℕ) → length bytes ≤ n → Reads n (next_branch op bytes)
 unfolding next_branch
-branch_left n op bytes le =
-    either n (when_of op) _ _ (λ when.
-    field n (next_s1 bytes) _ (s1_left n bytes le) (λ r h. gives n _ r.rest h tt)) (control_left n op bytes le)
+branch_left n op bytes le = grind (arith, either, field, s1_left, gives, control_left)
 
 arithmetic_left : (n op : ℕ) (bytes : List ℕ) → length bytes ≤ n → Reads n (next_arithmetic op bytes)
 unfolding next_arithmetic
-arithmetic_left n op bytes le =
-    chosen n (op == 75) _ _ (gives n _ bytes le tt)
-    (chosen n (op == 89) _ _
-    (field n (next_u1 bytes) _ (u1_left n bytes le) (λ r h.
-    field n (next_s1 r.rest) _ (s1_left n r.rest h) (λ s k. gives n _ s.rest k tt)))
-    (chosen n (op == 91) _ _ (gives n _ bytes le tt)
-    (either n (operator_of op) _ _ (λ x. gives n _ bytes le tt) (branch_left n op bytes le))))
+arithmetic_left n op bytes le = grind (arith, chosen, gives, field, u1_left, s1_left, either, branch_left)
 
 shuffle_left : (n op : ℕ) (bytes : List ℕ) → length bytes ≤ n → Reads n (next_shuffle op bytes)
 unfolding next_shuffle
-shuffle_left n op bytes le =
-    chosen n (op == 59) _ _ (gives n _ bytes le tt) (chosen n (op == 60) _ _ (gives n _ bytes le tt)
-    (chosen n (op == 61) _ _ (gives n _ bytes le tt) (chosen n (op == 62) _ _ (gives n _ bytes le tt)
-    (chosen n (op == 63) _ _ (field n (next_u1 bytes) _ (u1_left n bytes le) (λ r h.
-    chosen n (is_duplicate (r.value / 16) (r.value % 16)) _ _ (gives n _ r.rest h tt) (none n BadOperand)))
-    (chosen n (op == 64) _ _ (field n (next_u1 bytes) _ (u1_left n bytes le) (λ r h.
-    chosen n (is_swap (r.value / 16) (r.value % 16)) _ _ (gives n _ r.rest h tt) (none n BadOperand)))
-    (arithmetic_left n op bytes le))))))
+shuffle_left n op bytes le = grind (arith, chosen, gives, field, u1_left, none, arithmetic_left)
 
 local_left : (n op : ℕ) (bytes : List ℕ) → length bytes ≤ n → Reads n (next_local op bytes)
 unfolding next_local
-local_left n op bytes le =
-    chosen n (op == 22) _ _ (field n (next_u1 bytes) _ (u1_left n bytes le) (λ r h. gives n _ r.rest h tt))
-    (chosen n (op == 28) _ _ (gives n _ bytes le tt) (chosen n (op == 29) _ _ (gives n _ bytes le tt)
-    (chosen n (op == 30) _ _ (gives n _ bytes le tt) (chosen n (op == 31) _ _ (gives n _ bytes le tt)
-    (chosen n (op == 41) _ _ (field n (next_u1 bytes) _ (u1_left n bytes le) (λ r h. gives n _ r.rest h tt))
-    (chosen n (op == 47) _ _ (gives n _ bytes le tt) (chosen n (op == 48) _ _ (gives n _ bytes le tt)
-    (chosen n (op == 49) _ _ (gives n _ bytes le tt) (chosen n (op == 50) _ _ (gives n _ bytes le tt)
-    (shuffle_left n op bytes le))))))))))
+local_left n op bytes le = grind (arith, chosen, field, u1_left, gives, shuffle_left)
 
 -- a byte or two, with their sign
 pushed_byte : (n : ℕ) (bytes : List ℕ) → length bytes ≤ n
     → Reads n (operand (next_s1 bytes) >>= λ r. done (Push r.value) r.rest)
-pushed_byte n [] le = none n CutShort
-pushed_byte n (b ∷ bytes) le = gives n (Push (cast_signed w8 b)) bytes (omega arith) (search rules)
+pushed_byte n bytes h1 = grind (arith, none, gives, rules)
 
 pushed_word : (n : ℕ) (bytes : List ℕ) → length bytes ≤ n
     → Reads n (operand (next_s2 bytes) >>= λ r. done (Push r.value) r.rest)
-pushed_word n [] le = none n CutShort
-pushed_word n (high ∷ []) le = none n CutShort
-pushed_word n (high ∷ low ∷ bytes) le =
-    gives n (Push (cast_signed w16 (256 * high + low))) bytes (omega arith) (search rules)
+pushed_word n bytes h1 = grind (arith, none, gives, rules)
 
 pub words_left : (n op : ℕ) (bytes : List ℕ) → length bytes ≤ n → Reads n (next_constant op bytes)
 unfolding next_constant
-words_left n op bytes le =
-    chosen n (op == 0) _ _ (gives n _ bytes le tt)
-    (chosen n (op == 2) _ _ (gives n (Push (negsuc 0)) bytes le (search rules))
-    (chosen n (op == 3) _ _ (gives n (Push (pos 0)) bytes le (search rules))
-    (chosen n (op == 4) _ _ (gives n (Push (pos 1)) bytes le (search rules))
-    (chosen n (op == 5) _ _ (gives n (Push (pos 2)) bytes le (search rules))
-    (chosen n (op == 6) _ _ (gives n (Push (pos 3)) bytes le (search rules))
-    (chosen n (op == 7) _ _ (gives n (Push (pos 4)) bytes le (search rules))
-    (chosen n (op == 8) _ _ (gives n (Push (pos 5)) bytes le (search rules))
-    (chosen n (op == 16) _ _ (pushed_byte n bytes le)
-    (chosen n (op == 17) _ _ (pushed_word n bytes le) (local_left n op bytes le))))))))))
+words_left n op bytes le = grind (arith, chosen, gives, rules, pushed_byte, pushed_word, local_left)

@@ -38,11 +38,7 @@ IsSmallOperation (Object operation) = Unit {0}
 
 either_left : (n : ℕ) (word : Result (Read WordOperation) CodeFault) (object : Result (Read ObjectOperation) CodeFault)
     → Gives IsSmall n word → IsLeft n object → Gives IsSmallOperation n (either_operation word object)
-either_left n (Ok word) object h k = record { left = h.left }
-either_left n (Err BadOpcode) (Ok object) h k = record { left = k.left }
-either_left n (Err BadOpcode) (Err fault) h k = record { left = tt }
-either_left n (Err BadOperand) object h k = record { left = tt }
-either_left n (Err CutShort) object h k = record { left = tt }
+either_left n word object h1 h2 = grind arith
 
 abbrev Advances : ℕ → ℕ → Result Instr CodeFault → Type 0
 Advances n pc (Ok instr) = (pc < instr.next_pc) × (instr.next_pc ≤ n) × IsSmallOperation instr.operation
@@ -51,21 +47,16 @@ Advances n pc (Err fault) = Unit {0}
 behind : {A : Type 0} (code : List ℕ) (pc n : ℕ) (view : A → Operation) (r : Result (Read A) CodeFault)
     → suc n + pc ≡ length code → Gives (λ a. IsSmallOperation (view a)) n r
     → Advances (length code) pc (r >>= (λ read. Ok (instr_of code (record { value = view read.value; rest = read.rest }))))
-behind code pc n view (Ok read) e h = (omega (arith, h.left.0), omega (arith, h.left.0), h.left.1)
-behind code pc n view (Err fault) e h = tt
+behind code pc n view r h1 h2 = grind arith
 
 at_front : (code : List ℕ) (pc : ℕ) (bytes : List ℕ) → length bytes ≡ length code - pc → Advances (length code) pc (next_operation bytes >>= (λ read. Ok (instr_of code read)))
 unfolding next_operation
-at_front code pc [] e = tt
-at_front code pc (op ∷ bytes) e =
-    behind code pc (length bytes) (λ operation. operation) (either_operation (next_constant op bytes) (next_object op bytes)) (omega arith)
-    (either_left (length bytes) _ _ (words_left (length bytes) op bytes (omega arith)) (objects_left (length bytes) op bytes (omega arith)))
+at_front code pc bytes h1 = grind (arith, behind, either_left, words_left, objects_left)
 
 words_at_front : (code : List ℕ) (pc : ℕ) (bytes : List ℕ) → length bytes ≡ length code - pc
     → Advances (length code) pc (next_word_operation bytes >>= (λ read. Ok (instr_of code (record { value = Word read.value; rest = read.rest }))))
 unfolding next_word_operation
-words_at_front code pc [] e = tt
-words_at_front code pc (op ∷ bytes) e = behind code pc (length bytes) Word (next_constant op bytes) (omega arith) (words_left (length bytes) op bytes (omega arith))
+words_at_front code pc bytes h1 = grind (arith, behind, words_left)
 
 -- what a decoder gives ends behind its pc and within the code
 abbrev pub Ascends : Decoder → Type 0

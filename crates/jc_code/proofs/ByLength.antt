@@ -24,8 +24,7 @@ seen code view r = r >>= (λ read. Ok (instr_of code (record { value = view read
 
 by_rest : {A : Type 0} (code : List ℕ) (view : A → Operation) (r : Result (Read A) CodeFault)
     → next_pc_of (seen code view r) ≡ pc_of code (rest_of r)
-by_rest code view (Ok read) = refl
-by_rest code view (Err fault) = refl
+by_rest code view r = grind arith
 
 behind_pc : (code : List ℕ) (pc count : ℕ) (bytes : List ℕ) → length code ≡ pc + suc (length bytes)
     → pc_of code (behind count bytes) ≡ pc_behind code pc (suc count)
@@ -54,8 +53,7 @@ word_front : (code : List ℕ) (pc opcode count : ℕ) (bytes : List ℕ) → le
     → HasLength (suc count) (next_constant opcode)
     → next_pc_of (seen code Word (next_word_operation (opcode ∷ bytes))) ≡ pc_behind code pc (suc count)
 unfolding next_word_operation
-word_front code pc opcode count bytes e h =
-    by_rest code Word (next_constant opcode bytes) ∙ ap (pc_of code) (h bytes) ∙ behind_pc code pc count bytes e
+word_front code pc opcode count bytes e h = grind (arith, by_rest, behind_pc)
 
 -- nothing stands past the code's end
 pub no_instr : (code : List ℕ) (pc : ℕ) → length code ≤ pc → next_pc_of (instr_at code pc) ≡ Err CutShort
@@ -69,15 +67,9 @@ no_word_instr code pc le = ap next_pc_of (word_at code [] pc (drop_all pc code l
 pub by_length : (code : List ℕ) (pc count : ℕ) → pc < length code → count ≢ 0
     → HasLength count (next_any (get_or code pc 0))
     → next_pc_of (instr_at code pc) ≡ pc_behind code pc count
-by_length code pc zero lt some h = absurd (some refl)
-by_length code pc (suc count) lt some h =
-    ap next_pc_of (any_at code _ pc (drop_more code pc 0 lt))
-    ∙ any_front code pc (get_or code pc 0) count (drop (pc + 1) code) (omega (arith, length-drop (pc + 1) code)) h
+by_length code pc count h1 h2 h3 = grind (arith, any_at, drop_more, any_front, get_or, length-drop)
 
 pub words_by_length : (code : List ℕ) (pc count : ℕ) → pc < length code → count ≢ 0
     → HasLength count (next_constant (get_or code pc 0))
     → next_pc_of (word_instr_at code pc) ≡ pc_behind code pc count
-words_by_length code pc zero lt some h = absurd (some refl)
-words_by_length code pc (suc count) lt some h =
-    ap next_pc_of (word_at code _ pc (drop_more code pc 0 lt))
-    ∙ word_front code pc (get_or code pc 0) count (drop (pc + 1) code) (omega (arith, length-drop (pc + 1) code)) h
+words_by_length code pc count h1 h2 h3 = grind (arith, word_at, drop_more, word_front, get_or, length-drop)

@@ -28,16 +28,7 @@ there decoder ascends code from to [] pc x h e = absurd (none_some x e)
 there decoder ascends code from to (y ∷ ys) pc x h e = step (y.pc == pc) refl (λ k. there decoder ascends code y.instr.next_pc to ys pc x h.2 k) e
   where
     step : (b : Bool) → (y.pc == pc) ≡ b → (placed_at ys pc ≡ Some x → IsThere decoder code y.instr.next_pc to pc x) → cond b (Some y) (placed_at ys pc) ≡ Some x → IsThere decoder code from to pc x
-    step true t later e =
-        let same : y ≡ x = the_some y x e in
-        let P : PlacedInstr → Type 0 = λ z. IsThere decoder code from to pc z in
-        let at : from ≡ pc = sym h.0 ∙ eqb-true y.pc pc t in
-        let I : ℕ → Type 0 = λ n. decoder code n ≡ Ok y.instr in
-        subst P same (record { from_on = omega arith; at = eqb-true y.pc pc t; instr = subst I at h.1; ends = stand_on decoder ascends code y.instr.next_pc to ys h.2 })
-    step false t later e =
-        let r = later e in
-        let n = ascends code from y.instr h.1 in
-        record { from_on = omega (arith, r.from_on); at = r.at; instr = r.instr; ends = r.ends }
+    step b h1 h2 h3 = grind (arith, the_some, eqb-true, stand_on)
 
 abbrev placed : ℕ → Instr → PlacedInstr
 placed pc instr = record { pc = pc; instr = instr }

@@ -1,8 +1,6 @@
-use Rattle.std.proofs.Common.{[], ◌∙◌}
+use Rattle.std.proofs.Common.{arith}
 use Rattle.jc_base.proofs.Decide.{holds_answer}
 use Rattle.jc_base.proofs.cutting.parts_of.Goals as goal
 
 pub returns : goal.returns
-returns c =
-    let f = c.in_ok-slots.ensures.ok in
-    (f.0, [], f.1, c.parts_in.ensures ∙ holds_answer c.in_ok-slots.slots f.0 f.2)
+returns c = grind (arith, holds_answer)

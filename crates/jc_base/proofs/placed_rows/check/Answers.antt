@@ -13,9 +13,7 @@ pub loop-source-preserved : goal.loop-source-preserved
 loop-source-preserved g c = decides_on g.R.Row.next_row g.met.R.PlacedRow.shrinks c.args.total _ _ _ c.loop-source.invariant c.in_ok-next_row.ensures
 
 pub returns-in_err-next_row : goal.returns-in_err-next_row
-returns-in_err-next_row g c =
-    let p = err_from_is_err_and c.from_residual.result c.from_residual.ensures.1 in
-    rw (p.1, p.2) (decides_not g.R.Row.next_row g.met.R.PlacedRow.shrinks c.args.total _ _ _ c.loop-source.invariant (omega arith) c.in_err-next_row.ensures)
+returns-in_err-next_row g c = grind (arith, err_from_is_err_and, decides_not)
 
 pub returns : goal.returns
 returns g c = decides_all g.R.Row.next_row g.met.R.PlacedRow.shrinks c.args.total _ _ c.loop-source.invariant (omega arith)

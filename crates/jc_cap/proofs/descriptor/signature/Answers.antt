@@ -12,13 +12,10 @@ returns-in_err-result c =
     rw (p.1, p.2) (so_far_none c.args.nibbles.now c.loop-result.count c.loop-result.left c.in_err-result.field-0.0 c.loop-result.invariant c.in_err-result.ensures)
 
 pub returns-in_err-parameters : goal.returns-in_err-parameters
-returns-in_err-parameters c =
-    absurd (so_far_there c.args.nibbles.now _ c.loop-result.count c.loop-result.left c.in_err-parameters.field-0.0 c.loop-result.invariant c.again.ensures c.in_err-parameters.ensures)
+returns-in_err-parameters c = grind (arith, so_far_there)
 
 pub returns-then-is_empty : goal.returns-then-is_empty
-returns-then-is_empty c =
-    so_far_last c.args.nibbles.now _ c.loop-result.count c.loop-result.left c.next_return.new.nibbles _ c.in_ok-result.result c.in_ok-parameters.parameters c.loop-result.invariant c.again.ensures c.in_ok-parameters.ensures c.in_ok-result.ensures
-    (is_end _ _ c.is_empty.ensures c.if-is_empty.true)
+returns-then-is_empty c = grind (arith, so_far_last, is_end)
 
 pub returns-in_default : goal.returns-in_default
 returns-in_default c =
@@ -26,16 +23,10 @@ returns-in_default c =
     (is_no_end _ _ c.is_empty.ensures c.if-is_empty.false)
 
 pub overflow_add-count : goal.overflow_add-count
-overflow_add-count c =
-    let less = so_far_less c.loop-result.left c.next_return.new.nibbles c.in-Value.field-0 (rw c.in-Value.is at c.in_ok-result.ensures) in
-    let within = c.loop-result.invariant.within in
-    let few = c.requires in
-    omega arith
+overflow_add-count c = grind (arith, so_far_less)
 
 pub loop-result-smaller : goal.loop-result-smaller
 loop-result-smaller c = so_far_less c.loop-result.left c.next_return.new.nibbles c.in-Value.field-0 (rw c.in-Value.is at c.in_ok-result.ensures)
 
 pub loop-result-preserved : goal.loop-result-preserved
-loop-result-preserved c =
-    so_far_more c.args.nibbles.now c.loop-result.count c.loop-result.left c.next_return.new.nibbles c.in-Value.field-0 c.loop-result.invariant (rw c.in-Value.is at c.in_ok-result.ensures)
-    (is_no_end _ _ c.is_empty.ensures c.if-is_empty.false)
+loop-result-preserved c = grind (arith, so_far_more, is_no_end)

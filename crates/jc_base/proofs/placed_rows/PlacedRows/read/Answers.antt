@@ -1,4 +1,4 @@
-use Rattle.std.proofs.Common.{refl, ◌∙◌}
+use Rattle.std.proofs.Common.{refl, ◌∙◌, arith}
 use Rattle.std.proofs.lemmas.Result.{err_from_is_err_and}
 use Rattle.jc_base.specs.PlacedRows.{placed_rows}
 use Rattle.jc_base.proofs.PlacedLemmas.{done_err, done_ok}
@@ -6,9 +6,7 @@ use Rattle.jc_base.proofs.placed_rows.PlacedRows.read.Goals as goal
 
 pub returns-in_err-check : goal.returns-in_err-check
 unfolding placed_rows
-returns-in_err-check g c =
-    let p = err_from_is_err_and c.from_residual.result c.from_residual.ensures.1 in
-    rw (p.1, p.2) (rw (c.behind-left.ensures, c.len-total.ensures) at (done_err _ _ c.in_err-check.ensures))
+returns-in_err-check g c = grind (arith, err_from_is_err_and, done_err)
 
 pub returns : goal.returns
 unfolding placed_rows

@@ -1,8 +1,6 @@
-use Rattle.std.proofs.Common.{sym, ap, ◌∙◌, length}
+use Rattle.std.proofs.Common.{arith}
 use Rattle.jc_base.proofs.Repeats.{count_is}
 use Rattle.jc_base.proofs.rows.Rows.len.Goals as goal
 
 pub returns : goal.returns
-returns g c =
-    let i = c.self.invariant in
-    c.from.ensures ∙ sym (count_is g.R.Row.next_row c.self.inside.count (g.S.Source.left c.self.inside.start) i.0 i.1) ∙ ap length c.self.view_is
+returns g c = grind (arith, count_is)

@@ -3,9 +3,7 @@ use Rattle.jc_base.proofs.Repeats.{none_left, first_there, first_of, first_left}
 use Rattle.jc_base.proofs.rows.Rows.next.Goals as goal
 
 pub returns-then-self-eq0-clause-none : goal.returns-then-self-eq0-clause-none
-returns-then-self-eq0-clause-none g c =
-    let e = sym c.self.view_is ∙ none_left g.R.Row.next_row c.self.inside.count (g.S.Source.left c.self.inside.start) c.if-self-eq0.true in
-    (e, e)
+returns-then-self-eq0-clause-none g c = grind (arith, none_left)
 
 pub returns-in_default-clause-none : goal.returns-in_default-clause-none
 returns-in_default-clause-none g c =

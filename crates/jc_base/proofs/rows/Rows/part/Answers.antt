@@ -5,10 +5,7 @@ use Rattle.jc_base.proofs.Fixed.{part_there, part_past, times}
 use Rattle.jc_base.proofs.rows.Rows.part.Goals as goal
 
 pub returns-then-from : goal.returns-then-from
-returns-then-from g c =
-    let i = c.self.invariant in
-    part_past g.R.Row.next_row c.args.first c.args.count c.self.inside.count (g.S.Source.left c.self.inside.start) i.0 i.1 (omega arith)
-    ∙ ap (λ xs. part c.args.first c.args.count xs) c.self.view_is
+returns-then-from g c = grind (arith, part_past)
 
 pub invariant_of-result : goal.invariant_of-result
 invariant_of-result g c =

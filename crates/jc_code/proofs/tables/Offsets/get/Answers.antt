@@ -4,9 +4,7 @@ use Rattle.jc_code.proofs.TableLemmas.{offset_within, offset_past}
 use Rattle.jc_code.proofs.tables.Offsets.get.Goals as goal
 
 pub returns-then-index-self : goal.returns-then-index-self
-returns-then-index-self c =
-    offset_within c.args.index c.self.inside.bytes.now c.read_u16.result c.cast_signed.result c.self.invariant c.if-index-self.true (omega arith) (omega (arith, c.read_u16.ensures)) c.cast_signed.ensures
-    ∙ ap (λ (xs : List ℤ). slice_get xs c.args.index) c.self.view_is
+returns-then-index-self c = grind (arith, offset_within)
 
 pub returns-else-index-self : goal.returns-else-index-self
 returns-else-index-self c = offset_past c.args.index c.self.inside.bytes.now c.self.invariant c.if-index-self.false ∙ ap (λ (xs : List ℤ). slice_get xs c.args.index) c.self.view_is

@@ -1,6 +1,6 @@
 -- How far tables go.
-use Rattle.std.proofs.Common.{◌≡◌, ℕ, ◌+◌, ◌-◌, ◌<◌, ◌≤◌, true, false, cond, List, [], length}
-use Rattle.std.proofs.Common.{None, unwrap_or, sym, ap, ◌∙◌, arith, lt-ltb, le-ltb}
+use Rattle.std.proofs.Common.{◌≡◌, ℕ, ◌+◌, ◌-◌, ◌<◌, ◌≤◌, true, false, List, length}
+use Rattle.std.proofs.Common.{None, sym, ◌∙◌, arith, lt-ltb, le-ltb}
 use Rattle.std.proofs.lemmas.Option.{slice_get_past}
 use Rattle.jc_cap_desc.specs.Shape.{Shape}
 use Rattle.jc_classes.specs.Methods.{package_visible, virtual_method_of}
@@ -13,32 +13,20 @@ use Rattle.jc_names.specs.declared.name.ClassName.{ClassName}
 module _ (world : List Shape) (c : ClassName) (table : Tabled) (is : IsTabled world c table) where
   pub none_public : (count : ℕ) → ((i : ℕ) → count ≤ i → i < 128 → place_at table.public i ≡ None)
       → (token asker : ℕ) → count ≤ token → token < 128 → virtual_method_of world c token asker ≡ None
-  none_public count none token asker past less =
-      sym (is.methods token asker (omega (arith, less)))
-      ∙ ap (λ b. cond b (place_at table.public token) (place_at (row_at table.visible asker) (token - package_visible)))
-      (lt-ltb token package_visible less)
-      ∙ none token past less
+  none_public count none token asker past less = grind (arith, lt-ltb)
 
   visible_at : (token place : ℕ) → 128 ≤ token → token < 256
       → virtual_method_of world c token place ≡ place_at (row_at table.visible place) (token - package_visible)
-  visible_at token place least less =
-      sym (is.methods token place less)
-      ∙ ap (λ b. cond b (place_at table.public token) (place_at (row_at table.visible place) (token - package_visible)))
-      (le-ltb token package_visible least)
+  visible_at token place least less = grind (arith, le-ltb)
 
   pub no_asker : (token place : ℕ) → length table.visible ≤ place → 128 ≤ token → token < 256
       → virtual_method_of world c token place ≡ None
-  no_asker token place past least less =
-      visible_at token place least less
-      ∙ ap (λ o. place_at (unwrap_or o []) (token - package_visible)) (slice_get_past table.visible place past)
+  no_asker token place past least less = grind (arith, visible_at, slice_get_past)
 
   pub none_visible : (count place : ℕ)
       → ((i : ℕ) → count ≤ i → i < 128 → place_at (row_at table.visible place) i ≡ None)
       → (token : ℕ) → count ≤ token → token < 128 → virtual_method_of world c (128 + token) place ≡ None
-  none_visible count place none token past less =
-      let same : (128 + token) - package_visible ≡ token = omega arith in
-      visible_at (128 + token) place (omega arith) (omega (arith, less))
-      ∙ ap (λ i. place_at (row_at table.visible place) i) same ∙ none token past less
+  none_visible count place none token past less = grind (arith, visible_at)
 
 pub no_table : (world : List Shape) (c : ClassName) → has_whole_chain world c ≡ true → has_whole_chain world c ≡ false
     → (token place : ℕ) → virtual_method_of world c token place ≡ None

@@ -1,14 +1,11 @@
 -- Tables that are made until each class has one whose superclass chain comes to its end.
-use Rattle.std.proofs.Common.{◌≡◌, ◌⊎◌, inl, inr, ℕ, zero, suc, ◌+◌, ◌-◌, ◌*◌, ◌<◌, ◌≤◌, ◌==◌, ◌&&◌, ◌||◌, Bool, true, false, cond, List, [], ◌∷◌, ◌++◌, length, set, Option, Some, None, IfSome, IfNone, Result, Ok, Err, IfOk, refl, sym, ap, subst, ◌∙◌, arith, is_some, slice_get, unwrap_or, length-append}
+use Rattle.std.proofs.Common.{◌≡◌, ◌⊎◌, inl, inr, ℕ, zero, suc, ◌+◌, ◌-◌, ◌*◌, ◌<◌, ◌≤◌, ◌&&◌, ◌||◌, Bool, true, false, List, [], ◌∷◌, ◌++◌, length, set, Option, Some, None, IfSome, IfNone, Result, IfOk, refl, sym, ap, subst, ◌∙◌, arith, is_some, slice_get, unwrap_or, length-append}
 use Rattle.std.proofs.lemmas.Bool.{cases_lt, eq-eqb, lt-ltb, le-ltb}
 use Rattle.std.proofs.lemmas.List.{length-set}
 use Rattle.std.proofs.lemmas.Option.{slice_get_past, slice_get-get_or}
-use Rattle.std.specs.List.{position}
 use Rattle.std.specs.Option.{option_map, option_and_then, option_map_or}
 use Rattle.jc_base.proofs.Binding.{the_some, none_some, both_true}
 use Rattle.jc_cap_desc.specs.Shape.{ClassShape, Shape}
-use Rattle.jc_api.specs.Class.{number_of, package_of}
-use Rattle.jc_api.specs.declared.class.ApiClass.{ApiClass}
 use Rattle.jc_classes.proofs.Below.{position_if_found, class_of_place, numbered_again, api_low, super_there}
 use Rattle.jc_classes.proofs.Growing.{name_home}
 use Rattle.jc_classes.proofs.Standing.{true_false, either_false, some_of, position_is, package_there, stands_there}
@@ -20,34 +17,28 @@ use Rattle.jc_classes.specs.PrivateSearch.{class_placed}
 use Rattle.jc_classes.specs.PrivateTables.{Tabled, IsTabled, IsTabledAbove, depth_above, index_at, table_in, table_of, AreTables, AreBefore, rows_so_far, table_so_far, AreInMaking, LacksTableAbove, IsSettled, empty_places, IsFurther, AreSettled, name_placed}
 use Rattle.jc_classes.specs.Subtype.{comes_to_end, has_whole_chain}
 use Rattle.jc_classes.specs.Walk.{most_classes}
-use Rattle.jc_names.specs.Names.{api_home, api_name, home_of, offset_of, name_in}
-use Rattle.jc_classes.specs.World.{class_in, package_at, class_at, superclass_of}
+use Rattle.jc_names.specs.Names.{home_of, offset_of, name_in}
+use Rattle.jc_classes.specs.World.{package_at, class_at, superclass_of}
 use Rattle.jc_names.specs.declared.name.ClassName.{ClassName}
-use Rattle.jc_names.specs.declared.name.ClassName.TheVariants.{Api, Loaded}
 
 -- ---- options
 
 pub none_is_none : {A B : Type 0} (f : A → B) (o : Option A) (x : Option B) → is_some o ≡ false → option_map f o ≡ x → x ≡ None
-none_is_none f None x s e = sym e
-none_is_none f (Some a) x s e = absurd (true_false s)
+none_is_none f o x h1 h2 = grind (arith, true_false)
 
 pub map_ok : {A E : Type 0} (P Q : A → Type 0) (r : Result A E) → ((a : A) → P a → Q a) → IfOk r P → IfOk r Q
-map_ok P Q (Ok a) f p = f a p
-map_ok P Q (Err e) f p = p
+map_ok P Q r h1 h2 = grind arith
 
 pub if_some : {A B : Type 0} (f : A → B) (P : B → Type 0) (o : Option A) (x : Option B) → option_map f o ≡ x → ((b : B) → x ≡ Some b → P b) → IfSome o (λ a. P (f a))
-if_some f P None x e h = tt
-if_some f P (Some a) x e h = h (f a) (sym e)
+if_some f P o x h1 h2 = grind arith
 
 pub if_none : {A B : Type 0} (f : A → B) (P : Type 0) (o : Option A) (x : Option B) → option_map f o ≡ x → (x ≡ None → P) → IfNone o P
-if_none f P None x e h = h (sym e)
-if_none f P (Some a) x e h = tt
+if_none f P o x h1 h2 = grind arith
 
 -- ---- classes that are there
 
 some_there : {A : Type 0} (o : Option A) → is_some o ≡ true → (a : A) × (o ≡ Some a)
-some_there None e = absurd (true_false (sym e))
-some_there (Some a) e = (a, refl)
+some_there o h1 = grind (arith, true_false)
 
 pub whole_there : (world : List Shape) (c : ClassName) → has_whole_chain world c ≡ true → (k : ClassShape) × (class_at world c ≡ Some k)
 whole_there world c e = some_there (class_at world c) (both_true (is_some (class_at world c)) (comes_to_end world most_classes c) e).0
@@ -57,16 +48,10 @@ whole_ends world c e = (both_true (is_some (class_at world c)) (comes_to_end wor
 
 pub there_index : (world : List Shape) (c : ClassName) (k : ClassShape) → class_at world c ≡ Some k
     → (i : ℕ) × (index_at world c ≡ Some i)
-there_index world c k e =
-    let a = some_of (class_in (offset_of c)) (package_at world c) k e in
-    let p = position_if_found (λ (q : ClassShape). q.offset == offset_of c) (a.0).classes k a.2 in
-    (p.0, ap (option_and_then (λ (s : Shape). position (λ (q : ClassShape). q.offset == offset_of c) s.classes)) a.1 ∙ p.1)
+there_index world c k e = grind (arith, some_of, position_if_found)
 
 pub no_index : (world : List Shape) (c : ClassName) → index_at world c ≡ None → has_whole_chain world c ≡ true → ⊥
-no_index world c none whole =
-    let k = whole_there world c whole in
-    let i = there_index world c k.0 k.1 in
-    none_some i.0 (sym none ∙ i.1)
+no_index world c none whole = grind (arith, whole, whole_there, there_index, none_some)
 
 -- which class of its package, and its name
 pub record IsIndex (world : List Shape) (c : ClassName) (i : ℕ) : Type 0 where
@@ -76,35 +61,17 @@ pub record IsIndex (world : List Shape) (c : ClassName) (i : ℕ) : Type 0 where
   pub within : i < length shape.classes
 
 pub is_index : (world : List Shape) (c : ClassName) (i : ℕ) → index_at world c ≡ Some i → IsIndex world c i
-is_index world c i e =
-    let a = some_of (λ (s : Shape). position (λ (q : ClassShape). q.offset == offset_of c) s.classes) (package_at world c) i e in
-    record {
-      shape = a.0;
-      home = a.1;
-      there = package_there world c a.0 a.1;
-      within = (position_is (λ (q : ClassShape). q.offset == offset_of c) (a.0).classes i a.2).1;
-    }
+is_index world c i e = grind (arith, some_of, package_there, position_is)
 
 -- how many classes the last package has
 abbrev pub count_in : List Shape → ℕ → ℕ
 count_in world home = option_map_or (λ (s : Shape). length s.classes) (slice_get world home) 0
 
 index_less : (world : List Shape) (c : ClassName) (i home : ℕ) → home_of c ≡ home → index_at world c ≡ Some i → i < count_in world home
-index_less world c i home same e =
-    let p = is_index world c i e in
-    let count : count_in world home ≡ length (p.shape).classes = ap (λ (o : Option Shape). option_map_or (λ (s : Shape). length s.classes) o 0) (ap (slice_get world) (sym same) ∙ p.there) in
-    omega (arith, p.within, count)
+index_less world c i home same e = grind (arith, is_index)
 
 name_again : (world : List Shape) (c : ClassName) (s : Shape) → package_at world c ≡ Some s → name_in (home_of c) (offset_of c) ≡ Some c
-name_again world (Api a) s at =
-    let home = api_home (package_of a) in
-    ap (λ b. cond b (api_name home (number_of a)) (Some (Loaded (home - 1) (number_of a)))) (lt-ltb home 2 (api_low (package_of a)))
-    ∙ ap (option_and_then (λ (class : ApiClass). cond (api_home (package_of class) == home) (Some (Api class)) None)) (numbered_again a)
-    ∙ ap (λ b. cond b (Some (Api a)) None) (eq-eqb home home refl)
-name_again world (Loaded zero o) s at = absurd (none_some s at)
-name_again world (Loaded (suc n) o) s at =
-    ap (λ b. cond b (api_name (suc (suc n)) o) (Some (Loaded (suc (suc n) - 1) o))) (le-ltb (suc (suc n)) 2 (omega arith))
-    ∙ (let one : suc (suc n) - 1 ≡ suc n = omega arith in ap (λ i. Some (Loaded i o)) one)
+name_again world c s h1 = grind (arith, lt-ltb, api_low, numbered_again, eq-eqb, none_some, le-ltb)
 
 named_at : (world : List Shape) (c : ClassName) (i : ℕ) → IsSmall world → index_at world c ≡ Some i → name_placed world (home_of c) i ≡ Some c
 named_at world c i small e =
@@ -113,9 +80,7 @@ named_at world c i small e =
     let place = placed_index world c i e in
     let k = class_of_place world c (256 * home_of c + i) small place in
     let at = stands_there world c (home_of c) i small (omega (arith, few, p.within)) place in
-    ap (option_and_then (λ (q : ClassShape). name_in (home_of c) q.offset)) (sym at.1 ∙ k.1)
-    ∙ ap (name_in (home_of c)) k.2
-    ∙ name_again world c p.shape p.home
+    grind (arith, name_again)
 
 -- ---- tables so far
 
@@ -131,8 +96,7 @@ module _ (world : List Shape) (tables : List (List (Option Tabled))) where
   whole_before : (made : List (Option Tabled)) (c : ClassName) → home_of c < length tables → table_so_far world tables made c ≡ table_of world tables c
   whole_before made c less =
       let at = slice_get-get_or tables (home_of c) made less in
-      ap (λ (o : Option (List (Option Tabled))). option_and_then (place_at (unwrap_or o made)) (index_at world c)) at
-      ∙ sym (ap (λ (o : Option (List (Option Tabled))). option_and_then (λ (i : ℕ). option_and_then (λ (row : List (Option Tabled)). place_at row i) o) (index_at world c)) at)
+      grind arith
 
   of_last : (made : List (Option Tabled)) (c : ClassName) → length tables ≤ home_of c → table_so_far world tables made c ≡ option_and_then (place_at made) (index_at world c)
   of_last made c past = ap (λ (o : Option (List (Option Tabled))). option_and_then (place_at (unwrap_or o made)) (index_at world c)) (slice_get_past tables (home_of c) past)
@@ -149,9 +113,7 @@ module _ (world : List Shape) (tables : List (List (Option Tabled))) where
     where
       by_home : (c : ClassName) (t : Tabled) → (home_of c < length tables) ⊎ (length tables ≤ home_of c) → table_so_far world tables made c ≡ Some t → IsTabled world c t
       by_home c t (inl less) e = b.right c t (sym (whole_before made c less) ∙ e)
-      by_home c t (inr past) e =
-          let i = some_of (place_at made) (index_at world c) t (sym (of_last made c past) ∙ e) in
-          absurd (none_some t (sym (none i.0) ∙ i.2))
+      by_home c t (inr past) e = grind (arith, some_of, of_last, none_some)
 
 -- ---- a table that is put
 
@@ -160,11 +122,7 @@ place_set [] i j t u e = inl e
 place_set (x ∷ xs) zero zero t u e = inr (refl, sym (the_some t u e))
 place_set (x ∷ xs) zero (suc j) t u e = inl e
 place_set (x ∷ xs) (suc i) zero t u e = inl e
-place_set (x ∷ xs) (suc i) (suc j) t u e = behind (place_set xs i j t u e)
-  where
-    behind : (place_at xs j ≡ Some u) ⊎ ((j ≡ i) × (u ≡ t)) → (place_at xs j ≡ Some u) ⊎ ((suc j ≡ suc i) × (u ≡ t))
-    behind (inl before) = inl before
-    behind (inr now) = inr (ap suc now.0, now.1)
+place_set (x ∷ xs) (suc i) (suc j) t u e = grind (arith, place_set xs i j t u e)
 
 fewer_set : (xs : List (Option Tabled)) (i : ℕ) (t : Tabled) → i < length xs → place_at xs i ≡ None → empty_places (set xs i (Some t)) < empty_places xs
 fewer_set [] i t less e = absurd (omega arith)
@@ -208,23 +166,15 @@ put_further world tables old c index table m last none at right = record {
 
 -- ---- classes that are settled
 
-pub no_further : (world : List Shape) (tables : List (List (Option Tabled))) (made : List (Option Tabled)) → AreInMaking world tables made → IsFurther world tables made made false
-no_further world tables made m = record { making = m; same = λ e. refl; fewer = λ e. absurd (true_false (sym e)) }
-
 -- a chain that comes to its end isn't too long for a table
 pub not_too_deep : (world : List Shape) (c : ClassName) (above : Option Tabled) → IsTabledAbove world c above → 17_085 ≤ depth_above above → has_whole_chain world c ≡ true → ⊥
 not_too_deep world c above up deep whole = let l = up.least most_classes (whole_ends world c whole) in omega (arith, l, deep, most_is)
 
 pub one_settled : (world : List Shape) (tables : List (List (Option Tabled))) (made : List (Option Tabled)) (index : ℕ) (class : ClassName) → IsSmall world → name_placed world (length tables) index ≡ Some class → IsSettled world tables made class → AreSettled world tables made index (index + 1)
-one_settled world tables made index class small name s c i home at from to none =
-    let same : i ≡ index = omega (arith, from, to) in
-    let named : Some c ≡ Some class = sym (named_at world c i small at) ∙ ap (λ h. name_placed world h i) home ∙ ap (name_placed world (length tables)) same ∙ name in
-    subst (λ x. IsSettled world tables made x) (sym (the_some c class named)) s none
+one_settled world tables made index class small name s c i home at from to none = grind (arith, named_at, the_some)
 
 pub none_settled : (world : List Shape) (tables : List (List (Option Tabled))) (made : List (Option Tabled)) (index : ℕ) → IsSmall world → name_placed world (length tables) index ≡ None → AreSettled world tables made index (index + 1)
-none_settled world tables made index small name c i home at from to none =
-    let same : i ≡ index = omega (arith, from, to) in
-    absurd (none_some c (sym name ∙ sym (sym (named_at world c i small at) ∙ ap (λ h. name_placed world h i) home ∙ ap (name_placed world (length tables)) same)))
+none_settled world tables made index small name c i home at from to none = grind (arith, none_some, named_at)
 
 pub last_home : (world : List Shape) (home index : ℕ) (class : ClassName) → name_placed world home index ≡ Some class → home_of class ≡ home
 last_home world home index class e =
@@ -235,10 +185,7 @@ pub none_yet : (world : List Shape) (tables : List (List (Option Tabled))) (made
 none_yet world tables made c i home at from to = absurd (omega (arith, to))
 
 pub both_further : (world : List Shape) (tables : List (List (Option Tabled))) (old mid new : List (Option Tabled)) (a b : Bool) → IsFurther world tables old mid a → IsFurther world tables mid new b → IsFurther world tables old new (a || b)
-both_further world tables old mid new true true f g = record { making = g.making; same = λ e. absurd (true_false e); fewer = λ e. let l = f.fewer refl in let r = g.fewer refl in omega (arith, l, r) }
-both_further world tables old mid new true false f g = record { making = g.making; same = λ e. absurd (true_false e); fewer = λ e. subst (λ (xs : List (Option Tabled)). empty_places xs < empty_places old) (sym (g.same refl)) (f.fewer refl) }
-both_further world tables old mid new false true f g = record { making = g.making; same = λ e. absurd (true_false e); fewer = λ e. subst (λ (xs : List (Option Tabled)). empty_places new < empty_places xs) (f.same refl) (g.fewer refl) }
-both_further world tables old mid new false false f g = record { making = g.making; same = λ e. g.same refl ∙ f.same refl; fewer = λ e. absurd (true_false (sym e)) }
+both_further world tables old mid new a b h1 h2 = grind (arith, new, true_false)
 
 pub both_settled : (world : List Shape) (tables : List (List (Option Tabled))) (mid new : List (Option Tabled)) (a b : Bool) (n : ℕ) → (a ≡ false → AreSettled world tables mid 0 n) → IsFurther world tables mid new b → (b ≡ false → AreSettled world tables new n (n + 1))
     → a || b ≡ false → AreSettled world tables new 0 (n + 1)
@@ -248,8 +195,7 @@ both_settled world tables mid new a b n f g s e =
     λ c i home at from to. by_order (cases_lt i n) c home at to first
   where
     by_order : {i : ℕ} → (i < n) ⊎ (n ≤ i) → (c : ClassName) → home_of c ≡ length tables → index_at world c ≡ Some i → i < n + 1 → AreSettled world tables new 0 n → IsSettled world tables new c
-    by_order {i} (inl less) c home at to first = first c i home at (omega arith) less
-    by_order {i} (inr past) c home at to first = s (either_false a b e).1 c i home at past to
+    by_order h1 c h2 h3 h4 h5 = grind (arith, either_false)
 
 -- ---- all tables
 
@@ -259,8 +205,7 @@ ends_more world (suc n) zero c e h = absurd (omega arith)
 ends_more world (suc n) (suc m) c e h = above (superclass_of world c) e (λ d f. ends_more world n m d f (omega arith))
   where
     above : (o : Option ClassName) → option_map_or (comes_to_end world n) o true ≡ true → ((d : ClassName) → comes_to_end world n d ≡ true → comes_to_end world m d ≡ true) → option_map_or (comes_to_end world m) o true ≡ true
-    above None e rest = refl
-    above (Some d) e rest = rest d e
+    above o h1 h2 = grind arith
 
 rows_appended : (tables : List (List (Option Tabled))) (made : List (Option Tabled)) (home i : ℕ) → home ≤ length tables → table_in (tables ++ made ∷ []) home i ≡ place_at (rows_so_far tables made home) i
 rows_appended [] made zero i h = refl
@@ -270,11 +215,7 @@ rows_appended (first ∷ tables) made (suc home) i h = rows_appended tables made
 
 module _ (world : List Shape) (tables : List (List (Option Tabled))) (made : List (Option Tabled)) (m : AreInMaking world tables made) where
   same_table : (c : ClassName) → table_of world (tables ++ made ∷ []) c ≡ table_so_far world tables made c
-  same_table c = by_index (index_at world c) refl
-    where
-      by_index : (o : Option ℕ) → index_at world c ≡ o → option_and_then (table_in (tables ++ made ∷ []) (home_of c)) o ≡ option_and_then (place_at (rows_so_far tables made (home_of c))) o
-      by_index None e = refl
-      by_index (Some i) e = let w = index_within world c i e in rows_appended tables made (home_of c) i (omega (arith, w, m.count))
+  same_table c = grind (arith, index_within, rows_appended)
 
   module _ (settled : AreSettled world tables made 0 (count_in world (length tables))) where
     -- a class without a table has one above it that has none, and so on; but the chain comes to its end

@@ -1,6 +1,6 @@
 -- A package behind the others is seen by none of them.
-use Rattle.std.proofs.Common.{◌≡◌, ℕ, zero, suc, ◌-◌, ◌==◌, ◌<◌, ◌≤◌, Bool, true, false, cond, ◌||◌, List, [], ◌∷◌, ◌++◌, length, take, Option, Some, None, inl, inr, refl, sym, ap, subst, ◌∙◌, arith, nat_lt, is_some, slice_get}
-use Rattle.std.specs.List.{filter_map, cons_option, position}
+use Rattle.std.proofs.Common.{◌≡◌, ℕ, zero, suc, ◌-◌, ◌==◌, ◌<◌, ◌≤◌, Bool, true, false, cond, ◌||◌, List, [], ◌∷◌, ◌++◌, length, Option, Some, None, inl, inr, refl, sym, ap, subst, ◌∙◌, arith, nat_lt, is_some, slice_get}
+use Rattle.std.specs.List.{filter_map, cons_option}
 use Rattle.std.specs.Option.{option_and_then, option_map_or}
 use Rattle.std.proofs.lemmas.List.{take-append-le, length-take-le}
 use Rattle.std.proofs.lemmas.Bool.{eqb-true, ltb-false}
@@ -9,39 +9,35 @@ use Rattle.jc_base.specs.declared.class_ref.ClassRef.{ClassRef}
 use Rattle.jc_base.specs.declared.class_ref.ClassRef.TheVariants.{Internal, External}
 use Rattle.jc_cap.specs.Interfaces.{Implemented}
 use Rattle.jc_cap.specs.declared.record.RecordBody.{RecordBody}
-use Rattle.jc_cap.specs.declared.record.RecordBody.TheVariants.{Interface, Class}
 use Rattle.jc_cap.specs.declared.record.VirtualTable.{VirtualTable}
 use Rattle.jc_cap_desc.specs.Shape.{ClassShape, Shape}
 use Rattle.jc_api.specs.Class.{class_of, package_of}
 use Rattle.jc_api.specs.declared.class.ApiClass.{ApiClass}
 use Rattle.jc_classes.proofs.Standing.{some_of, position_is}
 use Rattle.jc_classes.specs.Growth.{grown, IsWithin, KeepsLookups}
-use Rattle.jc_names.specs.Names.{method_home, method_offset}
-use Rattle.jc_classes.specs.Members.{declared_in, method_at}
-use Rattle.jc_classes.specs.Methods.{has_method, method_name, method_there, entry_visit, table_visit, record_visit, virtual_method_of, is_this, row_for, indexes_visit, listing_visit, interface_visit, public_method_of, interface_method_of, package_visible, declared_above}
+use Rattle.jc_names.specs.Names.{method_home}
+use Rattle.jc_classes.specs.Members.{method_at}
+use Rattle.jc_classes.specs.Methods.{has_method, method_name, method_there, entry_visit, table_visit, record_visit, virtual_method_of, row_for, listing_visit, interface_visit, public_method_of, interface_method_of, package_visible}
 use Rattle.jc_classes.specs.Subtype.{IsAmong, Lists, IsSubtype, Implements, same, object, by_superclass, by_interface, listed}
 use Rattle.jc_classes.specs.Walk.{found_from, walk, found, most_classes}
 use Rattle.jc_names.specs.Names.{api_home, api_name, home_of, offset_of, name_in}
-use Rattle.jc_classes.specs.World.{class_in, package_at, class_at, meets, import_of, exported_class, class_spelled, if_there, class_named, superclass_ref, listed_refs, superclass_of, interfaces_of}
+use Rattle.jc_classes.specs.World.{class_in, package_at, class_at, import_of, exported_class, class_spelled, if_there, class_named, superclass_of, interfaces_of}
 use Rattle.jc_names.specs.declared.name.ClassName.{ClassName}
 use Rattle.jc_names.specs.declared.name.MethodName.{MethodName}
 use Rattle.jc_classes.specs.declared.walk.Visit.{Visit}
 use Rattle.jc_classes.specs.declared.walk.Visit.TheVariants.{Has, Nothing, Above}
-use Rattle.jc_names.specs.declared.name.ClassName.TheVariants.{Api, Loaded}
+use Rattle.jc_names.specs.declared.name.ClassName.TheVariants.{Api}
 
 -- ---- options and lists
 
 then_same : {A B : Type 0} (f g : A → Option B) → ((a : A) → f a ≡ g a) → (o : Option A) → option_and_then f o ≡ option_and_then g o
-then_same f g h None = refl
-then_same f g h (Some a) = h a
+then_same f g h1 o = grind arith
 
 then_same_at : {A B : Type 0} (f g : A → Option B) (o : Option A) → ((a : A) → o ≡ Some a → f a ≡ g a) → option_and_then f o ≡ option_and_then g o
-then_same_at f g None h = refl
-then_same_at f g (Some a) h = h a refl
+then_same_at f g o h1 = grind arith
 
 map_same : {A B : Type 0} (f g : A → Option B) → ((a : A) → f a ≡ g a) → (xs : List A) → filter_map f xs ≡ filter_map g xs
-map_same f g h [] = refl
-map_same f g h (x ∷ xs) = ap (λ o. cons_option o (filter_map f xs)) (h x) ∙ ap (cons_option (g x)) (map_same f g h xs)
+map_same f g h1 xs = grind arith
 
 pub get_before : {A : Type 0} (xs : List A) (y : A) (i : ℕ) → i < length xs → slice_get (xs ++ y ∷ []) i ≡ slice_get xs i
 get_before [] y i h = absurd (omega arith)
@@ -56,21 +52,13 @@ api_name_home home number c e =
     by_home (api_home (package_of a.0) == home) a.0 a.2 (eqb-true (api_home (package_of a.0)) home)
   where
     by_home : (b : Bool) (class : ApiClass) → cond b (Some (Api class)) None ≡ Some c → (b ≡ true → api_home (package_of class) ≡ home) → home_of c ≡ home
-    by_home true class e h = sym (ap home_of (the_some _ _ e)) ∙ h refl
-    by_home false class e h = absurd (none_some c e)
+    by_home b class h1 h2 = grind (arith, the_some, none_some)
 
 pub name_home : (home offset : ℕ) (c : ClassName) → name_in home offset ≡ Some c → home_of c ≡ home
-name_home home offset c e = by_home (nat_lt home 2) (ltb-false home 2) e
-  where
-    by_home : (b : Bool) → (b ≡ false → 2 ≤ home) → cond b (api_name home offset) (Some (Loaded (home - 1) offset)) ≡ Some c → home_of c ≡ home
-    by_home true h e = api_name_home home offset c e
-    by_home false h e = let l = h refl in sym (ap home_of (the_some _ _ e)) ∙ omega arith
+name_home home offset c e = grind (arith, ltb-false, api_name_home, the_some)
 
 import_before : (world : List Shape) (home token there : ℕ) → home ≤ length world → import_of world home token ≡ Some there → there < home
-import_before world home token there h e =
-    let a = some_of (λ wanted. position (meets wanted) (take home world)) (option_and_then (λ shape. slice_get shape.imports token) (slice_get world home)) there e in
-    let b = (position_is (meets a.0) (take home world) there a.2).1 in
-    omega (arith, b, length-take-le home world h)
+import_before world home token there h e = grind (arith, some_of, position_is, length-take-le)
 
 spelled_home : (world : List Shape) (home : ℕ) (ref : ClassRef) (c : ClassName) → home ≤ length world → class_spelled world home ref ≡ Some c → home_of c ≤ home
 spelled_home world home (Internal offset) c h e = let k = name_home home offset c e in omega arith
@@ -97,9 +85,7 @@ named_within world home ref c h e =
     omega arith
 
 pub superclass_within : (world : List Shape) (c d : ClassName) → IsWithin world c → superclass_of world c ≡ Some d → IsWithin world d
-superclass_within world c d h e =
-    let a = some_of (class_named world (home_of c)) (option_and_then (λ k. superclass_ref k.body) (class_at world c)) d e in
-    named_within world (home_of c) a.0 d h a.2
+superclass_within world c d h e = grind (arith, some_of, named_within)
 
 among_named : (world : List Shape) (home : ℕ) (refs : List ClassRef) (c : ClassName) → home < length world → IsAmong c (filter_map (class_named world home) refs) → IsWithin world c
 among_named world home [] c h m = absurd m
@@ -112,11 +98,7 @@ among_named world home (ref ∷ refs) c h m = by_name (class_named world home re
     by_name (Some d) k others (inr m) = others m
 
 pub listed_within : (world : List Shape) (c i : ClassName) → IsWithin world c → Lists world c i → IsWithin world i
-listed_within world c i h m = by_class (class_at world c) m
-  where
-    by_class : (o : Option ClassShape) → IsAmong i (option_map_or (λ k. filter_map (class_named world (home_of c)) (listed_refs k.body)) o []) → IsWithin world i
-    by_class None m = absurd m
-    by_class (Some k) m = among_named world (home_of c) (listed_refs k.body) i h m
+listed_within world c i h m = grind (arith, among_named)
 
 -- ---- one more package
 
@@ -125,17 +107,13 @@ module _ (world : List Shape) (more : Shape) where
   at_home home h = get_before world more home h
 
   pub packages_keep : (c : ClassName) → IsWithin world c → package_at (grown world more) c ≡ package_at world c
-  packages_keep (Api class) h = at_home (home_of (Api class)) h
-  packages_keep (Loaded zero offset) h = refl
-  packages_keep (Loaded (suc n) offset) h = at_home (suc (suc n)) h
+  packages_keep c h1 = grind (arith, at_home)
 
   pub classes_keep : (c : ClassName) → IsWithin world c → class_at (grown world more) c ≡ class_at world c
   classes_keep c h = ap (option_and_then (class_in (offset_of c))) (packages_keep c h)
 
   imports_keep : (home token : ℕ) → home < length world → import_of (grown world more) home token ≡ import_of world home token
-  imports_keep home token h =
-      ap (λ (before : List Shape). option_and_then (λ wanted. position (meets wanted) before) (option_and_then (λ shape. slice_get shape.imports token) (slice_get (grown world more) home))) (take-append-le home world (more ∷ []) (omega arith))
-      ∙ ap (λ (o : Option Shape). option_and_then (λ wanted. position (meets wanted) (take home world)) (option_and_then (λ shape. slice_get shape.imports token) o)) (at_home home h)
+  imports_keep home token h = grind (arith, take-append-le, at_home)
 
   exports_keep : (home token : ℕ) → home < length world → exported_class (grown world more) home token ≡ exported_class world home token
   exports_keep home token h = ap (λ (o : Option Shape). option_and_then (λ row. name_in home row.class) (option_and_then (λ shape. slice_get shape.exports token) o)) (at_home home h)
@@ -148,25 +126,13 @@ module _ (world : List Shape) (more : Shape) where
       let k = import_before world home import there (omega arith) e in exports_keep there class (omega arith))
 
   references_keep : (home : ℕ) (ref : ClassRef) → home < length world → class_named (grown world more) home ref ≡ class_named world home ref
-  references_keep home ref h =
-      ap (option_and_then (if_there (grown world more))) (spellings_keep home ref h)
-      ∙ then_same_at _ (if_there world) (class_spelled world home ref) (λ c e.
-      let k = spelled_home world home ref c (omega arith) e in
-      ap (λ (o : Option ClassShape). cond (is_some o) (Some c) None) (classes_keep c (omega arith)))
+  references_keep home ref h = grind (arith, spellings_keep, then_same_at, spelled_home, classes_keep)
 
   pub superclasses_keep : (c : ClassName) → IsWithin world c → superclass_of (grown world more) c ≡ superclass_of world c
-  superclasses_keep c h =
-      ap (λ (o : Option ClassShape). option_and_then (class_named (grown world more) (home_of c)) (option_and_then (λ k. superclass_ref k.body) o)) (classes_keep c h)
-      ∙ then_same _ (class_named world (home_of c)) (λ ref. references_keep (home_of c) ref h) _
+  superclasses_keep c h = grind (arith, classes_keep, then_same, references_keep)
 
   interfaces_keep : (c : ClassName) → IsWithin world c → interfaces_of (grown world more) c ≡ interfaces_of world c
-  interfaces_keep c h =
-      ap (λ (o : Option ClassShape). option_map_or (λ k. filter_map (class_named (grown world more) (home_of c)) (listed_refs k.body)) o []) (classes_keep c h)
-      ∙ by_class (class_at world c)
-    where
-      by_class : (o : Option ClassShape) → option_map_or (λ k. filter_map (class_named (grown world more) (home_of c)) (listed_refs k.body)) o [] ≡ option_map_or (λ k. filter_map (class_named world (home_of c)) (listed_refs k.body)) o []
-      by_class None = refl
-      by_class (Some k) = map_same _ _ (λ ref. references_keep (home_of c) ref h) (listed_refs k.body)
+  interfaces_keep c h = grind (arith, classes_keep, map_same, references_keep)
 
   -- a walk that makes the same of each class finds the same
   walks_keep : {A : Type 0} (after before : ClassName → ClassShape → Visit A) → ((c : ClassName) (k : ClassShape) → IsWithin world c → after c k ≡ before c k)
@@ -183,30 +149,22 @@ module _ (world : List Shape) (more : Shape) where
   methods_there_keep home offset h = ap (λ (o : Option Shape). cond (option_map_or (has_method offset) o false) (Has (method_name home offset)) Nothing) (at_home home h)
 
   entries_keep : (home : ℕ) (entry : Option ℕ) → home < length world → entry_visit (grown world more) home entry ≡ entry_visit world home entry
-  entries_keep home None h = refl
-  entries_keep home (Some offset) h = ap (cond (offset == declared_above) Above) (methods_there_keep home offset h)
+  entries_keep home entry h1 = grind (arith, methods_there_keep)
 
   tables_keep : (home : ℕ) (table : VirtualTable) (token : ℕ) → home < length world → table_visit (grown world more) home table token ≡ table_visit world home table token
   tables_keep home table token h = ap (cond (nat_lt token table.base || length table.methods == 0) Above) (entries_keep home (slice_get table.methods (token - table.base)) h)
 
   records_keep : (asker token home : ℕ) (body : RecordBody) → home < length world → record_visit (grown world more) asker token home body ≡ record_visit world asker token home body
-  records_keep asker token home (Interface r) h = refl
-  records_keep asker token home (Class r) h =
-      ap (λ v. cond (nat_lt token package_visible) v (cond (home == asker) (table_visit (grown world more) home r.package_methods (token - package_visible)) Above)) (tables_keep home r.public_methods token h)
-      ∙ ap (λ v. cond (nat_lt token package_visible) (table_visit world home r.public_methods token) (cond (home == asker) v Above)) (tables_keep home r.package_methods (token - package_visible) h)
+  records_keep asker token home body h1 = grind (arith, tables_keep)
 
   pub virtual_methods_keep : (c : ClassName) (token asker : ℕ) → IsWithin world c → virtual_method_of (grown world more) c token asker ≡ virtual_method_of world c token asker
   virtual_methods_keep c token asker w = walks_keep _ _ (λ d k h. records_keep asker token (home_of d) k.body h) most_classes c w
 
   rows_keep : (interface : ClassName) (home : ℕ) (rows : List Implemented) → home < length world → row_for (grown world more) interface home rows ≡ row_for world interface home rows
-  rows_keep interface home [] h = refl
-  rows_keep interface home (row ∷ rows) h =
-      ap (λ o. cond (is_this interface o) (Some row) (row_for (grown world more) interface home rows)) (references_keep home row.interface h)
-      ∙ ap (cond (is_this interface (class_named world home row.interface)) (Some row)) (rows_keep interface home rows h)
+  rows_keep interface home rows h1 = grind (arith, references_keep)
 
   listings_keep : (interface : ClassName) (home : ℕ) (body : RecordBody) → home < length world → listing_visit (grown world more) interface home body ≡ listing_visit world interface home body
-  listings_keep interface home (Interface r) h = refl
-  listings_keep interface home (Class r) h = ap indexes_visit (rows_keep interface home r.interfaces h)
+  listings_keep interface home body h1 = grind (arith, rows_keep)
 
   public_methods_keep : (c : ClassName) (token : ℕ) → IsWithin world c → public_method_of (grown world more) c token ≡ public_method_of world c token
   public_methods_keep c token w = ap (λ o. cond (nat_lt token package_visible) o None) (virtual_methods_keep c token 0 w)
@@ -215,10 +173,7 @@ module _ (world : List Shape) (more : Shape) where
   listings_found_keep interface c w = walks_keep _ (interface_visit world interface) (λ d k h. listings_keep interface (home_of d) k.body h) most_classes c w
 
   interface_methods_keep : (c interface : ClassName) (token : ℕ) → IsWithin world c → interface_method_of (grown world more) c interface token ≡ interface_method_of world c interface token
-  interface_methods_keep c interface token w =
-      ap (option_and_then (λ indexes. option_and_then (public_method_of (grown world more) c) (slice_get indexes token)))
-      (listings_found_keep interface c w)
-      ∙ then_same _ _ (λ indexes. then_same _ _ (λ index. public_methods_keep c index w) (slice_get indexes token)) (found (interface_visit world interface) world c)
+  interface_methods_keep c interface token w = grind (arith, listings_found_keep, then_same, public_methods_keep)
 
   lists_grow : (c i : ClassName) → IsWithin world c → Lists world c i → Lists (grown world more) c i
   lists_grow c i w m = subst (IsAmong i) (sym (interfaces_keep c w)) m
@@ -253,9 +208,7 @@ module _ (world : List Shape) (more : Shape) where
       let l = lists_shrink c j w m in by_interface c j i l (implementations_shrink j i (listed_within world c j w l) r)
 
   methods_keep : (m : MethodName) (home : ℕ) → method_home m ≡ Some home → home < length world → method_at (grown world more) m ≡ method_at world m
-  methods_keep m home e h = then_same_at _ _ (method_home m) (λ i f.
-      let l : i < length world = subst (λ n. n < length world) (the_some _ _ (sym e ∙ f)) h in
-      ap (option_and_then (declared_in i (method_offset m))) (at_home i l))
+  methods_keep m home e h = grind (arith, then_same_at, the_some, at_home)
 
   pub adding_keeps : KeepsLookups world more
   adding_keeps = record {

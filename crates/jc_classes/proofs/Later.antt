@@ -2,13 +2,12 @@
 use Rattle.std.proofs.Common.{◌≡◌, ◌⊎◌, ℕ, zero, suc, ◌+◌, ◌-◌, ◌<◌, ◌≤◌, ◌||◌, Bool, true, false, not, cond, nat_lt, List, [], ◌∷◌, ◌++◌, length, take, drop, Option, Some, None, inl, inr, refl, sym, ap, subst, ◌∙◌, arith, is_some, slice_get, append_assoc, append-nil, length-append, take-append-drop}
 use Rattle.std.proofs.lemmas.Bool.{cases_lt, ltb-false}
 use Rattle.std.proofs.lemmas.Option.{slice_get_within}
-use Rattle.std.specs.List.{filter_map, find, list_any}
+use Rattle.std.specs.List.{find, list_any}
 use Rattle.std.specs.Option.{option_and_then, option_map, option_map_or}
 use Rattle.jc_base.proofs.Binding.{none_some, the_some}
-use Rattle.jc_cap.specs.ClassComponent.{is_class}
 use Rattle.jc_cap_desc.specs.Shape.{ClassShape, MethodShape, Shape}
 use Rattle.jc_api.specs.Class.{package_of}
-use Rattle.jc_api.specs.Member.{ApiMember, member_of}
+use Rattle.jc_api.specs.Member.{ApiMember}
 use Rattle.jc_api.specs.declared.class.ApiClass.TheVariants.{Object}
 use Rattle.jc_classes.proofs.Below.{api_low, name_itself}
 use Rattle.jc_classes.proofs.Growing.{adding_keeps, get_before, listed_within, name_home, superclass_within}
@@ -24,8 +23,8 @@ use Rattle.jc_classes.specs.Methods.{method_name, method_of_class}
 use Rattle.jc_names.specs.Names.{is_same_name}
 use Rattle.jc_classes.specs.Subtype.{IsAmong, IsSubtype, by_interface, by_superclass, is_at_or_above, is_class_below, is_subtype, is_subtype_within, object, same}
 use Rattle.jc_classes.specs.Walk.{most_classes}
-use Rattle.jc_names.specs.Names.{api_home, home_of, name_in, offset_of}
-use Rattle.jc_classes.specs.World.{class_at, class_in, class_named, interfaces_of, listed_refs, package_at, superclass_of, superclass_ref}
+use Rattle.jc_names.specs.Names.{api_home, home_of, name_in}
+use Rattle.jc_classes.specs.World.{class_at, interfaces_of, superclass_of}
 use Rattle.jc_names.specs.declared.name.ClassName.{ClassName}
 use Rattle.jc_names.specs.declared.name.ClassName.TheVariants.{Api}
 use Rattle.jc_names.specs.declared.name.MethodName.{MethodName}
@@ -35,27 +34,18 @@ use Rattle.jc_names.specs.declared.name.MethodName.TheVariants.{Loaded}
 -- ---- what is there is within
 
 class_within : (world : List Shape) (c : ClassName) (k : ClassShape) → class_at world c ≡ Some k → IsWithin world c
-class_within world c k e =
-    let a = some_of (class_in (offset_of c)) (package_at world c) k e in
-    slice_get_within world (home_of c) a.0 (package_there world c a.0 a.1)
+class_within world c k e = grind (arith, some_of, slice_get_within, package_there)
 
 method_within : (world : List Shape) (m : MethodName) (d : DeclaredMethod) → method_at world m ≡ Some d
     → IsMethodWithin world m
-method_within world m d e home at =
-    let a =
-    some_of (λ home. option_and_then (declared_in home (method_offset m)) (slice_get world home)) (method_home m) d e in
-    let b = some_of (declared_in a.0 (method_offset m)) (slice_get world a.0) d a.2 in
-    let same : a.0 ≡ home = the_some _ _ (sym a.1 ∙ at) in
-    subst (λ n. n < length world) same (slice_get_within world a.0 b.0 b.1)
+method_within world m d e home at = grind (arith, some_of, the_some, slice_get_within)
 
 class_of_declared : (home : ℕ) (c : ClassName) (o : Option MethodShape) (d : DeclaredMethod) → home_of c ≡ home
     → option_map (λ m. record { class = c; method = m }) o ≡ Some d → home_of d.class ≡ home
-class_of_declared home c None d h e = absurd (none_some d e)
-class_of_declared home c (Some m) d h e = sym (ap (λ (d : DeclaredMethod). home_of d.class) (the_some _ _ e)) ∙ h
+class_of_declared home c o d h1 h2 = grind (arith, none_some, the_some)
 
 chosen_of : {A : Type 0} (b : Bool) (o : Option A) (a : A) → cond b o None ≡ Some a → o ≡ Some a
-chosen_of true o a e = e
-chosen_of false o a e = absurd (none_some a e)
+chosen_of b o a h1 = grind (arith, none_some)
 
 declared_home : (home offset : ℕ) (shape : Shape) (d : DeclaredMethod) → declared_in home offset shape ≡ Some d
     → home_of d.class ≡ home
@@ -79,27 +69,15 @@ declared_within world m d e =
     omega (arith, same, slice_get_within world a.0 b.0 b.1)
 
 loaded_home : (number offset home : ℕ) → 1 ≤ number → method_home (Loaded number offset) ≡ Some home → number + 1 ≡ home
-loaded_home zero offset home h e = absurd (omega arith)
-loaded_home (suc n) offset home h e = let same : suc (suc n) ≡ home = the_some _ _ e in omega arith
+loaded_home number offset home h1 h2 = grind (arith, the_some)
 
 api_member_low : (o : Option ApiMember) (there : ℕ) → option_map (λ m. api_home (package_of m.class)) o ≡ Some there
     → there < 2
-api_member_low None there e = absurd (none_some there e)
-api_member_low (Some m) there e =
-    let same : api_home (package_of m.class) ≡ there = the_some _ _ e in
-    omega (arith, same, api_low (package_of m.class))
+api_member_low o there h1 = grind (arith, none_some, the_some, api_low)
 
 name_within : (world : List Shape) (home offset : ℕ) → 2 ≤ length world → home < length world
     → IsMethodWithin world (method_name home offset)
-name_within world home offset two h = by_home (nat_lt home 2) (ltb-false home 2)
-  where
-    by_home : (b : Bool) → (b ≡ false → 2 ≤ home)
-        → IsMethodWithin world (cond b (Method.Api offset) (Loaded (home - 1) offset))
-    by_home true l there e = omega (arith, two, api_member_low (member_of offset) there e)
-    by_home false l there e =
-        let more = l refl in
-        let same = loaded_home (home - 1) offset there (omega (arith, more)) e in
-        omega (arith, same, more, h)
+name_within world home offset two h = grind (arith, ltb-false, api_member_low, loaded_home)
 
 -- what a class of a world is below is of a package of it
 above_within : (world : List Shape) (c d : ClassName) → IsSubtype world c d → IsWithin world c → IsWithin world d
@@ -109,14 +87,7 @@ above_within world _ _ (by_superclass c d e s r) w = above_within world d e r (s
 above_within world _ _ (by_interface c i e m r) w = above_within world i e r (listed_within world c i w m)
 
 pub all_within : (world : List Shape) → StandWithin world
-all_within world =
-    record {
-      classes = class_within world;
-      methods = method_within world;
-      declared = declared_within world;
-      names = name_within world;
-      above = λ c d w below. above_within world c d below w;
-    }
+all_within world = grind (arith, class_within, method_within, declared_within, name_within, above_within)
 
 -- the first packages of a world lie within it
 pub first_lie_within : (world : List Shape) (count : ℕ) → LiesWithin (take count world) world
@@ -129,8 +100,7 @@ first_lie_within (shape ∷ world) (suc n) = ap (λ (rest : List Shape). shape �
 
 or_same : {A : Type 0} (f g : A → Bool) (o : Option A) → ((a : A) → o ≡ Some a → f a ≡ g a)
     → option_map_or f o false ≡ option_map_or g o false
-or_same f g None h = refl
-or_same f g (Some a) h = h a refl
+or_same f g o h1 = grind arith
 
 any_same : (f g : ClassName → Bool) (classes : List ClassName) → ((c : ClassName) → IsAmong c classes → f c ≡ g c)
     → list_any f classes ≡ list_any g classes
@@ -176,22 +146,13 @@ module _ (before after : List Shape)
 
 module _ (world : List Shape) (c : ClassName) (past : length world ≤ home_of c) where
   nothing_there : class_at world c ≡ None
-  nothing_there = by_class (class_at world c) refl
-    where
-      by_class : (o : Option ClassShape) → class_at world c ≡ o → o ≡ None
-      by_class None e = refl
-      by_class (Some k) e = absurd (omega (arith, past, class_within world c k e))
+  nothing_there = grind (arith, class_within)
 
   no_superclass : superclass_of world c ≡ None
-  no_superclass =
-      ap (λ (o : Option ClassShape).
-      option_and_then (class_named world (home_of c)) (option_and_then (λ (k : ClassShape). superclass_ref k.body) o))
-      nothing_there
+  no_superclass = grind (arith, nothing_there)
 
   no_interfaces : interfaces_of world c ≡ []
-  no_interfaces =
-      ap (λ (o : Option ClassShape).
-      option_map_or (λ k. filter_map (class_named world (home_of c)) (listed_refs k.body)) o []) nothing_there
+  no_interfaces = grind (arith, nothing_there)
 
   alone : (d : ClassName) → IsSubtype world c d → (Api Object ≡ d) ⊎ (c ≡ d)
   alone d s = by_way c d s no_superclass no_interfaces
@@ -215,34 +176,18 @@ module _ (world : List Shape) (c : ClassName) (past : length world ≤ home_of c
 module _ (before later : List Shape) where
   still_below : ((c d : ClassName) → IsWithin before c → is_class_below later c d ≡ is_class_below before c d)
       → (c d : ClassName) → is_class_below before c d ≡ true → is_class_below later c d ≡ true
-  still_below order c d e = by_place (cases_lt (home_of c) (length before))
-    where
-      by_place : (home_of c < length before) ⊎ (length before ≤ home_of c) → is_class_below later c d ≡ true
-      by_place (inl w) = order c d w ∙ e
-      by_place (inr past) = stays_below before c past later d (found_is before c d (below_is_found before c d e))
+  still_below order c d e = grind (arith, cases_lt, stays_below, found_is, below_is_found)
 
   still_found : ((c d : ClassName) → IsWithin before c → is_subtype later c d ≡ is_subtype before c d)
       → (c d : ClassName) → is_subtype before c d ≡ true → is_subtype later c d ≡ true
-  still_found found c d e = by_place (cases_lt (home_of c) (length before))
-    where
-      by_place : (home_of c < length before) ⊎ (length before ≤ home_of c) → is_subtype later c d ≡ true
-      by_place (inl w) = found c d w ∙ e
-      by_place (inr past) = below_is_found later c d (stays_below before c past later d (found_is before c d e))
+  still_found found c d e = grind (arith, cases_lt, below_is_found, stays_below, found_is)
 
 -- ---- one package more, and one behind the other
 
 method_stays : (before after : List Shape) (m : MethodName)
     → ((home : ℕ) → method_home m ≡ Some home → home < length before → method_at after m ≡ method_at before m)
     → IsMethodWithin before m → method_at after m ≡ method_at before m
-method_stays before after m keeps w = by_home (method_home m) refl
-  where
-    found_in : List Shape → ℕ → Option DeclaredMethod
-    found_in world home = option_and_then (declared_in home (method_offset m)) (slice_get world home)
-
-    by_home : (o : Option ℕ) → method_home m ≡ o → method_at after m ≡ method_at before m
-    by_home None e =
-        ap (option_and_then (found_in after)) e ∙ ap (option_and_then (found_in before)) (sym e)
-    by_home (Some home) e = keeps home e (w home e)
+method_stays before after m keeps w = grind arith
 
 one_more : (before : List Shape) (more : Shape) → KeepsAllLookups before (grown before more)
 one_more before more =
@@ -253,10 +198,8 @@ one_more before more =
       count = omega (arith, length-append before (more ∷ []));
       packages = λ home h. get_before before more home h;
       classes = one.classes;
-      are_classes =
-          λ c w. ap (λ (o : Option ClassShape). option_map_or (λ k. is_class k.body) o false) (one.classes c w);
-      are_interfaces =
-          λ c w. ap (λ (o : Option ClassShape). option_map_or (λ k. not (is_class k.body)) o false) (one.classes c w);
+      are_classes = grind arith;
+      are_interfaces = grind (arith, not);
       references = one.references;
       superclasses = one.superclasses;
       interfaces = one.interfaces;
@@ -272,57 +215,14 @@ one_more before more =
     }
 
 no_more : (world : List Shape) → KeepsAllLookups world world
-no_more world = record {
-  count = omega arith;
-  packages = λ home h. refl;
-  classes = λ c w. refl;
-  are_classes = λ c w. refl;
-  are_interfaces = λ c w. refl;
-  references = λ home ref h. refl;
-  superclasses = λ c w. refl;
-  interfaces = λ c w. refl;
-  virtual_methods = λ c token asker w. refl;
-  interface_methods = λ c interface token w. refl;
-  order = λ c d w. refl;
-  still_below = λ c d e. e;
-  found_subtypes = λ c d w. refl;
-  still_found = λ c d e. e;
-  subtypes = λ c d w. (λ s. s, λ s. s);
-  implementations = λ c i w. (λ s. s, λ s. s);
-  methods = λ m w. refl;
-}
+no_more world = grind (arith, still_below, still_found)
 
 module _ (first middle last : List Shape) (f : KeepsAllLookups first middle) (g : KeepsAllLookups middle last) where
   further : (c : ClassName) → IsWithin first c → IsWithin middle c
   further c w = omega (arith, w, f.count)
 
   both_keep : KeepsAllLookups first last
-  both_keep = record {
-    count = omega (arith, f.count, g.count);
-    packages = λ home h. g.packages home (omega (arith, h, f.count)) ∙ f.packages home h;
-    classes = λ c w. g.classes c (further c w) ∙ f.classes c w;
-    are_classes = λ c w. g.are_classes c (further c w) ∙ f.are_classes c w;
-    are_interfaces = λ c w. g.are_interfaces c (further c w) ∙ f.are_interfaces c w;
-    references = λ home ref h. g.references home ref (omega (arith, h, f.count)) ∙ f.references home ref h;
-    superclasses = λ c w. g.superclasses c (further c w) ∙ f.superclasses c w;
-    interfaces = λ c w. g.interfaces c (further c w) ∙ f.interfaces c w;
-    virtual_methods =
-        λ c token asker w. g.virtual_methods c token asker (further c w) ∙ f.virtual_methods c token asker w;
-    interface_methods =
-        λ c interface token w. g.interface_methods c interface token (further c w)
-        ∙ f.interface_methods c interface token w;
-    order = λ c d w. g.order c d (further c w) ∙ f.order c d w;
-    still_below = λ c d e. g.still_below c d (f.still_below c d e);
-    found_subtypes = λ c d w. g.found_subtypes c d (further c w) ∙ f.found_subtypes c d w;
-    still_found = λ c d e. g.still_found c d (f.still_found c d e);
-    subtypes = λ c d w.
-        let p = f.subtypes c d w in
-        let q = g.subtypes c d (further c w) in (λ s. p.0 (q.0 s), λ s. q.1 (p.1 s));
-    implementations = λ c i w.
-        let p = f.implementations c i w in
-        let q = g.implementations c i (further c w) in (λ s. p.0 (q.0 s), λ s. q.1 (p.1 s));
-    methods = λ m w. g.methods m (λ home e. let l = w home e in omega (arith, l, f.count)) ∙ f.methods m w;
-  }
+  both_keep = grind (arith, further, still_below, still_found)
 
 -- ---- many packages
 
@@ -341,9 +241,4 @@ all_kept before after lies =
     subst (KeepsAllLookups before) whole (all_behind before (drop (length before) after))
 
 pub small_within : (before after : List Shape) → LiesWithin before after → IsSmall after → IsSmall before
-small_within before after lies small =
-    let keeps = all_kept before after lies in
-    record {
-      packages = omega (arith, keeps.count, small.packages);
-      classes = λ i shape e. small.classes i shape (keeps.packages i (slice_get_within before i shape e) ∙ e);
-    }
+small_within before after lies small = grind (arith, all_kept, slice_get_within)

@@ -20,15 +20,11 @@ use Rattle.jc_names.specs.declared.name.ClassName.TheVariants.{Api}
 module _ (world : List Shape) (c d : ClassName) (n : ℕ) where
   common_step : (b : Bool) (o : Option ClassName) → is_class_below world d c ≡ b → superclass_of world c ≡ o
       → common_within world (suc n) c d ≡ cond b c (option_map_or (λ e. common_within world n e d) o (Api Object))
-  common_step b o e f =
-      ap (λ x. cond x c (option_map_or (λ e. common_within world n e d) (superclass_of world c) (Api Object))) e
-      ∙ ap (λ x. cond b c (option_map_or (λ e. common_within world n e d) x (Api Object))) f
+  common_step b o e f = grind arith
 
 above_step : (world : List Shape) (c : ClassName) (n : ℕ) (b : Bool) (o : Option ClassName) → is_same_name (Api Object) c ≡ b → superclass_of world c ≡ o
     → above_within world (suc n) c ≡ cond b 0 (option_map_or (λ e. suc (above_within world n e)) o 1)
-above_step world c n b o e f =
-    ap (λ x. cond x 0 (option_map_or (λ e. suc (above_within world n e)) (superclass_of world c) 1)) e
-    ∙ ap (λ x. cond b 0 (option_map_or (λ e. suc (above_within world n e)) x 1)) f
+above_step world c n b o e f = grind arith
 
 -- ---- what the loops keep
 
@@ -64,8 +60,7 @@ module _ (world : List Shape) (c : ClassName) (n m counted total : ℕ) (one : n
     counts_on e f = omega (arith, counted_left, above_step world c m false (Some e) other f)
 
 pub counted_out : (world : List Shape) (c : ClassName) (n counted total : ℕ) → n ≡ 0 → counted + above_within world n c ≡ total → counted ≡ total
-counted_out world c n counted total none so_far =
-    let done : counted + 0 ≡ total = ap (λ i. counted + above_within world i c) (sym none) ∙ so_far in omega (arith, done)
+counted_out world c n counted total none so_far = grind arith
 
 -- ---- the class where two ways meet
 
@@ -148,8 +143,7 @@ module _ (world : List Shape) where
     one_above c s f = sym (count_enough most_classes (suc most_classes) c (omega arith) (o.ends c)) ∙ above_step world c most_classes false (Some s) (by_test (is_same_name (Api Object) c) refl) f
       where
         by_test : (b : Bool) → is_same_name (Api Object) c ≡ b → b ≡ false
-        by_test false e = refl
-        by_test true e = absurd (none_some s (sym top ∙ ap (superclass_of world) (name_is (Api Object) c e) ∙ f))
+        by_test b h1 = grind (arith, none_some, name_is)
 
     falls_on_way : (n : ℕ) (c d : ClassName) → is_at_or_above world n d c ≡ true → (c ≡ d) ⊎ (classes_above world d < classes_above world c)
     falls_on_way zero c d h = absurd (true_false (sym h))
@@ -179,17 +173,7 @@ module _ (world : List Shape) where
         by_class false e (Some s) f = omega (arith, more, above_step world c most_classes false (Some s) e f)
 
     falls_upward : (c d : ClassName) → is_class_below world c d ≡ true → (c ≡ d → ⊥) → classes_above world d < classes_above world c
-    falls_upward c d h other = by_way (way_up world c d h)
-      where
-        by_walk : (c ≡ d) ⊎ (classes_above world d < classes_above world c) → classes_above world d < classes_above world c
-        by_walk (inl is) = absurd (other is)
-        by_walk (inr less) = less
-
-        by_way : (Api Object ≡ d) ⊎ (is_at_or_above world most_classes d c ≡ true) → classes_above world d < classes_above world c
-        by_way (inl is) =
-            let none : classes_above world d ≡ 0 = sym (ap (classes_above world) is) ∙ none_above_object in
-            omega (arith, none, some_above c (λ same. other (sym same ∙ is)))
-        by_way (inr w) = by_walk (falls_on_way most_classes c d w)
+    falls_upward c d h other = grind (arith, way_up, none_above_object, some_above, falls_on_way)
 
   above_at_most : (n : ℕ) (c : ClassName) → above_within world n c ≤ n
   above_at_most zero c = omega arith
@@ -201,12 +185,5 @@ module _ (world : List Shape) where
       by_class false e (Some s) f rest = omega (arith, above_step world c n false (Some s) e f, rest s)
 
 pub is_class_lattice : (world : List Shape) → IsOrderly world → superclass_of world (Api Object) ≡ None → IsClassLattice (is_class_below world) (common_class world) (classes_above world) most_classes
-is_class_lattice world o top = record {
-  order = is_order world o top;
-  object = above_all world;
-  first = common_first world o top most_classes;
-  second = common_second world o top most_classes;
-  least = λ c d e. common_least world o top most_classes c d e (o.ends c);
-  falls = falls_upward world o top;
-  bounded = above_at_most world most_classes;
-}
+is_class_lattice world o top =
+    grind (arith, is_order, above_all, common_first, common_second, common_least, falls_upward, above_at_most)

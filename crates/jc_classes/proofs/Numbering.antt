@@ -1,6 +1,6 @@
 -- Lists by numbers and tokens, one more at a time.
-use Rattle.std.proofs.Common.{◌≡◌, ℕ, zero, suc, ◌+◌, ◌^◌, ◌<◌, ◌≤◌, Bool, true, cond, max, map, ◌⊎◌, inl, inr, List, [], ◌∷◌, ◌++◌, length, nat_le, Option, Some, None, refl, ap, ◌∙◌, subst, add-one, length-append, arith}
-use Rattle.std.specs.List.{slice_get, list_all, filter_map, cons_option, find, range_with_len}
+use Rattle.std.proofs.Common.{◌≡◌, ℕ, zero, suc, ◌+◌, ◌^◌, ◌<◌, ◌≤◌, Bool, true, cond, max, map, List, [], ◌∷◌, ◌++◌, length, nat_le, Option, Some, None, refl, ap, ◌∙◌, subst, add-one, length-append, arith}
+use Rattle.std.specs.List.{slice_get, list_all, filter_map, find, range_with_len}
 use Rattle.std.specs.Option.{option_or, option_to_list}
 use Rattle.std.proofs.lemmas.Bool.{leb-true, cases_lt, lt-ltb, le-ltb}
 use Rattle.std.proofs.lemmas.List.{map-append}
@@ -18,16 +18,10 @@ use Rattle.jc_classes.specs.Limits.{most_classes_of_one}
 
 range_more : (a n : ℕ) → range_with_len a (suc n) ≡ range_with_len a n ++ (a + n) ∷ []
 range_more a zero = let e : a ≡ a + 0 = omega arith in ap (λ m. m ∷ []) e
-range_more a (suc n) =
-    let e : a + 1 + n ≡ a + suc n = omega arith in
-    ap (λ (xs : List ℕ). a ∷ xs) (range_more (a + 1) n) ∙ ap (λ m. a ∷ (range_with_len (a + 1) n ++ m ∷ [])) e
+range_more a (suc n) = grind (arith, range_more (a + 1) n)
 
 one_mapped : {A : Type 0} (f : ℕ → Option A) (n : ℕ) → filter_map f (n ∷ []) ≡ option_to_list (f n)
-one_mapped f n = by_one (f n)
-  where
-    by_one : {A : Type 0} (o : Option A) → cons_option o [] ≡ option_to_list o
-    by_one None = refl
-    by_one (Some x) = refl
+one_mapped f n = grind arith
 
 -- what stands for one number more
 mapped_more : {A : Type 0} (f : ℕ → Option A) (n : ℕ) → filter_map f (range_with_len 1 (suc n)) ≡ filter_map f (range_with_len 1 n) ++ option_to_list (f (suc n))
@@ -61,14 +55,7 @@ room_behind : (tokens : List ℕ) (more : Option ℕ) → room_for (tokens ++ op
 room_behind [] None = refl
 room_behind [] (Some t) = rw (le-ltb t 0 (omega arith)) (omega arith)
 room_behind (token ∷ tokens) None = ap (max (token + 1)) (room_behind tokens None)
-room_behind (token ∷ tokens) (Some t) = ap (max (token + 1)) (room_behind tokens (Some t)) ∙ by_order (cases_lt t (room_for tokens)) (cases_lt t (max (token + 1) (room_for tokens)))
-  where
-    by_order : (t < room_for tokens) ⊎ (room_for tokens ≤ t) → (t < max (token + 1) (room_for tokens)) ⊎ (max (token + 1) (room_for tokens) ≤ t)
-        → max (token + 1) (with_room (room_for tokens) (Some t)) ≡ with_room (max (token + 1) (room_for tokens)) (Some t)
-    by_order (inl h) (inl k) = rw (lt-ltb t (room_for tokens) h, lt-ltb t (max (token + 1) (room_for tokens)) k) refl
-    by_order (inl h) (inr k) = absurd (omega arith)
-    by_order (inr h) (inl k) = rw (le-ltb t (room_for tokens) h, lt-ltb t (max (token + 1) (room_for tokens)) k) (omega arith)
-    by_order (inr h) (inr k) = rw (le-ltb t (room_for tokens) h, le-ltb t (max (token + 1) (room_for tokens)) k) (omega arith)
+room_behind (token ∷ tokens) (Some t) = grind (arith, max, cases_lt, lt-ltb, le-ltb, room_behind tokens (Some t))
 
 pub room_more : (tokens : ℕ → Option ℕ) (n : ℕ) → room_to (n + 1) tokens ≡ with_room (room_to n tokens) (tokens (n + 1))
 unfolding room_to
@@ -89,8 +76,7 @@ number_more tokens n token =
     has number = is_token token (tokens number)
 
     by_one : (m : ℕ) (o : Option ℕ) → cond (is_token token o) (Some m) None ≡ if_token token m o
-    by_one m None = refl
-    by_one m (Some t) = refl
+    by_one m o = grind arith
 
 pub number_none : (tokens : ℕ → Option ℕ) (token : ℕ) → number_to 0 tokens token ≡ None
 unfolding number_to
@@ -115,11 +101,7 @@ few_parameters number m e = let h = leb-true (length m.parameters.now) 5 (member
 -- no more than their numbers
 those_few : {A : Type 0} (f : ℕ → Option A) (n : ℕ) → length (those_to n f) ≤ n
 those_few f zero = rw (those_none f) (omega arith)
-those_few {A = A} f (suc n) = rw (those_suc f n) (by_one (f (suc n)) (those_few f n))
-  where
-    by_one : (o : Option A) → length (those_to n f) ≤ n → length (those_to n f ++ option_to_list o) ≤ suc n
-    by_one None h = omega (arith, length-append (those_to n f) [])
-    by_one (Some x) h = omega (arith, length-append (those_to n f) (x ∷ []))
+those_few {A = A} f (suc n) = grind (arith, those_suc, length-append, those_few f n)
 
 pub few_classes : (bound : Bound) (which : ApiPackage) → length (those_to last_class (class_shape_of bound which)) ≤ most_classes_of_one
 few_classes bound which = let h = those_few (class_shape_of bound which) last_class in omega arith

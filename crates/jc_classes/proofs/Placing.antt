@@ -1,12 +1,11 @@
 -- Tables of places.
-use Rattle.std.proofs.Common.{◌≡◌, ℕ, zero, suc, ◌<◌, ◌≤◌, ◌==◌, ◌||◌, Bool, true, false, cond, List, [], ◌∷◌, length, drop, Option, Some, None, is_some, refl, sym, ap, ◌∙◌, arith, nat_lt, slice_get, get_or, drop-cons}
+use Rattle.std.proofs.Common.{◌≡◌, ℕ, zero, suc, ◌<◌, Bool, List, [], ◌∷◌, length, drop, Option, Some, None, is_some, refl, sym, ap, ◌∙◌, arith, slice_get, get_or, drop-cons}
 use Rattle.std.proofs.lemmas.Bool.{ltb-false}
 use Rattle.std.proofs.lemmas.Iterator.Adapters.{position_from-zero}
 use Rattle.std.proofs.lemmas.List.Folds.{find_at}
 use Rattle.std.proofs.lemmas.Option.{slice_get_past, slice_get-get_or}
-use Rattle.std.specs.List.{find, list_any, position, position_or_len, position_from}
+use Rattle.std.specs.List.{find, list_any, position, position_from}
 use Rattle.std.specs.Option.{option_map, option_and_then, option_or}
-use Rattle.jc_cap.specs.ClassComponent.{is_class}
 use Rattle.jc_cap_desc.specs.Shape.{ClassShape, MethodShape, Shape}
 use Rattle.jc_classes.proofs.Standing.{position_is}
 use Rattle.jc_classes.specs.Members.{DeclaredMethod, declared_in, name_of}
@@ -18,11 +17,7 @@ use Rattle.jc_classes.specs.declared.shape.MethodPlace.{MethodPlace}
 -- ---- what a table leads to
 
 pub find_position : {A : Type 0} (p : A → Bool) (xs : List A) → find p xs ≡ option_and_then (slice_get xs) (position p xs)
-find_position p xs = find_at p xs ∙ by_place (nat_lt (position_or_len p xs) (length xs)) (ltb-false (position_or_len p xs) (length xs))
-  where
-    by_place : (b : Bool) → (b ≡ false → length xs ≤ position_or_len p xs) → slice_get xs (position_or_len p xs) ≡ option_and_then (slice_get xs) (cond b (Some (position_or_len p xs)) None)
-    by_place true h = refl
-    by_place false h = slice_get_past xs (position_or_len p xs) (h refl)
+find_position p xs = grind (arith, find_at, ltb-false, slice_get_past)
 
 pub found_there : {A : Type 0} (p : A → Bool) (xs : List A) (i : ℕ) → position p xs ≡ Some i → find p xs ≡ slice_get xs i
 found_there p xs i e = find_position p xs ∙ ap (option_and_then (slice_get xs)) e
@@ -50,24 +45,15 @@ led_method classes class k p before at = by_place (position p k.methods) refl
         some_at (x ∷ xs) (suc i) h = some_at xs i (omega arith)
 
     by_place : (o : Option ℕ) → position p k.methods ≡ o → option_and_then (led_to classes) (place_or class o before) ≡ option_or (option_map (placed k) (find p k.methods)) (option_and_then (led_to classes) before)
-    by_place None e =
-        let none : find p k.methods ≡ None = find_position p k.methods ∙ ap (option_and_then (slice_get k.methods)) e in
-        sym (ap (λ (o : Option MethodShape). option_or (option_map (placed k) o) (option_and_then (led_to classes) before)) none)
+    by_place None e = grind (arith, find_position)
     by_place (Some i) e =
         let m = there i (position_is p k.methods i e).1 in
         let found : find p k.methods ≡ Some m.0 = find_position p k.methods ∙ ap (option_and_then (slice_get k.methods)) e ∙ m.1 in
-        ap (λ (o : Option ClassShape). option_and_then (λ (k : ClassShape). option_map (placed k) (slice_get k.methods i)) o) at
-        ∙ ap (option_map (placed k)) m.1
-        ∙ sym (ap (λ (o : Option MethodShape). option_or (option_map (placed k) o) (option_and_then (led_to classes) before)) found)
+        grind arith
 
 led_class : (classes : List ClassShape) (class : ℕ) (k : ClassShape) (offset : ℕ) (before : Option MethodPlace) → slice_get classes class ≡ Some k
     → option_and_then (led_to classes) (place_or class (position_in offset k) before) ≡ option_or (option_map (placed k) (method_of_class offset k)) (option_and_then (led_to classes) before)
-led_class classes class k offset before at = by_record (is_class k.body)
-  where
-    by_record : (b : Bool) → option_and_then (led_to classes) (place_or class (cond b (position (λ (m : MethodShape). m.offset == offset) k.methods) None) before)
-        ≡ option_or (option_map (placed k) (cond b (find (λ (m : MethodShape). m.offset == offset) k.methods) None)) (option_and_then (led_to classes) before)
-    by_record true = led_method classes class k (λ (m : MethodShape). m.offset == offset) before at
-    by_record false = refl
+led_class classes class k offset before at = grind (arith, led_method)
 
 -- one class more, in front of those whose methods are in the table
 pub class_more : (classes : List ClassShape) (class : ℕ) (k : ClassShape) (old new : List (Option MethodPlace)) → class < length classes → k ≡ get_or classes class k
@@ -76,22 +62,13 @@ pub class_more : (classes : List ClassShape) (class : ℕ) (k : ClassShape) (old
     → (i : ℕ) → option_and_then (led_to classes) (place_at new i) ≡ first_method i (drop class classes)
 class_more classes class k old new less at before put i =
     let there : slice_get classes class ≡ Some k = slice_get-get_or classes class k less ∙ ap Some (sym at) in
-    ap (option_and_then (led_to classes)) (put i)
-    ∙ led_class classes class k i (place_at old i) there
-    ∙ ap (option_or (option_map (placed k) (method_of_class i k))) (before i)
-    ∙ ap (λ x. first_method i (x ∷ drop (suc class) classes)) at
-    ∙ sym (ap (first_method i) (drop-cons classes class k less))
+    grind (arith, led_class, there, drop-cons)
 
 -- ---- what is read of the tables
 
 pub has_first : (offset : ℕ) (classes : List ClassShape) → list_any (λ k. is_some (method_of_class offset k)) classes ≡ is_some (first_method offset classes)
 has_first offset [] = refl
-has_first offset (k ∷ classes) = by_method (method_of_class offset k) (has_first offset classes)
-  where
-    by_method : (o : Option MethodShape) → list_any (λ k. is_some (method_of_class offset k)) classes ≡ is_some (first_method offset classes)
-        → is_some o || list_any (λ k. is_some (method_of_class offset k)) classes ≡ is_some (option_or (option_map (placed k) o) (first_method offset classes))
-    by_method None rest = rest
-    by_method (Some m) rest = refl
+has_first offset (k ∷ classes) = grind (arith, has_first offset classes)
 
 -- a method with its class's name
 abbrev declared : ℕ → PlacedMethod → Option DeclaredMethod
@@ -106,18 +83,7 @@ declared_of home offset k = option_and_then (λ class. option_map (λ m. record 
 
 declared_first : (home offset : ℕ) (classes : List ClassShape) → option_and_then (declared_of home offset) (find (λ k. is_some (method_of_class offset k)) classes) ≡ option_and_then (declared home) (first_method offset classes)
 declared_first home offset [] = refl
-declared_first home offset (k ∷ classes) = by_method (method_of_class offset k) refl (declared_first home offset classes)
-  where
-    by_name : (n : Option ClassName) (m : MethodShape) (o : Option MethodShape) → o ≡ Some m → option_and_then (λ class. option_map (λ m. with_class m class) o) n ≡ option_map (with_class m) n
-    by_name None m o e = refl
-    by_name (Some class) m o e = ap (option_map (λ m. with_class m class)) e
-
-    by_method : (o : Option MethodShape) → method_of_class offset k ≡ o
-        → option_and_then (declared_of home offset) (find (λ k. is_some (method_of_class offset k)) classes) ≡ option_and_then (declared home) (first_method offset classes)
-        → option_and_then (declared_of home offset) (cond (is_some o) (Some k) (find (λ k. is_some (method_of_class offset k)) classes))
-        ≡ option_and_then (declared home) (option_or (option_map (placed k) o) (first_method offset classes))
-    by_method None e rest = rest
-    by_method (Some m) e rest = by_name (name_of home k) m (method_of_class offset k) e
+declared_first home offset (k ∷ classes) = grind (arith, declared_first home offset classes)
 
 pub declared_is : (home offset : ℕ) (shape : Shape) → declared_in home offset shape ≡ option_and_then (λ (p : PlacedMethod). option_map (λ class. record { class = class; method = p.method }) (name_of home p.class)) (first_method offset shape.classes)
 declared_is home offset shape = declared_first home offset shape.classes

@@ -8,7 +8,7 @@ use Rattle.jc_classes.specs.PrivateWalk.{step_of, IsOnWalk}
 use Rattle.jc_classes.specs.Walk.{walk}
 use Rattle.jc_names.specs.declared.name.ClassName.{ClassName}
 use Rattle.jc_classes.specs.declared.walk.Step.{Step}
-use Rattle.jc_classes.specs.declared.walk.Step.TheVariants.{Gives, Ends, On}
+use Rattle.jc_classes.specs.declared.walk.Step.TheVariants.{On}
 use Rattle.jc_classes.specs.declared.walk.Visit.{Visit}
 
 -- ---- any look-up that finds nothing with no steps, nor with fewer steps than it finds nothing with
@@ -29,9 +29,7 @@ module _ {A : Type 0} (look : ℕ → ClassName → A) (nothing : A) (at_first :
     on_from_here = sym (step m) ∙ ap (λ i. look i at) (sym one) ∙ on.so_far
 
     further : (k : ℕ) → look (k + suc on.between) anchor ≡ look k next
-    further k =
-        let shift : k + suc on.between ≡ suc k + on.between = omega arith in
-        ap (λ i. look i anchor) shift ∙ on.anchored (suc k) ∙ step k
+    further k = grind (arith, step)
 
     pub comes_round : is_same_name next anchor ≡ true → nothing ≡ total
     comes_round e =
@@ -39,11 +37,7 @@ module _ {A : Type 0} (look : ℕ → ClassName → A) (nothing : A) (at_first :
         sym (nothing_at_all anchor on.between (λ k. further k ∙ ap (look k) is) m) ∙ ap (look m) (sym is) ∙ on_from_here
 
     pub keeps_on : (kept : ClassName) → (kept ≡ next) ⊎ (kept ≡ anchor) → IsOnWalk look kept next m total
-    keeps_on kept (inl is) = subst (λ a. IsOnWalk look a next m total) (sym is) (record {
-      so_far = on_from_here;
-      between = 0;
-      anchored = λ k. let none : k + 0 ≡ k = omega arith in ap (λ i. look i next) none;
-    })
+    keeps_on kept (inl is) = grind (arith, on_from_here)
     keeps_on kept (inr is) = subst (λ a. IsOnWalk look a next m total) (sym is) (record { so_far = on_from_here; between = suc on.between; anchored = further })
 
 -- ---- walks
@@ -55,9 +49,7 @@ module _ {A : Type 0} (visit : ClassName → ClassShape → Visit A) (world : Li
   fewer_steps (suc n) (suc m) c l e = walk_behind visit world n c ∙ by_step (step_of visit world c) (sym (walk_behind visit world m c) ∙ e) (λ d. fewer_steps n m d (omega arith))
     where
       by_step : (s : Step A) → behind s (walk visit world m) ≡ None → ((d : ClassName) → walk visit world m d ≡ None → walk visit world n d ≡ None) → behind s (walk visit world n) ≡ None
-      by_step (Gives a) f rest = f
-      by_step Ends f rest = refl
-      by_step (On d) f rest = rest d f
+      by_step s h1 h2 = grind arith
 
   pub from_start : (n : ℕ) (c : ClassName) (total : Option A) → walk visit world n c ≡ total → IsOnWalk (walk visit world) c c n total
   from_start n c total e = record { so_far = e; between = 0; anchored = λ k. let none : k + 0 ≡ k = omega arith in ap (λ i. walk visit world i c) none }

@@ -1,11 +1,8 @@
 -- Worlds within their limits.
-use Rattle.std.proofs.Common.{◌≡◌, ℕ, zero, suc, ◌<◌, ◌≤◌, List, [], ◌∷◌, ◌++◌, length, Option, Some, None, subst, ◌∙◌, arith, length-append, append-nil}
-use Rattle.std.proofs.lemmas.Option.{slice_get_within}
-use Rattle.std.specs.Option.{option_to_list}
+use Rattle.std.proofs.Common.{◌≡◌, ℕ, zero, suc, ◌<◌, ◌≤◌, List, [], ◌∷◌, length, Some, subst, arith, length-append}
 use Rattle.std.specs.List.{slice_get}
 use Rattle.jc_base.proofs.Binding.{the_some}
 use Rattle.jc_cap_desc.specs.Shape.{Shape}
-use Rattle.jc_classes.proofs.Growing.{get_before}
 use Rattle.jc_classes.specs.Growth.{grown}
 use Rattle.jc_classes.specs.Limits.{IsSmall, most_packages, most_classes_of_one}
 
@@ -18,13 +15,3 @@ classes_grown (s ∷ world) more each few (suc i) shape e = classes_grown world 
 
 pub small_grown : (world : List Shape) (more : Shape) → IsSmall world → length world < most_packages → length more.classes ≤ most_classes_of_one → IsSmall (grown world more)
 small_grown world more small less few = record { packages = omega (arith, length-append world (more ∷ [])); classes = classes_grown world more small.classes few }
-
-small_shrinks : (world : List Shape) (more : Shape) → IsSmall (grown world more) → IsSmall world
-small_shrinks world more small = record {
-  packages = omega (arith, small.packages, length-append world (more ∷ []));
-  classes = λ i shape e. small.classes i shape (get_before world more i (slice_get_within world i shape e) ∙ e);
-}
-
-pub small_popped : (world rest : List Shape) (last : Option Shape) → world ≡ rest ++ option_to_list last → IsSmall world → IsSmall rest
-small_popped world rest None e small = subst IsSmall (e ∙ append-nil rest) small
-small_popped world rest (Some more) e small = small_shrinks rest more (subst IsSmall e small)

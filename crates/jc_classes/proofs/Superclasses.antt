@@ -1,33 +1,28 @@
 -- Walks up the superclasses: what they find, that they may end where they come round, and the order that they make.
 use Rattle.std.proofs.Common.{◌≡◌, ◌↔◌, ℕ, zero, suc, ◌+◌, ◌≤◌, ◌⊎◌, inl, inr, ◌||◌, Bool, true, false, Option, Some, None, List, not, refl, sym, ap, subst, ◌∙◌, arith}
-use Rattle.std.specs.Option.{option_and_then, option_map_or}
+use Rattle.std.specs.Option.{option_map_or}
 use Rattle.jc_base.proofs.Binding.{none_some}
-use Rattle.jc_cap.specs.ClassComponent.{is_class}
-use Rattle.jc_cap.specs.declared.record.RecordBody.{RecordBody}
-use Rattle.jc_cap.specs.declared.record.RecordBody.TheVariants.{Interface, Class}
-use Rattle.jc_cap_desc.specs.Shape.{ClassShape, Shape}
+use Rattle.jc_cap_desc.specs.Shape.{Shape}
 use Rattle.jc_api.specs.declared.class.ApiClass.TheVariants.{Object}
 use Rattle.jc_classes.proofs.Below.{name_is, name_itself}
 use Rattle.jc_classes.proofs.Standing.{true_false}
 use Rattle.jc_classes.proofs.Rounds.{comes_round, keeps_on}
 use Rattle.jc_classes.proofs.Walking.{most_is}
-use Rattle.jc_names.specs.Names.{home_of, is_same_name}
+use Rattle.jc_names.specs.Names.{is_same_name}
 use Rattle.jc_classes.specs.PrivateWalk.{IsOnWalk}
 use Rattle.jc_classes.specs.Subtype.{IsSubtype, same, object, by_superclass, by_interface, is_class_at, is_interface_at, comes_to_end, IsOrderly, IsOrder, is_at_or_above, is_class_below}
 use Rattle.jc_classes.specs.Walk.{most_classes}
-use Rattle.jc_classes.specs.World.{class_at, class_named, superclass_of, superclass_ref}
+use Rattle.jc_classes.specs.World.{superclass_of}
 use Rattle.jc_names.specs.declared.name.ClassName.{ClassName}
 use Rattle.jc_names.specs.declared.name.ClassName.TheVariants.{Api}
 
 -- ---- a walk of one class more
 
 either : (a b : Bool) → (a || b) ≡ true → (a ≡ true) ⊎ (b ≡ true)
-either true b e = inl refl
-either false b e = inr e
+either a b h1 = grind arith
 
 or_true : (a b : Bool) → b ≡ true → (a || b) ≡ true
-or_true true b e = refl
-or_true false b e = e
+or_true a b h1 = grind arith
 
 module _ (world : List Shape) (d c : ClassName) (n : ℕ) where
   one_more : (b : Bool) (o : Option ClassName) → is_same_name c d ≡ b → superclass_of world c ≡ o → is_at_or_above world (suc n) d c ≡ (b || option_map_or (is_at_or_above world n d) o false)
@@ -48,8 +43,7 @@ module _ (world : List Shape) (d c : ClassName) (n : ℕ) where
       by_super (Some s) f h = (s, f, h)
 
       by_name : (is_same_name c d ≡ true) ⊎ (option_map_or (is_at_or_above world n d) (superclass_of world c) false ≡ true) → (c ≡ d) ⊎ ((s : ClassName) × (superclass_of world c ≡ Some s) × (is_at_or_above world n d s ≡ true))
-      by_name (inl h) = inl (name_is c d h)
-      by_name (inr h) = inr (by_super (superclass_of world c) refl h)
+      by_name h1 = grind (arith, name_is, by_super)
 
 -- more steps find what fewer do
 pub above_more : (world : List Shape) (n m : ℕ) (d c : ClassName) → n ≤ m → is_at_or_above world n d c ≡ true → is_at_or_above world m d c ≡ true
@@ -59,17 +53,12 @@ above_more world (suc n) (suc m) d c l e = by_way (found_by world d c n e) (λ s
   where
     by_way : (c ≡ d) ⊎ ((s : ClassName) × (superclass_of world c ≡ Some s) × (is_at_or_above world n d s ≡ true)) → ((s : ClassName) → is_at_or_above world n d s ≡ true → is_at_or_above world m d s ≡ true)
         → is_at_or_above world (suc m) d c ≡ true
-    by_way (inl is) rest = met world d c m (ap (is_same_name c) (sym is) ∙ name_itself c)
-    by_way (inr r) rest = above_it world d c m r.0 r.1 (rest r.0 r.2)
+    by_way h1 h2 = grind (arith, met, name_itself, above_it)
 
 -- ---- the answers of a walk with an anchor
 
 not_by_fewer : (world : List Shape) (d : ClassName) (n m : ℕ) (c : ClassName) → n ≤ m → is_at_or_above world m d c ≡ false → is_at_or_above world n d c ≡ false
-not_by_fewer world d n m c l e = by_test (is_at_or_above world n d c) refl
-  where
-    by_test : (b : Bool) → is_at_or_above world n d c ≡ b → b ≡ false
-    by_test false f = refl
-    by_test true f = absurd (true_false (sym (above_more world n m d c l f) ∙ e))
+not_by_fewer world d n m c l e = grind (arith, true_false, above_more)
 
 module _ (world : List Shape) (above anchor at : ClassName) (n m : ℕ) (total : Bool) (one : n ≡ suc m) (on : IsOnWalk (λ i. is_at_or_above world i above) anchor at n total) where
   pub is_here : is_same_name at above ≡ true → true ≡ total
@@ -111,8 +100,7 @@ enough world (suc n) (suc m) d c e h = by_way (found_by world d c m h) (λ s f r
   where
     by_way : (c ≡ d) ⊎ ((s : ClassName) × (superclass_of world c ≡ Some s) × (is_at_or_above world m d s ≡ true))
         → ((s : ClassName) → superclass_of world c ≡ Some s → is_at_or_above world m d s ≡ true → is_at_or_above world n d s ≡ true) → is_at_or_above world (suc n) d c ≡ true
-    by_way (inl is) rest = met world d c n (ap (is_same_name c) (sym is) ∙ name_itself c)
-    by_way (inr r) rest = above_it world d c n r.0 r.1 (rest r.0 r.1 r.2)
+    by_way h1 h2 = grind (arith, met, name_itself, above_it)
 
 -- superclasses that come to an end don't lead round
 no_round : (world : List Shape) (n m : ℕ) (c s : ClassName) → comes_to_end world n c ≡ true → superclass_of world c ≡ Some s → is_at_or_above world m c s ≡ true → ⊥
@@ -134,21 +122,12 @@ one_of_both world o (suc n) m c d h k = by_way (found_by world d c n h)
     by_way (inr r) = absurd (no_round world most_classes (n + m) c r.0 (o.ends c) r.1 (beyond world n m c d r.0 r.2 k))
 
 above_object : (world : List Shape) (n : ℕ) (c : ClassName) → superclass_of world (Api Object) ≡ None → is_at_or_above world n c (Api Object) ≡ true → Api Object ≡ c
-above_object world zero c top h = absurd (true_false (sym h))
-above_object world (suc n) c top h = by_way (found_by world c (Api Object) n h)
-  where
-    by_way : (Api Object ≡ c) ⊎ ((s : ClassName) × (superclass_of world (Api Object) ≡ Some s) × (is_at_or_above world n c s ≡ true)) → Api Object ≡ c
-    by_way (inl is) = is
-    by_way (inr r) = absurd (none_some r.0 (sym top ∙ r.1))
+above_object world n c h1 h2 = grind (arith, true_false, found_by, none_some)
 
 module _ (world : List Shape) where
   -- how a class is below another one
   pub way_up : (c d : ClassName) → is_class_below world c d ≡ true → (Api Object ≡ d) ⊎ (is_at_or_above world most_classes d c ≡ true)
-  way_up c d h = by_name (either (is_same_name (Api Object) d) _ h)
-    where
-      by_name : (is_same_name (Api Object) d ≡ true) ⊎ (is_at_or_above world most_classes d c ≡ true) → (Api Object ≡ d) ⊎ (is_at_or_above world most_classes d c ≡ true)
-      by_name (inl e) = inl (name_is (Api Object) d e)
-      by_name (inr e) = inr e
+  way_up c d h = grind (arith, either, name_is)
 
   pub below_object : (c d : ClassName) → Api Object ≡ d → is_class_below world c d ≡ true
   below_object c d is = ap (is_class_below world c) (sym is)
@@ -158,22 +137,13 @@ module _ (world : List Shape) where
 
   module _ (o : IsOrderly world) (top : superclass_of world (Api Object) ≡ None) where
     only_object : (c : ClassName) → is_class_below world (Api Object) c ≡ true → Api Object ≡ c
-    only_object c h = by_way (way_up (Api Object) c h)
-      where
-        by_way : (Api Object ≡ c) ⊎ (is_at_or_above world most_classes c (Api Object) ≡ true) → Api Object ≡ c
-        by_way (inl is) = is
-        by_way (inr e) = above_object world most_classes c top e
+    only_object c h = grind (arith, way_up, above_object)
 
     pub itself : (c : ClassName) → is_class_below world c c ≡ true
     itself c = walked_up c c (above_more world 1 most_classes c c (omega (arith, most_is)) (met world c c 0 (name_itself c)))
 
     both_ways : (c d : ClassName) → is_class_below world c d ≡ true → is_class_below world d c ≡ true → c ≡ d
-    both_ways c d h k = by_ways (way_up c d h) (way_up d c k)
-      where
-        by_ways : (Api Object ≡ d) ⊎ (is_at_or_above world most_classes d c ≡ true) → (Api Object ≡ c) ⊎ (is_at_or_above world most_classes c d ≡ true) → c ≡ d
-        by_ways (inl is) q = sym (only_object c (ap (λ x. is_class_below world x c) is ∙ k)) ∙ is
-        by_ways (inr p) (inl is) = sym is ∙ only_object d (ap (λ x. is_class_below world x d) is ∙ h)
-        by_ways (inr p) (inr q) = one_of_both world o most_classes most_classes c d p q
+    both_ways c d h k = grind (arith, way_up, only_object, one_of_both)
 
     pub on_through : (c d e : ClassName) → is_class_below world c d ≡ true → is_class_below world d e ≡ true → is_class_below world c e ≡ true
     on_through c d e h k = by_ways (way_up c d h) (way_up d e k)
@@ -197,27 +167,11 @@ climbs world (suc n) d c h = by_way (found_by world d c n h) (λ s. climbs world
     by_way (inr r) rest = by_superclass c r.0 d r.1 (rest r.0 r.2)
 
 not_both : (world : List Shape) (c : ClassName) → is_interface_at world c ≡ true → is_class_at world c ≡ true → ⊥
-not_both world c i k = by_class (class_at world c) i k
-  where
-    by_body : (b : Bool) → not b ≡ true → b ≡ true → ⊥
-    by_body true i k = true_false (sym i)
-    by_body false i k = true_false (sym k)
-
-    by_class : (o : Option ClassShape) → option_map_or (λ x. not (is_class x.body)) o false ≡ true → option_map_or (λ x. is_class x.body) o false ≡ true → ⊥
-    by_class None i k = true_false (sym i)
-    by_class (Some x) i k = by_body (is_class x.body) i k
+not_both world c i k = grind (arith, not, true_false)
 
 -- an interface has no superclass
 no_super : (world : List Shape) (c d : ClassName) → is_interface_at world c ≡ true → superclass_of world c ≡ Some d → ⊥
-no_super world c d i e = by_class (class_at world c) i e
-  where
-    by_body : (body : RecordBody) → not (is_class body) ≡ true → option_and_then (class_named world (home_of c)) (superclass_ref body) ≡ Some d → ⊥
-    by_body (Interface r) i e = none_some d e
-    by_body (Class r) i e = true_false (sym i)
-
-    by_class : (o : Option ClassShape) → option_map_or (λ x. not (is_class x.body)) o false ≡ true → option_and_then (class_named world (home_of c)) (option_and_then (λ x. superclass_ref x.body) o) ≡ Some d → ⊥
-    by_class None i e = true_false (sym i)
-    by_class (Some x) i e = by_body x.body i e
+no_super world c d i e = grind (arith, not, none_some, true_false)
 
 -- of classes only Object is above an interface
 pub above_interface : (world : List Shape) (i e : ClassName) → IsOrderly world → is_interface_at world i ≡ true → is_class_at world e ≡ true → IsSubtype world i e → e ≡ Api Object
@@ -231,11 +185,8 @@ met_above : (world : List Shape) (n : ℕ) (c d : ClassName) → IsOrderly world
 met_above world zero c d o k e s = absurd (true_false (sym e))
 met_above world (suc n) _ _ o k e (same c) = inr (met world c c n (name_itself c))
 met_above world (suc n) _ _ o k e (object c) = inl refl
-met_above world (suc n) _ _ o k e (by_superclass c s d f r) = by_way (met_above world n s d o k (ends_above world n c s e f) r)
-  where
-    by_way : (Api Object ≡ d) ⊎ (is_at_or_above world n d s ≡ true) → (Api Object ≡ d) ⊎ (is_at_or_above world (suc n) d c ≡ true)
-    by_way (inl is) = inl is
-    by_way (inr h) = inr (above_it world d c n s f h)
+met_above world (suc n) _ _ o k e (by_superclass c s d f r) =
+    grind (arith, ends_above, above_it, met_above world n s d o k (ends_above world n c s e f) r)
 met_above world (suc n) _ _ o k e (by_interface c i d m r) = inl (sym (above_interface world i d o (o.interfaces c i m) k r))
 
 pub are_subtypes : (world : List Shape) → IsOrderly world → superclass_of world (Api Object) ≡ None → (c d : ClassName) → is_class_at world d ≡ true → (is_class_below world c d ≡ true ↔ IsSubtype world c d)

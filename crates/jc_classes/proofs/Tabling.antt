@@ -1,21 +1,21 @@
 -- Tables of the methods of classes.
-use Rattle.std.proofs.Common.{◌≡◌, ◌⊎◌, inl, inr, ℕ, zero, suc, ◌+◌, ◌-◌, ◌*◌, ◌<◌, ◌≤◌, ◌==◌, ◌&&◌, ◌||◌, not, Bool}
+use Rattle.std.proofs.Common.{◌≡◌, ℕ, zero, suc, ◌+◌, ◌-◌, ◌*◌, ◌<◌, ◌≤◌, ◌==◌, ◌||◌, not, Bool}
 use Rattle.std.proofs.Common.{true, false, cond, List, [], ◌∷◌, ◌++◌, length, set, take, get_or, Option, Some, None}
-use Rattle.std.proofs.Common.{refl, sym, ap, subst, ◌∙◌, arith, nat_lt, is_some, slice_get, unwrap_or, length-append}
+use Rattle.std.proofs.Common.{refl, sym, ap, subst, ◌∙◌, arith, nat_lt, unwrap_or, length-append}
 use Rattle.std.proofs.Common.{add-one}
 use Rattle.std.proofs.lemmas.Bool.{cases_lt, eqb-false, eqb-true, ltb-true, ltb-false, ne_eqb}
 use Rattle.std.proofs.lemmas.List.Elements.{filter_map-append}
 use Rattle.std.proofs.Math.Seq.{take-suc}
 use Rattle.std.proofs.lemmas.List.{get_or-set_other, get_or-set_same}
 use Rattle.std.proofs.lemmas.Option.{slice_get_past, slice_get_within, unwrap_or-slice_get}
-use Rattle.std.specs.List.{find, position, filter_map, cons_option}
-use Rattle.std.specs.Option.{option_map, option_and_then, option_map_or, option_to_list}
+use Rattle.std.specs.List.{filter_map, cons_option}
+use Rattle.std.specs.Option.{option_and_then, option_map_or, option_to_list}
 use Rattle.jc_base.proofs.Binding.{none_some, the_some}
 use Rattle.jc_cap.specs.Interfaces.{Implemented}
 use Rattle.jc_cap.specs.declared.record.ClassRecord.{ClassRecord}
 use Rattle.jc_cap.specs.declared.record.RecordBody.{RecordBody}
 use Rattle.jc_cap.specs.declared.record.VirtualTable.{VirtualTable}
-use Rattle.jc_cap.specs.declared.record.RecordBody.TheVariants.{Interface, Class}
+use Rattle.jc_cap.specs.declared.record.RecordBody.TheVariants.{Class}
 use Rattle.jc_cap_desc.specs.Shape.{ClassShape, Shape}
 use Rattle.jc_classes.proofs.Growing.{get_before, packages_keep, classes_keep, superclasses_keep, superclass_within}
 use Rattle.jc_classes.proofs.Growing.{virtual_methods_keep, listings_found_keep}
@@ -24,22 +24,21 @@ use Rattle.jc_classes.proofs.Standing.{some_of, package_there, true_false}
 use Rattle.jc_classes.proofs.Walking.{most_is}
 use Rattle.jc_classes.specs.Growth.{grown, IsWithin}
 use Rattle.jc_classes.specs.Limits.{IsSmall}
-use Rattle.jc_names.specs.Names.{is_same_name}
-use Rattle.jc_classes.specs.PrivateSearch.{place_in, place}
+use Rattle.jc_classes.specs.PrivateSearch.{place}
 use Rattle.jc_classes.specs.Record.{interface_rows}
 use Rattle.jc_cap.specs.ClassComponent.{is_class}
-use Rattle.jc_classes.specs.Methods.{entry_visit, is_this, table_visit, record_visit, virtual_visit, virtual_method_of}
+use Rattle.jc_classes.specs.Methods.{table_visit, record_visit, virtual_visit}
 use Rattle.jc_classes.specs.Methods.{package_visible, interface_visit, listing_visit, indexes_visit, row_for}
 use Rattle.jc_classes.specs.PrivatePlaces.{place_at}
 use Rattle.jc_classes.specs.Listed.{ListNothing, Listed, class_behind, indexes_in}
-use Rattle.jc_classes.specs.PrivateTables.{Tabled, no_methods, row_at, row_entry, visible_entry, entry_in, depth_above}
+use Rattle.jc_classes.specs.PrivateTables.{Tabled, no_methods, row_at, row_entry, entry_in, depth_above}
 use Rattle.jc_classes.specs.PrivateTables.{listed_above, lists_above, lists_any, IsTabled, IsTabledAbove, entry_made}
 use Rattle.jc_classes.specs.PrivateTables.{listed_row, index_at, table_in, table_of, AreTables, AreBefore, AreSameRows}
 use Rattle.jc_classes.specs.PrivateTables.{AreVisibleOver, IsRowOver, IsTableOver}
 use Rattle.jc_classes.specs.Subtype.{comes_to_end, has_whole_chain}
 use Rattle.jc_classes.specs.Walk.{most_classes, found_from, walk, found}
-use Rattle.jc_names.specs.Names.{home_of, offset_of}
-use Rattle.jc_classes.specs.World.{package_at, class_at, class_named, superclass_ref, superclass_of}
+use Rattle.jc_names.specs.Names.{home_of}
+use Rattle.jc_classes.specs.World.{class_at, superclass_of}
 use Rattle.jc_names.specs.declared.name.ClassName.{ClassName}
 use Rattle.jc_names.specs.declared.name.MethodName.{MethodName}
 use Rattle.jc_classes.specs.declared.walk.Visit.{Visit}
@@ -59,8 +58,7 @@ stable {A} visit world (suc n) (suc m) c e h =
     above : (o : Option ClassName) → option_map_or (comes_to_end world n) o true ≡ true → ((d : ClassName)
         → comes_to_end world n d ≡ true → walk visit world m d ≡ walk visit world n d)
         → option_and_then (walk visit world m) o ≡ option_and_then (walk visit world n) o
-    above None e rest = refl
-    above (Some d) e rest = rest d e
+    above o h1 h2 = grind arith
 
 -- what a class says, or what is found above it
 pub one_visit : {A : Type 0} (visit : ClassName → ClassShape
@@ -75,60 +73,40 @@ one_visit visit world n c k e h at =
 -- ---- tables of the class above
 
 one_at_least : (world : List Shape) (c : ClassName) (n : ℕ) → comes_to_end world n c ≡ true → 1 ≤ n
-one_at_least world c zero e = absurd (true_false (sym e))
-one_at_least world c (suc n) e = omega arith
+one_at_least world c n h1 = grind (arith, true_false)
 
 one_more : (world : List Shape) (c d : ClassName) (depth : ℕ) → superclass_of world c ≡ Some d → ((n : ℕ)
     → comes_to_end world n d ≡ true → depth ≤ n) → (n : ℕ) → comes_to_end world n c ≡ true → suc depth ≤ n
 one_more world c d depth s least zero e = absurd (true_false (sym e))
-one_more world c d depth s least (suc n) e =
-    let l = least n (sym (ap (λ (o : Option ClassName). option_map_or (comes_to_end world n) o true) s) ∙ e) in
-    omega (arith, l)
+one_more world c d depth s least (suc n) e = grind arith
 
 -- an interface's table has nothing
 no_entry : (token asker : ℕ) (b : Bool)
     → cond b (place_at no_methods.public token) (place_at (row_at no_methods.visible asker) (token - package_visible))
     ≡ None
-no_entry token asker true = refl
-no_entry token asker false = refl
+no_entry token asker b = grind arith
 
 pub none_above : (world : List Shape) (c : ClassName) → superclass_of world c ≡ None → IsTabledAbove world c None
-none_above world c e = record {
-  ends = ap (λ (o : Option ClassName). option_map_or (comes_to_end world 0) o true) e;
-  least = one_at_least world c;
-  methods =
-      λ token asker b. no_entry token asker (nat_lt token package_visible)
-      ∙ sym (ap (option_and_then (λ d. virtual_method_of world d token asker)) e);
-  interfaces = λ interface. sym (ap (option_and_then (found (interface_visit world interface) world)) e);
-  nothing = λ none d up. absurd (none_some d (sym e ∙ up));
-}
+none_above world c e = grind (arith, one_at_least, no_entry, none_some)
 
 pub some_above : (world : List Shape) (c d : ClassName) (table : Tabled) → superclass_of world c ≡ Some d
     → IsTabled world d table → IsTabledAbove world c (Some table)
 some_above world c d table e t = record {
   ends = ap (λ (o : Option ClassName). option_map_or (comes_to_end world table.depth) o true) e ∙ t.ends;
   least = one_more world c d table.depth e t.least;
-  methods =
-      λ token asker b. t.methods token asker b
-      ∙ sym (ap (option_and_then (λ d. virtual_method_of world d token asker)) e);
-  interfaces =
-      λ interface. t.interfaces interface
-      ∙ sym (ap (option_and_then (found (interface_visit world interface) world)) e);
+  methods = grind arith;
+  interfaces = grind arith;
   nothing = λ none d2 up. subst (ListNothing world) (the_some d d2 (sym e ∙ up)) (t.nothing none);
 }
 
 -- where neither the class nor one above it lists any
 no_rows : (rows : List Implemented) (b : Bool) → (not (length rows == 0) || b) ≡ false → (rows ≡ []) × (b ≡ false)
 no_rows [] b e = (refl, e)
-no_rows (row ∷ rows) b e =
-    absurd (true_false (sym (ap (λ t. not t || b) (ne_eqb (suc (length rows)) 0 (λ e. omega (arith, e)))) ∙ e))
+no_rows (row ∷ rows) b e = grind (arith, true_false, not, ne_eqb)
 
 nothing_made : (world : List Shape) (c : ClassName) (k : ClassShape) (above : Option Tabled) → class_at world c ≡ Some k
     → IsTabledAbove world c above → lists_any (interface_rows k.body) (lists_above above) ≡ false → ListNothing world c
-nothing_made world c k above at up none zero d k2 here there =
-    let same : k ≡ k2 = the_some k k2 (sym at ∙ ap (class_at world) (the_some c d here) ∙ there) in
-    sym (ap (λ (k : ClassShape). interface_rows k.body) same)
-    ∙ (no_rows (interface_rows k.body) (lists_above above) none).0
+nothing_made world c k above at up none zero d k2 here there = grind (arith, above, the_some, no_rows)
 nothing_made world c k above at up none (suc n) d k2 here there =
     let s = some_of (class_behind world n) (superclass_of world c) d here in
     up.nothing (no_rows (interface_rows k.body) (lists_above above) none).1 s.0 s.1 n d k2 s.2 there
@@ -165,39 +143,25 @@ made_right world c k above table at up one few methods interfaces lists =
 module _ (world : List Shape) (c : ClassName) (k : ClassShape) (at : class_at world c ≡ Some k)
     (not_class : is_class k.body ≡ false) where
   nothing_above : superclass_of world c ≡ None
-  nothing_above =
-      ap
-      (λ (o : Option ClassShape). option_and_then (class_named world (home_of c))
-      (option_and_then (λ (k : ClassShape). superclass_ref k.body) o)) at ∙ by_body k.body not_class
-    where
-      by_body : (body : RecordBody) → is_class body ≡ false
-          → option_and_then (class_named world (home_of c)) (superclass_ref body) ≡ None
-      by_body (Interface r) e = refl
-      by_body (Class r) e = absurd (true_false e)
+  nothing_above = grind (arith, true_false)
 
   ends_there : comes_to_end world 1 c ≡ true
   ends_there = ap (λ (o : Option ClassName). option_map_or (comes_to_end world 0) o true) nothing_above
 
   no_method : (token asker : ℕ) (rest : Option MethodName) (body : RecordBody) → is_class body ≡ false
       → found_from (record_visit world asker token (home_of c) body) rest ≡ None
-  no_method token asker rest (Interface r) e = refl
-  no_method token asker rest (Class r) e = absurd (true_false e)
+  no_method token asker rest body h1 = grind (arith, true_false)
 
   no_row : (interface : ClassName) (rest : Option (List ℕ)) (body : RecordBody) → is_class body ≡ false
       → found_from (listing_visit world interface (home_of c) body) rest ≡ None
-  no_row interface rest (Interface r) e = refl
-  no_row interface rest (Class r) e = absurd (true_false e)
+  no_row interface rest body h1 = grind (arith, true_false)
 
   no_rows_in : (body : RecordBody) → is_class body ≡ false → interface_rows body ≡ []
-  no_rows_in (Interface r) e = refl
-  no_rows_in (Class r) e = absurd (true_false e)
+  no_rows_in body h1 = grind (arith, true_false)
 
   no_rows_there : ListNothing world c
-  no_rows_there zero d k2 here there =
-      let same : k ≡ k2 = the_some k k2 (sym at ∙ ap (class_at world) (the_some c d here) ∙ there) in
-      sym (ap (λ (k : ClassShape). interface_rows k.body) same) ∙ no_rows_in k.body not_class
-  no_rows_there (suc n) d k2 here there =
-      absurd (none_some d (sym (ap (option_and_then (class_behind world n)) nothing_above) ∙ here))
+  no_rows_there zero d k2 here there = grind (arith, the_some, no_rows_in)
+  no_rows_there (suc n) d k2 here there = grind (arith, none_some, nothing_above)
 
   pub interface_tabled : IsTabled world c no_methods
   interface_tabled = record {
@@ -253,39 +217,22 @@ behind_within world (suc n) c d w e =
 
 nothing_keeps : (world : List Shape) (more : Shape) (c : ClassName) → IsWithin world c → ListNothing world c
     → ListNothing (grown world more) c
-nothing_keeps world more c w nothing n d k here there =
-    let before = sym (behind_keeps world more n c w) ∙ here in
-    nothing n d k before (sym (classes_keep world more d (behind_within world n c d w before)) ∙ there)
+nothing_keeps world more c w nothing n d k here there = grind (arith, behind_keeps, classes_keep, behind_within)
 
 table_grows : (world : List Shape) (more : Shape) (c : ClassName) (table : Tabled) → IsWithin world c
     → IsTabled world c table → IsTabled (grown world more) c table
-table_grows world more c table w t = record {
-  ends = ends_keep world more table.depth c w ∙ t.ends;
-  least = λ n e. t.least n (sym (ends_keep world more n c w) ∙ e);
-  depth = t.depth;
-  methods = λ token asker b. t.methods token asker b ∙ sym (virtual_methods_keep world more c token asker w);
-  interfaces = λ interface. t.interfaces interface ∙ sym (listings_found_keep world more interface c w);
-  nothing = λ none. nothing_keeps world more c w (t.nothing none);
-}
+table_grows world more c table w t = grind (arith, ends_keep, virtual_methods_keep, listings_found_keep, nothing_keeps)
 
 indexes_keep : (world : List Shape) (more : Shape) (c : ClassName) → IsWithin world c
     → index_at (grown world more) c ≡ index_at world c
-indexes_keep world more c w =
-    ap (option_and_then (λ (shape : Shape). position (λ (k : ClassShape). k.offset == offset_of c) shape.classes))
-    (packages_keep world more c w)
+indexes_keep world more c w = grind (arith, packages_keep)
 
 table_within : (tables : List (List (Option Tabled))) (home index : ℕ) (table : Tabled)
     → table_in tables home index ≡ Some table → home < length tables
-table_within tables home index table e =
-    let row = some_of (λ (row : List (Option Tabled)). place_at row index) (slice_get tables home) table e in
-    slice_get_within tables home row.0 row.1
+table_within tables home index table e = grind (arith, some_of, slice_get_within)
 
 pub index_within : (world : List Shape) (c : ClassName) (i : ℕ) → index_at world c ≡ Some i → IsWithin world c
-index_within world c i e =
-    let shape =
-    some_of (λ (shape : Shape). position (λ (k : ClassShape). k.offset == offset_of c) shape.classes)
-    (package_at world c) i e in
-    slice_get_within world (home_of c) shape.0 (package_there world c shape.0 shape.1)
+index_within world c i e = grind (arith, some_of, slice_get_within, package_there)
 
 table_keeps : (world : List Shape) (more : Shape) (tables : List (List (Option Tabled))) (c : ClassName)
     → IsWithin world c → table_of (grown world more) tables c ≡ table_of world tables c
@@ -293,10 +240,7 @@ table_keeps world more tables c w = ap (option_and_then (table_in tables (home_o
 
 chain_keeps : (world : List Shape) (more : Shape) (c : ClassName) → IsWithin world c
     → has_whole_chain (grown world more) c ≡ has_whole_chain world c
-chain_keeps world more c w =
-    ap (λ (o : Option ClassShape). is_some o && comes_to_end (grown world more) most_classes c)
-    (classes_keep world more c w)
-    ∙ ap (λ b. is_some (class_at world c) && b) (ends_keep world more most_classes c w)
+chain_keeps world more c w = grind (arith, classes_keep, ends_keep)
 
 pub tables_grow : (world : List Shape) (more : Shape) (tables : List (List (Option Tabled)))
     → AreTables world tables → AreBefore (grown world more) tables
@@ -316,14 +260,7 @@ tables_grow world more tables t = record {
 
 pub placed_index : (world : List Shape) (c : ClassName) (i : ℕ) → index_at world c ≡ Some i
     → place world c ≡ Some (256 * home_of c + i)
-placed_index world c i e = by_package (package_at world c) e
-  where
-    by_package : (o : Option Shape)
-        → option_and_then (λ (shape : Shape). position (λ (k : ClassShape). k.offset == offset_of c) shape.classes) o
-        ≡ Some i
-        → option_and_then (place_in (home_of c) (offset_of c)) o ≡ Some (256 * home_of c + i)
-    by_package None e = absurd (none_some i e)
-    by_package (Some shape) e = ap (option_map (λ (i : ℕ). 256 * home_of c + i)) e
+placed_index world c i e = grind (arith, none_some)
 
 pub one_class : (world : List Shape) (c d : ClassName) (i j : ℕ) → IsSmall world → index_at world c ≡ Some i
     → index_at world d ≡ Some j → home_of d ≡ home_of c → j ≡ i → c ≡ d
@@ -349,18 +286,12 @@ module _ (world : List Shape) (home : ℕ) (r : ClassRecord) (above : Option Tab
 
   by_package : (b : Bool) (visit : Visit MethodName) (rest : Option MethodName)
       → cond b (found_from visit rest) rest ≡ found_from (cond b visit Above) rest
-  by_package true visit rest = refl
-  by_package false visit rest = refl
+  by_package b visit rest = grind arith
 
   by_token : (token asker : ℕ) → token < 256 → (b : Bool) → nat_lt token package_visible ≡ b
       → cond b (place_at table.public token) (place_at (row_at table.visible asker) (token - package_visible))
       ≡ says token asker b
-  by_token token asker less true e = over.methods token (ltb-true token 128 e)
-  by_token token asker less false e =
-      let l = ltb-false token 128 e in
-      over.package_methods asker (token - 128) (omega (arith, l, less))
-      ∙ by_package (home == asker) (table_visit world home r.package_methods (token - package_visible))
-      (place_at (row_at up.visible asker) (token - package_visible))
+  by_token token asker h1 b h2 = grind (arith, ltb-true, ltb-false, by_package)
 
   pub entries_over : (token asker : ℕ) → token < 256
       → entry_in table token asker ≡ entry_made world above home (Class r) token asker
@@ -382,8 +313,7 @@ one_listed world home rows listed i row so_far less at =
     ∙ ap (λ n. filter_map (listed_row world home) (take n rows)) (sym (add-one i))
   where
     one_mapped : (o : Option Listed) → option_to_list o ≡ cons_option o []
-    one_mapped None = refl
-    one_mapped (Some l) = refl
+    one_mapped o = grind arith
 
 -- the rows of a class, and then those above
 pub listed_right : (world : List Shape) (home : ℕ) (rows : List Implemented) (rest : List Listed)
@@ -391,35 +321,7 @@ pub listed_right : (world : List Shape) (home : ℕ) (rows : List Implemented) (
     → indexes_in (filter_map (listed_row world home) rows ++ rest) interface
     ≡ found_from (indexes_visit (row_for world interface home rows)) (indexes_in rest interface)
 listed_right world home [] rest interface = refl
-listed_right world home (row ∷ rows) rest interface =
-    by_name (class_named world home row.interface) (listed_right world home rows rest interface)
-  where
-    by_test : (b : Bool) (c : ClassName)
-        → indexes_in (filter_map (listed_row world home) rows ++ rest) interface
-        ≡ found_from (indexes_visit (row_for world interface home rows)) (indexes_in rest interface)
-        → option_map (λ (l : Listed). l.indexes)
-        (cond b (Some (record { interface = c; indexes = row.indexes }))
-        (find (λ (l : Listed). is_same_name l.interface interface) (filter_map (listed_row world home) rows ++ rest)))
-        ≡ found_from (indexes_visit (cond b (Some row) (row_for world interface home rows))) (indexes_in rest interface)
-    by_test true c others = refl
-    by_test false c others = others
-
-    by_name : (o : Option ClassName)
-        → indexes_in (filter_map (listed_row world home) rows ++ rest) interface
-        ≡ found_from (indexes_visit (row_for world interface home rows)) (indexes_in rest interface)
-        → indexes_in
-        (cons_option (option_map (λ (c : ClassName). record { interface = c; indexes = row.indexes }) o)
-        (filter_map (listed_row world home) rows) ++ rest) interface
-        ≡ found_from (indexes_visit (cond (is_this interface o) (Some row) (row_for world interface home rows)))
-        (indexes_in rest interface)
-    by_name None others = others
-    by_name (Some c) others = by_test (is_same_name c interface) c others
-
-pub class_listing : (world : List Shape) (interface : ClassName) (home : ℕ) (body : RecordBody)
-    → is_class body ≡ true
-    → listing_visit world interface home body ≡ indexes_visit (row_for world interface home (interface_rows body))
-class_listing world interface home (Interface r) e = absurd (true_false (sym e))
-class_listing world interface home (Class r) e = refl
+listed_right world home (row ∷ rows) rest interface = grind (arith, listed_right world home rows rest interface)
 
 -- ---- rows that are made
 
@@ -433,93 +335,43 @@ place_last (x ∷ xs) y = place_last xs y
 
 pub each_pushed : {A : Type 0} (xs : List (Option A)) (y : Option A) (f : ℕ → Option A) (n : ℕ) → length xs ≡ n
     → ((i : ℕ) → i < n → place_at xs i ≡ f i) → y ≡ f n → (i : ℕ) → i < n + 1 → place_at (xs ++ y ∷ []) i ≡ f i
-each_pushed xs y f n count so_far last i less = by_order (cases_lt i n)
-  where
-    by_order : (i < n) ⊎ (n ≤ i) → place_at (xs ++ y ∷ []) i ≡ f i
-    by_order (inl before) = place_before xs y i (omega (arith, before, count)) ∙ so_far i before
-    by_order (inr behind) =
-        let same : i ≡ n = omega (arith, behind, less) in
-        ap (place_at (xs ++ y ∷ [])) (same ∙ sym count) ∙ place_last xs y ∙ last ∙ sym (ap f same)
+each_pushed xs y f n count so_far last i less = grind (arith, cases_lt, place_before, place_last)
 
 -- so many entries that are right, where there is nothing to be behind them
 pub row_whole : (world : List Shape) (home : ℕ) (table : VirtualTable) (above made : List (Option MethodName)) (n : ℕ)
     → length made ≡ n
     → ((i : ℕ) → i < n → place_at made i ≡ row_entry world home table above i)
     → ((i : ℕ) → n ≤ i → i < 128 → row_entry world home table above i ≡ None) → IsRowOver world home table above made
-row_whole world home table above made n count so_far none i less = by_order (cases_lt i n)
-  where
-    by_order : (i < n) ⊎ (n ≤ i) → place_at made i ≡ row_entry world home table above i
-    by_order (inl before) = so_far i before
-    by_order (inr behind) =
-        ap (λ (o : Option (Option MethodName)). unwrap_or o None) (slice_get_past made i (omega (arith, count, behind)))
-        ∙ sym (none i behind less)
+row_whole world home table above made n count so_far none i less = grind (arith, above, cases_lt, slice_get_past)
 
 -- a table without methods says nothing of its own
 pub row_shared : (world : List Shape) (home : ℕ) (table : VirtualTable) (above : List (Option MethodName))
     → length table.methods ≡ 0
     → IsRowOver world home table above above
-row_shared world home table above none i less =
-    sym
-    (ap
-    (λ b. found_from (cond b Above (entry_visit world home (slice_get table.methods (i - table.base))))
-    (place_at above i))
-    (ap (λ n. nat_lt i table.base || n == 0) none ∙ or_true (nat_lt i table.base)))
-  where
-    or_true : (b : Bool) → (b || true) ≡ true
-    or_true true = refl
-    or_true false = refl
+row_shared world home table above none i less = grind (arith, above)
 
 pub visible_shared : (world : List Shape) (home : ℕ) (table : VirtualTable) (above : List (List (Option MethodName)))
     → length table.methods ≡ 0
     → AreVisibleOver world home table above above
-visible_shared world home table above none asker i less = by_home (home == asker)
-  where
-    by_home : (b : Bool)
-        → place_at (row_at above asker) i
-        ≡ cond b (row_entry world home table (row_at above asker) i) (place_at (row_at above asker) i)
-    by_home true = row_shared world home table (row_at above asker) none i less
-    by_home false = refl
+visible_shared world home table above none asker i less = grind (arith, above, row_shared)
 
 -- there is nothing behind the last method of a record's table and of the row above
 pub row_ends : (world : List Shape) (home : ℕ) (table : VirtualTable) (above : List (Option MethodName)) (i : ℕ)
     → length table.methods + table.base ≤ i → place_at above i ≡ None → row_entry world home table above i ≡ None
-row_ends world home table above i past none = by_test (nat_lt i table.base || length table.methods == 0)
-  where
-    by_test : (b : Bool)
-        → found_from (cond b Above (entry_visit world home (slice_get table.methods (i - table.base))))
-        (place_at above i) ≡ None
-    by_test true = none
-    by_test false =
-        ap (λ (o : Option ℕ). found_from (entry_visit world home o) (place_at above i))
-        (slice_get_past table.methods (i - table.base) (omega (arith, past)))
+row_ends world home table above i past none = grind (arith, above, slice_get_past)
 
 -- the row of the class's own package in place of that above
 pub put_right : (world : List Shape) (home : ℕ) (table : VirtualTable) (rows : List (List (Option MethodName)))
     (made : List (Option MethodName)) → home < length rows
     → IsRowOver world home table (row_at rows home) made → AreVisibleOver world home table rows (set rows home made)
-put_right world home table rows made less over asker i few = by_home (home == asker) refl
-  where
-    by_home : (b : Bool) → (home == asker) ≡ b
-        → place_at (row_at (set rows home made) asker) i
-        ≡ cond b (row_entry world home table (row_at rows asker) i) (place_at (row_at rows asker) i)
-    by_home true e =
-        subst
-        (λ asker. place_at (row_at (set rows home made) asker) i ≡ row_entry world home table (row_at rows asker) i)
-        (eqb-true home asker e)
-        (ap (λ row. place_at row i)
-        (unwrap_or-slice_get (set rows home made) home [] ∙ get_or-set_same rows home made [] less) ∙ over i few)
-    by_home false e =
-        ap (λ row. place_at row i)
-        (unwrap_or-slice_get (set rows home made) asker []
-        ∙ get_or-set_other rows home asker made [] (λ same. eqb-false home asker e (sym same))
-        ∙ sym (unwrap_or-slice_get rows asker []))
+put_right world home table rows made less over asker i few =
+    grind (arith, set, eqb-true, unwrap_or-slice_get, get_or-set_same, get_or-set_other, eqb-false)
 
 -- rows that are the same, with that of the class's own package put behind
 pub visible_right : (world : List Shape) (home : ℕ) (table : VirtualTable)
     (above old made : List (List (Option MethodName))) → AreSameRows above old
     → AreVisibleOver world home table old made → AreVisibleOver world home table above made
-visible_right world home table above old made same over asker i less =
-    over asker i less ∙ ap (λ row. visible_entry world home table row asker i) (same asker)
+visible_right world home table above old made same over asker i less = grind (arith, above)
 
 -- ---- a table that is made
 

@@ -1,15 +1,14 @@
 -- Walks step by step.
 use Rattle.std.proofs.Common.{◌≡◌, ℕ, suc, ◌+◌, ◌-◌, ◌<◌, Option, Some, None, List, refl, sym, ap, ◌∙◌, arith}
-use Rattle.std.specs.Option.{option_and_then, option_map_or}
+use Rattle.std.specs.Option.{option_and_then}
 use Rattle.jc_cap_desc.specs.Shape.{ClassShape, Shape}
 use Rattle.jc_classes.specs.PrivateWalk.{step_to, step_from, step_of}
 use Rattle.jc_classes.specs.Walk.{most_classes, found_from, walk, found}
-use Rattle.jc_classes.specs.World.{class_at, superclass_of}
+use Rattle.jc_classes.specs.World.{superclass_of}
 use Rattle.jc_names.specs.declared.name.ClassName.{ClassName}
 use Rattle.jc_classes.specs.declared.walk.Step.{Step}
 use Rattle.jc_classes.specs.declared.walk.Step.TheVariants.{Gives, Ends, On}
 use Rattle.jc_classes.specs.declared.walk.Visit.{Visit}
-use Rattle.jc_classes.specs.declared.walk.Visit.TheVariants.{Has, Nothing, Above}
 
 -- what a walk gives behind a step, where the rest of it is known
 abbrev pub behind : {A : Type 0} → Step A → (ClassName → Option A) → Option A
@@ -18,20 +17,13 @@ behind Ends rest = None
 behind (On c) rest = rest c
 
 behind_to : {A : Type 0} (up : Option ClassName) (rest : ClassName → Option A) → option_and_then rest up ≡ behind (step_to up) rest
-behind_to None rest = refl
-behind_to (Some c) rest = refl
+behind_to up rest = grind arith
 
 behind_visit : {A : Type 0} (world : List Shape) (c : ClassName) (v : Visit A) (rest : ClassName → Option A) → found_from v (option_and_then rest (superclass_of world c)) ≡ behind (step_from world c v) rest
-behind_visit world c (Has a) rest = refl
-behind_visit world c Nothing rest = refl
-behind_visit world c Above rest = behind_to (superclass_of world c) rest
+behind_visit world c v rest = grind (arith, behind_to)
 
 pub walk_behind : {A : Type 0} (visit : ClassName → ClassShape → Visit A) (world : List Shape) (n : ℕ) (c : ClassName) → walk visit world (suc n) c ≡ behind (step_of visit world c) (walk visit world n)
-walk_behind visit world n c = by_class (class_at world c)
-  where
-    by_class : (o : Option ClassShape) → option_and_then (λ k. found_from (visit c k) (option_and_then (walk visit world n) (superclass_of world c))) o ≡ behind (option_map_or (λ k. step_from world c (visit c k)) o Ends) (walk visit world n)
-    by_class None = refl
-    by_class (Some k) = behind_visit world c (visit c k) (walk visit world n)
+walk_behind visit world n c = grind (arith, behind_visit)
 
 -- a walk of n steps, with one step done and m left
 module _ {A : Type 0} (visit : ClassName → ClassShape → Visit A) (world : List Shape) (total : Option A) (n m : ℕ) (c : ClassName) (one : n ≡ suc m) (so_far : walk visit world n c ≡ total) where

@@ -29,16 +29,13 @@ use Rattle.jc_names.specs.declared.name.ClassName.TheVariants.{Api}
 -- ---- tests
 
 first_true : (a b : Bool) → a ≡ true → (a || b) ≡ true
-first_true true b e = refl
-first_true false b e = absurd (true_false (sym e))
+first_true a b h1 = grind (arith, true_false)
 
 second_true : (a b : Bool) → b ≡ true → (a || b) ≡ true
-second_true true b e = refl
-second_true false b e = e
+second_true a b h1 = grind arith
 
 either : (a b : Bool) → (a || b) ≡ true → (a ≡ true) ⊎ (b ≡ true)
-either true b e = inl refl
-either false b e = inr e
+either a b h1 = grind arith
 
 any_among : (test : ClassName → Bool) (classes : List ClassName) (c : ClassName)
     → IsAmong c classes → test c ≡ true → list_any test classes ≡ true
@@ -67,22 +64,15 @@ module _ (world : List Shape) (n : ℕ) (c d : ClassName) where
   by_list = list_any (λ e. is_subtype_within world n e d) (interfaces_of world c)
 
   there_already : c ≡ d → is_subtype_within world (suc n) c d ≡ true
-  there_already one =
-      first_true (is_same_name c d || by_super) by_list
-      (first_true (is_same_name c d) by_super (ap (is_same_name c) (sym one) ∙ name_itself c))
+  there_already one = grind (arith, first_true, name_itself)
 
   through_super : (s : ClassName) → superclass_of world c ≡ Some s → is_subtype_within world n s d ≡ true
       → is_subtype_within world (suc n) c d ≡ true
-  through_super s up e =
-      first_true (is_same_name c d || by_super) by_list
-      (second_true (is_same_name c d) by_super
-      (ap (λ (o : Option ClassName). option_map_or (λ e. is_subtype_within world n e d) o false) up ∙ e))
+  through_super s up e = grind (arith, first_true, second_true)
 
   through_list : (i : ClassName) → Lists world c i → is_subtype_within world n i d ≡ true
       → is_subtype_within world (suc n) c d ≡ true
-  through_list i m e =
-      second_true (is_same_name c d || by_super) by_list
-      (any_among (λ e. is_subtype_within world n e d) (interfaces_of world c) i m e)
+  through_list i m e = grind (arith, second_true, any_among)
 
 -- ---- what the steps find
 
@@ -128,23 +118,14 @@ climbed world (suc n) d c e = by_way (found_by world d c n e) (λ s. climbed wor
     by_way : (c ≡ d) ⊎ ((s : ClassName) × (superclass_of world c ≡ Some s) × (is_at_or_above world n d s ≡ true))
         → ((s : ClassName) → is_at_or_above world n d s ≡ true → is_subtype_within world n s d ≡ true)
         → is_subtype_within world (suc n) c d ≡ true
-    by_way (inl one) rest = there_already world n c d one
-    by_way (inr r) rest = through_super world n c d r.0 r.1 (rest r.0 r.2)
+    by_way h1 h2 = grind (arith, there_already, through_super)
 
 below_object : (world : List Shape) (c d : ClassName) → Api Object ≡ d → is_subtype world c d ≡ true
-below_object world c d one =
-    first_true (is_same_name (Api Object) d) (is_subtype_within world most_classes c d)
-    (ap (is_same_name (Api Object)) (sym one) ∙ name_itself (Api Object))
+below_object world c d one = grind (arith, first_true, name_itself)
 
 pub below_is_found : (world : List Shape) (c d : ClassName) → is_class_below world c d ≡ true
     → is_subtype world c d ≡ true
-below_is_found world c d e = by_way (way_up world c d e)
-  where
-    by_way : (Api Object ≡ d) ⊎ (is_at_or_above world most_classes d c ≡ true) → is_subtype world c d ≡ true
-    by_way (inl one) = below_object world c d one
-    by_way (inr up) =
-        second_true (is_same_name (Api Object) d) (is_subtype_within world most_classes c d)
-        (climbed world most_classes d c up)
+below_is_found world c d e = grind (arith, way_up, below_object, second_true, climbed)
 
 -- ---- ways
 
@@ -159,8 +140,7 @@ found_on world to (suc n) _ _ (goes c d way m r) l =
   where
     by_edge : (superclass_of world c ≡ Some d) ⊎ Lists world c d → is_subtype_within world n d to ≡ true
         → is_subtype_within world (suc n) c to ≡ true
-    by_edge (inl up) e = through_super world n c to d up e
-    by_edge (inr up) e = through_list world n c to d up e
+    by_edge h1 h2 = grind (arith, through_super, through_list)
 
 way_of : (world : List Shape) (c e : ClassName) → IsSubtype world c e
     → (Api Object ≡ e) ⊎ ((way : List ClassName) × IsWay world e c way)
@@ -195,18 +175,7 @@ record IsNumbered (world : List Shape) (c : ClassName) : Type 0 where
   low : home_of c < 67
 
 is_numbered : (world : List Shape) (c : ClassName) → IsSmall world → IsThere world c → IsNumbered world c
-is_numbered world c small there =
-    let i = there_index world c there.0 there.1 in
-    let p = is_index world c i.0 i.1 in
-    let few = small.classes (home_of c) p.shape p.there in
-    let low = slice_get_within world (home_of c) p.shape p.there in
-    record {
-      index = i.0;
-      at = i.1;
-      number_is = ap (λ (o : Option ℕ). 255 * home_of c + unwrap_or o 0) i.1;
-      small = omega (arith, few, p.within);
-      low = omega (arith, low, small.packages);
-    }
+is_numbered world c small there = grind (arith, there_index, is_index, slice_get_within)
 
 one_number : (world : List Shape) (c d : ClassName) → IsSmall world → IsThere world c → IsThere world d
     → number world c ≡ number world d → c ≡ d
@@ -313,14 +282,7 @@ module _ (world : List Shape) (small : IsSmall world) (to : ClassName) where
   all_below : (q : ℕ) (way : List ClassName) → AllByRecursion (IsThere world) way
       → list_any (λ r. q == r) (map (number world) way) ≡ true → q < most_classes
   all_below q [] there e = absurd (true_false (sym e))
-  all_below q (c ∷ way) there e =
-      by_first (either (q == number world c) (list_any (λ r. q == r) (map (number world) way)) e)
-      (all_below q way there.1)
-    where
-      by_first : ((q == number world c) ≡ true) ⊎ (list_any (λ r. q == r) (map (number world) way) ≡ true)
-          → (list_any (λ r. q == r) (map (number world) way) ≡ true → q < most_classes) → q < most_classes
-      by_first (inl f) rest = omega (arith, eqb-true q (number world c) f, number_below world c small there.0)
-      by_first (inr f) rest = rest f
+  all_below q (c ∷ way) there e = grind (arith, either, eqb-true, number_below, all_below q way there.1)
 
   short_is_found : (c : ClassName) → IsShort world to c → is_subtype_within world most_classes c to ≡ true
   short_is_found c s =
@@ -338,24 +300,13 @@ module _ (world : List Shape) (small : IsSmall world) (to : ClassName) where
 
 pub all_are_found : (world : List Shape) → IsSmall world → (c d : ClassName) → IsSubtype world c d
     → is_subtype world c d ≡ true
-all_are_found world small c d s = by_way (way_of world c d s)
-  where
-    by_way : (Api Object ≡ d) ⊎ ((way : List ClassName) × IsWay world d c way) → is_subtype world c d ≡ true
-    by_way (inl one) = below_object world c d one
-    by_way (inr w) =
-        second_true (is_same_name (Api Object) d) (is_subtype_within world most_classes c d)
-        (way_is_found world small d c w.0 w.1)
+all_are_found world small c d s = grind (arith, way_of, below_object, second_true, way_is_found)
 
 -- ---- classes
 
 same_tests : (a b : Bool) → (a ≡ true → b ≡ true) → (b ≡ true → a ≡ true) → a ≡ b
-same_tests true true f g = refl
-same_tests true false f g = absurd (true_false (sym (f refl)))
-same_tests false true f g = absurd (true_false (sym (g refl)))
-same_tests false false f g = refl
+same_tests a b h1 h2 = grind (arith, true_false)
 
 pub same_of_classes : (world : List Shape) (c d : ClassName) → (is_class_below world c d ≡ true ↔ IsSubtype world c d)
     → is_subtype world c d ≡ is_class_below world c d
-same_of_classes world c d law =
-    same_tests (is_subtype world c d) (is_class_below world c d) (λ e. law.1 (found_is world c d e))
-    (below_is_found world c d)
+same_of_classes world c d law = grind (arith, same_tests, found_is, below_is_found)

@@ -19,9 +19,9 @@ use Rattle.jc_code.specs.declared.instr.WordOperation.TheVariants as Words
 use Rattle.jc_code.specs.declared.object.Creation.{Creation}
 use Rattle.jc_code.specs.declared.object.Creation.TheVariants as Creations
 use Rattle.jc_code.specs.declared.object.Invocation.{Invocation}
-use Rattle.jc_code.specs.declared.object.Invocation.TheVariants.{Virtual, Special, Static, Interface}
+use Rattle.jc_code.specs.declared.object.Invocation.TheVariants.{Interface}
 use Rattle.jc_code.specs.declared.object.ObjectOperation.{ObjectOperation}
-use Rattle.jc_code.specs.declared.object.ObjectOperation.TheVariants.{PushNull, Load, Store, LoadComponent, StoreComponent, ArrayLength, Branch, Field, Invoke, Create, CheckCast, InstanceOf, Throw, ReturnReference, ReturnVoid}
+use Rattle.jc_code.specs.declared.object.ObjectOperation.TheVariants.{Invoke, Create, CheckCast, InstanceOf}
 use Rattle.jc_code.specs.declared.object.TestedType.{TestedType}
 use Rattle.jc_code.specs.declared.object.TestedType.TheVariants as Tested
 use Rattle.jc_classes.specs.Growth.{IsWithin, KeepsAllLookups, StandWithin}
@@ -42,7 +42,7 @@ use Rattle.jc_types.specs.Known.{AreKnown, is_known}
 use Rattle.jc_types.specs.State.{Types, all_below, types_below}
 use Rattle.jc_types.specs.Ty.{is_below}
 use Rattle.jc_types.specs.declared.ty.Ty.{Ty}
-use Rattle.jc_types.specs.declared.ty.Ty.TheVariants.{Top, Word, Null, Class, BooleanArray, ByteArray, ShortArray, ReferenceArray}
+use Rattle.jc_types.specs.declared.ty.Ty.TheVariants.{Top, Word, Null, Class, ReferenceArray}
 use Rattle.jc_effects.proofs.Knowing.{entry_class, local_known, reverse_known, take_known}
 use Rattle.jc_effects.proofs.Order.{and_true, both}
 use Rattle.jc_effects.specs.Effect.{effect_of}
@@ -53,7 +53,7 @@ use Rattle.jc_effects.specs.Objects.{Setting, class_of_entry, class_target, crea
 use Rattle.jc_effects.specs.Row.{Row, after, all_meet, applied, count_of, has_local, is_met, local_meets, local_of, meets, taken_by}
 use Rattle.jc_effects.specs.Words.{takes, word, word_effect}
 use Rattle.jc_effects.specs.declared.row.Demand.{Demand}
-use Rattle.jc_effects.specs.declared.row.Demand.TheVariants.{Below, Reference, Bytes, Array}
+use Rattle.jc_effects.specs.declared.row.Demand.TheVariants.{Below, Reference}
 use Rattle.jc_effects.specs.declared.row.Given.TheVariants.{Exactly}
 use Rattle.jc_effects.specs.declared.row.Place.{Place}
 use Rattle.jc_effects.specs.declared.row.Place.TheVariants.{Nowhere, At}
@@ -130,47 +130,29 @@ module _ (known : ClassName → Bool) (one other : ClassName → ClassName → B
   class_same Word d h = refl
   class_same Null d h = refl
   class_same (Class c) d h = same c d h
-  class_same BooleanArray d h = same (Api Object) d object
-  class_same ByteArray d h = same (Api Object) d object
-  class_same ShortArray d h = same (Api Object) d object
-  class_same (ReferenceArray c) d h = same (Api Object) d object
+  class_same t d h = same (Api Object) d object
 
   array_same : (t : Ty) (d : ClassName) → is_known known t ≡ true
       → is_below one t (ReferenceArray d) ≡ is_below other t (ReferenceArray d)
-  array_same Top d h = refl
-  array_same Word d h = refl
-  array_same Null d h = refl
-  array_same (Class c) d h = refl
-  array_same BooleanArray d h = refl
-  array_same ByteArray d h = refl
-  array_same ShortArray d h = refl
   array_same (ReferenceArray c) d h = same c d h
+  array_same t d h = refl
 
   below_same : (t u : Ty) → is_known known t ≡ true → is_below one t u ≡ is_below other t u
-  below_same t Top h = refl
-  below_same t Word h = refl
-  below_same t Null h = refl
   below_same t (Class d) h = class_same t d h
-  below_same t BooleanArray h = refl
-  below_same t ByteArray h = refl
-  below_same t ShortArray h = refl
   below_same t (ReferenceArray d) h = array_same t d h
+  below_same t u h = refl
 
   meets_same : (demand : Demand) (t : Ty) → is_known known t ≡ true → meets one demand t ≡ meets other demand t
   meets_same (Below wanted) t h = below_same t wanted h
-  meets_same Reference t h = refl
-  meets_same Bytes t h = refl
-  meets_same Array t h = refl
+  meets_same u t h = refl
 
   all_meet_same : (demands : List Demand) (ts : List Ty) → list_all (is_known known) ts ≡ true
       → all_meet one demands ts ≡ all_meet other demands ts
-  all_meet_same [] [] h = refl
-  all_meet_same [] (t ∷ ts) h = refl
-  all_meet_same (d ∷ demands) [] h = refl
   all_meet_same (d ∷ demands) (t ∷ ts) h =
       let two = both (is_known known t) (list_all (is_known known) ts) h in
       ap (λ b. b && all_meet one demands ts) (meets_same d t two.0)
       ∙ ap (λ b. meets other d t && b) (all_meet_same demands ts two.1)
+  all_meet_same t u h = refl
 
   local_same : (place : Place) (t : Ty) → is_known known t ≡ true → local_meets one place t ≡ local_meets other place t
   local_same Nowhere t h = refl
@@ -202,18 +184,8 @@ module _ (known : ClassName → Bool) (one other : ClassName → ClassName → B
   word_same : (most : ℕ) (returned : Option Ty) (operation : WordOperation) (s : Types) → AreKnown known s
       → word_effect one most returned operation s ≡ word_effect other most returned operation s
   unfolding word_effect
-  word_same most returned Words.Nop s have = applied_same most _ s have
-  word_same most returned (Words.Push value) s have = applied_same most _ s have
-  word_same most returned (Words.Load local) s have = applied_same most _ s have
-  word_same most returned (Words.Store local) s have = applied_same most _ s have
-  word_same most returned (Words.Increment local by) s have = applied_same most _ s have
   word_same most returned (Words.Shuffle shuffle) s have = refl
-  word_same most returned (Words.Binary operator) s have = applied_same most _ s have
-  word_same most returned (Words.Unary operator) s have = applied_same most _ s have
-  word_same most returned (Words.Branch when offset) s have = applied_same most _ s have
-  word_same most returned (Words.StableSwitch default low offsets) s have = applied_same most _ s have
-  word_same most returned (Words.LookupSwitch default cases) s have = applied_same most _ s have
-  word_same most returned Words.ReturnWord s have = applied_same most _ s have
+  word_same most returned t s have = applied_same most _ s have
 
 -- ---- an order of classes with more below others
 
@@ -223,39 +195,23 @@ module _ (one other : ClassName → ClassName → Bool) (more : (c d : ClassName
   class_up Word d h = h
   class_up Null d h = h
   class_up (Class c) d h = more c d h
-  class_up BooleanArray d h = more (Api Object) d h
-  class_up ByteArray d h = more (Api Object) d h
-  class_up ShortArray d h = more (Api Object) d h
-  class_up (ReferenceArray c) d h = more (Api Object) d h
+  class_up t d h = more (Api Object) d h
 
   array_up : (t : Ty) (d : ClassName) → is_below one t (ReferenceArray d) ≡ true
       → is_below other t (ReferenceArray d) ≡ true
-  array_up Top d h = h
-  array_up Word d h = h
-  array_up Null d h = h
-  array_up (Class c) d h = h
-  array_up BooleanArray d h = h
-  array_up ByteArray d h = h
-  array_up ShortArray d h = h
   array_up (ReferenceArray c) d h = more c d h
+  array_up t d h = h
 
   type_up : (t u : Ty) → is_below one t u ≡ true → is_below other t u ≡ true
-  type_up t Top h = h
-  type_up t Word h = h
-  type_up t Null h = h
   type_up t (Class d) h = class_up t d h
-  type_up t BooleanArray h = h
-  type_up t ByteArray h = h
-  type_up t ShortArray h = h
   type_up t (ReferenceArray d) h = array_up t d h
+  type_up t u h = h
 
   all_up : (ts us : List Ty) → all_below one ts us ≡ true → all_below other ts us ≡ true
-  all_up [] [] h = h
-  all_up [] (u ∷ us) h = h
-  all_up (t ∷ ts) [] h = h
   all_up (t ∷ ts) (u ∷ us) h =
       let two = both (is_below one t u) (all_below one ts us) h in
       and_true (is_below other t u) (all_below other ts us) (type_up t u two.0) (all_up ts us two.1)
+  all_up t u h = h
 
   state_up : (s t : Types) → types_below one s t ≡ true → types_below other s t ≡ true
   state_up s t h =
@@ -301,24 +257,17 @@ module _ (set : Setting) (later : List Shape) (lookups : KeepsAllLookups set.wor
   interface_target_same : (arguments token index : ℕ) (o : Option PoolTarget) → slice_get set.targets index ≡ o
       → option_and_then (interface_target_row later arguments token) o
       ≡ option_and_then (interface_target_row set.world arguments token) o
-  interface_target_same arguments token index None e = refl
   interface_target_same arguments token index (Some (To.Class c)) e =
       ap (option_and_then (interface_row arguments))
       (interface_type_stays set.world later lookups linking c token
       (entry_within index c (ap (option_and_then class_target) e)))
-  interface_target_same arguments token index (Some (To.InstanceField class cell declared)) e = refl
-  interface_target_same arguments token index (Some (To.StaticField place declared)) e = refl
-  interface_target_same arguments token index (Some (To.VirtualMethod class number signature)) e = refl
-  interface_target_same arguments token index (Some (To.SuperMethod class method signature)) e = refl
-  interface_target_same arguments token index (Some (To.StaticMethod class method is_static signature)) e = refl
+  interface_target_same arguments token index t e = refl
 
   invocation_same : (invocation : Invocation)
       → invocation_row (in_world later set) invocation ≡ invocation_row set invocation
-  invocation_same (Virtual index) = refl
-  invocation_same (Special index) = refl
-  invocation_same (Static index) = refl
   invocation_same (Interface arguments index token) =
       interface_target_same arguments token index (slice_get set.targets index) refl
+  invocation_same t = refl
 
   creation_same : (creation : Creation) → creation_row (in_world later set) creation ≡ creation_row set creation
   creation_same (Creations.Object index) =
@@ -345,21 +294,11 @@ module _ (set : Setting) (later : List Shape) (lookups : KeepsAllLookups set.wor
 
   row_same : (operation : ObjectOperation) → object_row (in_world later set) operation ≡ object_row set operation
   unfolding object_row
-  row_same PushNull = refl
-  row_same (Load local) = refl
-  row_same (Store local) = refl
-  row_same (LoadComponent form) = refl
-  row_same (StoreComponent form) = refl
-  row_same ArrayLength = refl
-  row_same (Branch when offset) = refl
-  row_same (Field access index) = refl
   row_same (Invoke invocation) = invocation_same invocation
   row_same (Create creation) = creation_same creation
   row_same (CheckCast tested) = ap (option_map (λ t. takes (Reference ∷ []) (Exactly t))) (tested_same tested)
   row_same (InstanceOf tested) = ap (option_map (λ t. takes (Reference ∷ []) (Exactly Word))) (tested_same tested)
-  row_same Throw = refl
-  row_same ReturnReference = refl
-  row_same ReturnVoid = refl
+  row_same t = refl
 
   order_same : (c d : ClassName) → is_class_at set.world c ≡ true
       → is_class_below later c d ≡ is_class_below set.world c d

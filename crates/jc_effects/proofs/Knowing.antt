@@ -29,7 +29,7 @@ use Rattle.jc_code.specs.declared.object.Holder.TheVariants as Holders
 use Rattle.jc_code.specs.declared.object.Invocation.{Invocation}
 use Rattle.jc_code.specs.declared.object.Invocation.TheVariants.{Virtual, Special, Static, Interface}
 use Rattle.jc_code.specs.declared.object.ObjectOperation.{ObjectOperation}
-use Rattle.jc_code.specs.declared.object.ObjectOperation.TheVariants.{PushNull, Load, Store, LoadComponent, StoreComponent, ArrayLength, Branch, Field, Invoke, Create, CheckCast, InstanceOf, Throw, ReturnReference, ReturnVoid}
+use Rattle.jc_code.specs.declared.object.ObjectOperation.TheVariants.{LoadComponent, Field, Invoke, Create, CheckCast, InstanceOf, ReturnReference}
 use Rattle.jc_code.specs.declared.object.TestedType.{TestedType}
 use Rattle.jc_code.specs.declared.object.TestedType.TheVariants as Tested
 use Rattle.jc_code.specs.declared.object.WordKind.{WordKind}
@@ -47,7 +47,7 @@ use Rattle.jc_types.specs.Known.{AreKnown, is_known}
 use Rattle.jc_types.specs.State.{Types}
 use Rattle.jc_types.specs.Ty.{type_of_declared}
 use Rattle.jc_types.specs.declared.ty.Ty.{Ty}
-use Rattle.jc_types.specs.declared.ty.Ty.TheVariants.{Top, Word, Null, Class, BooleanArray, ByteArray, ShortArray, ReferenceArray}
+use Rattle.jc_types.specs.declared.ty.Ty.TheVariants.{Top, Word, Class, ReferenceArray}
 use Rattle.jc_effects.proofs.Lower.{reverse-cons}
 use Rattle.jc_effects.proofs.Monotone.{four, one, three, two}
 use Rattle.jc_effects.specs.Effect.{effect_of}
@@ -79,14 +79,9 @@ the_some x y h = cc
 -- ---- declared types
 
 pub declared_known : (known : ClassName → Bool) (t : DeclaredType ClassName) → is_known_type known t ≡ true → is_known known (type_of_declared t) ≡ true
-declared_known known Declared.Boolean h = refl
-declared_known known Declared.Byte h = refl
-declared_known known Declared.Short h = refl
 declared_known known (Declared.Reference c) h = h
-declared_known known Declared.BooleanArray h = refl
-declared_known known Declared.ByteArray h = refl
-declared_known known Declared.ShortArray h = refl
 declared_known known (Declared.ReferenceArray c) h = h
+declared_known known t h = refl
 
 module _ (known : ClassName → Bool) where
   -- ---- lists of known types
@@ -98,10 +93,9 @@ module _ (known : ClassName → Bool) where
   append_known xs ys h k = list_all-append (is_known known) xs ys ∙ both (all_known xs) (all_known ys) h k
 
   pub take_known : (n : ℕ) (xs : List Ty) → all_known xs ≡ true → all_known (take n xs) ≡ true
-  take_known zero xs h = refl
-  take_known (suc n) [] h = refl
   take_known (suc n) (x ∷ xs) h =
       let two = each (is_known known x) (all_known xs) h in both (is_known known x) (all_known (take n xs)) two.0 (take_known n xs two.1)
+  take_known t xs h = refl
 
   drop_known : (n : ℕ) (xs : List Ty) → all_known xs ≡ true → all_known (drop n xs) ≡ true
   drop_known zero xs h = h
@@ -128,22 +122,13 @@ module _ (known : ClassName → Bool) where
   -- ---- rows
 
   component_known : (t : Ty) → is_known known t ≡ true → is_known known (component_of t) ≡ true
-  component_known Top h = refl
-  component_known Word h = refl
-  component_known Null h = refl
-  component_known (Class c) h = refl
-  component_known BooleanArray h = refl
-  component_known ByteArray h = refl
-  component_known ShortArray h = refl
   component_known (ReferenceArray c) h = h
+  component_known t h = refl
 
   -- what is given exactly is known
   abbrev is_known_given : Given → Bool
-  is_known_given Nothing = true
   is_known_given (Exactly t) = is_known known t
-  is_known_given OfLocal = true
-  is_known_given (OfOperand k) = true
-  is_known_given (ComponentOf k) = true
+  is_known_given t = true
 
   given_known : (g : Given) (local : Ty) (taken : List Ty) → is_known_given g ≡ true → is_known known local ≡ true → all_known taken ≡ true
       → is_known known (given_type g local taken) ≡ true
@@ -224,18 +209,8 @@ module _ (known : ClassName → Bool) where
 
     word_known : (returned : Option Ty) (operation : WordOperation) (s t : Types) → word_effect below most returned operation s ≡ Ok t → AreKnown known s → AreKnown known t
     unfolding word_effect
-    word_known returned Words.Nop = applied_known _ (λ fits. (refl, refl))
-    word_known returned (Words.Push value) = applied_known _ (λ fits. (refl, refl))
-    word_known returned (Words.Load local) = applied_known _ (λ fits. (refl, refl))
-    word_known returned (Words.Store local) = applied_known _ (λ fits. (refl, refl))
-    word_known returned (Words.Increment local by) = applied_known _ (λ fits. (refl, refl))
     word_known returned (Words.Shuffle shuffle) = shuffle_known shuffle
-    word_known returned (Words.Binary operator) = applied_known _ (λ fits. (refl, refl))
-    word_known returned (Words.Unary operator) = applied_known _ (λ fits. (refl, refl))
-    word_known returned (Words.Branch when offset) = applied_known _ (λ fits. (refl, refl))
-    word_known returned (Words.StableSwitch default low offsets) = applied_known _ (λ fits. (refl, refl))
-    word_known returned (Words.LookupSwitch default cases) = applied_known _ (λ fits. (refl, refl))
-    word_known returned Words.ReturnWord = applied_known _ (λ fits. (refl, refl))
+    word_known returned t = applied_known _ (λ fits. (refl, refl))
 
 -- ---- the rows of operations on references
 
@@ -257,35 +232,28 @@ module _ (set : Setting) (names : NamesKnown set) where
 
   loaded_known : (form : Form) → is_known_given (is_class_at set.world) (component_loaded form) ≡ true
   loaded_known Forms.Reference = refl
-  loaded_known Forms.Byte = refl
-  loaded_known Forms.Short = refl
+  loaded_known t = refl
 
   -- fields
   static_known : (fits : Bool) (holder : Holder) (action : FieldAction) (t : Ty) → is_known (is_class_at set.world) t ≡ true
       → Gives (option_map (if_form fits) (static_holder_row holder action t))
   static_known fits Holders.Class Get t h = λ f. (refl, h)
   static_known fits Holders.Class Put t h = λ f. (refl, refl)
-  static_known fits Holders.Operand action t h = tt
-  static_known fits Holders.This action t h = tt
+  static_known fits u action t h = tt
 
   instance_known : (fits : Bool) (holder : Holder) (action : FieldAction) (class : ClassName) (t : Ty) → is_known (is_class_at set.world) t ≡ true
       → Gives (option_map (if_form fits) (object_holder_row holder action class t))
   instance_known fits Holders.Class action class t h = tt
-  instance_known fits Holders.Operand Get class t h = λ f. (refl, h)
   instance_known fits Holders.Operand Put class t h = λ f. (refl, refl)
-  instance_known fits Holders.This Get class t h = λ f. (refl, h)
   instance_known fits Holders.This Put class t h = λ f. (refl, refl)
+  instance_known fits u action class t h = λ f. (refl, h)
 
   field_known : (access : FieldAccess) (o : Option PoolTarget) → IsTarget o → Gives (option_and_then (field_row access) o)
-  field_known access None h = tt
-  field_known access (Some (To.Class c)) h = tt
   field_known access (Some (To.InstanceField class cell declared)) h =
       instance_known (is_form_of access.form declared) access.holder access.action class (type_of_declared declared) (declared_known (is_class_at set.world) declared h)
   field_known access (Some (To.StaticField place declared)) h =
       static_known (is_form_of access.form declared) access.holder access.action (type_of_declared declared) (declared_known (is_class_at set.world) declared h)
-  field_known access (Some (To.VirtualMethod class token signature)) h = tt
-  field_known access (Some (To.SuperMethod class method signature)) h = tt
-  field_known access (Some (To.StaticMethod class method is_static signature)) h = tt
+  field_known access t h = tt
 
   -- calls
   call_known : (object : List Demand) (signature : Signature ClassName) → is_known_signature (is_class_at set.world) signature ≡ true → Gives (Some (call object signature))
@@ -296,33 +264,17 @@ module _ (set : Setting) (names : NamesKnown set) where
       by_result (Value declared) k = λ f. (refl, declared_known (is_class_at set.world) declared k)
 
   virtual_known : (o : Option PoolTarget) → IsTarget o → Gives (option_and_then virtual_row o)
-  virtual_known None h = tt
-  virtual_known (Some (To.Class c)) h = tt
-  virtual_known (Some (To.InstanceField class cell declared)) h = tt
-  virtual_known (Some (To.StaticField place declared)) h = tt
   virtual_known (Some (To.VirtualMethod class token signature)) h = call_known (Below (Class class) ∷ []) signature h
-  virtual_known (Some (To.SuperMethod class method signature)) h = tt
-  virtual_known (Some (To.StaticMethod class method is_static signature)) h = tt
+  virtual_known t h = tt
 
   special_known : (o : Option PoolTarget) → IsTarget o → Gives (option_and_then special_row o)
-  special_known None h = tt
-  special_known (Some (To.Class c)) h = tt
-  special_known (Some (To.InstanceField class cell declared)) h = tt
-  special_known (Some (To.StaticField place declared)) h = tt
-  special_known (Some (To.VirtualMethod class token signature)) h = tt
   special_known (Some (To.SuperMethod class method signature)) h = call_known (Below (Class class) ∷ []) signature h
-  special_known (Some (To.StaticMethod class method true signature)) h = tt
   special_known (Some (To.StaticMethod class method false signature)) h = call_known (Below (Class class) ∷ []) signature h
+  special_known t h = tt
 
   static_call_known : (o : Option PoolTarget) → IsTarget o → Gives (option_and_then static_call_row o)
-  static_call_known None h = tt
-  static_call_known (Some (To.Class c)) h = tt
-  static_call_known (Some (To.InstanceField class cell declared)) h = tt
-  static_call_known (Some (To.StaticField place declared)) h = tt
-  static_call_known (Some (To.VirtualMethod class token signature)) h = tt
-  static_call_known (Some (To.SuperMethod class method signature)) h = tt
   static_call_known (Some (To.StaticMethod class method true signature)) h = call_known [] signature h
-  static_call_known (Some (To.StaticMethod class method false signature)) h = tt
+  static_call_known t h = tt
 
   -- the type of an interface's method
   interface_type_known : (c : ClassName) (token : ℕ) (t : Signature ClassName) → interface_method_type set.world c token ≡ Some t → is_known_signature (is_class_at set.world) t ≡ true
@@ -369,17 +321,11 @@ module _ (set : Setting) (names : NamesKnown set) where
   -- objects that are made and tested
   array_known : (kind : WordKind) → is_known (is_class_at set.world) (word_array kind) ≡ true
   array_known Kinds.Boolean = refl
-  array_known Kinds.Byte = refl
-  array_known Kinds.Short = refl
+  array_known t = refl
 
   class_there : (o : Option PoolTarget) → IsTarget o → (c : ClassName) → option_and_then class_target o ≡ Some c → is_class_at set.world (counted set.world c) ≡ true
-  class_there None h c e = none_some c e
   class_there (Some (To.Class d)) h c e = subst (λ c. is_class_at set.world (counted set.world c) ≡ true) (the_some d c e) h
-  class_there (Some (To.InstanceField class cell declared)) h c e = none_some c e
-  class_there (Some (To.StaticField place declared)) h c e = none_some c e
-  class_there (Some (To.VirtualMethod class token signature)) h c e = none_some c e
-  class_there (Some (To.SuperMethod class method signature)) h c e = none_some c e
-  class_there (Some (To.StaticMethod class method is_static signature)) h c e = none_some c e
+  class_there t h c e = none_some c e
 
   pub entry_class : (index : ℕ) (c : ClassName) → class_of_entry set index ≡ Some c
       → is_class_at set.world (counted set.world c) ≡ true
@@ -432,21 +378,14 @@ module _ (set : Setting) (names : NamesKnown set) where
 
   object_known : (operation : ObjectOperation) → Gives (object_row set operation)
   unfolding object_row
-  object_known PushNull = λ fits. (refl, refl)
-  object_known (Load local) = λ fits. (refl, refl)
-  object_known (Store local) = λ fits. (refl, refl)
   object_known (LoadComponent form) = λ fits. (refl, loaded_known form)
-  object_known (StoreComponent form) = λ fits. (refl, refl)
-  object_known ArrayLength = λ fits. (refl, refl)
-  object_known (Branch when offset) = λ fits. (refl, refl)
   object_known (Field access index) = field_known access (slice_get set.targets index) (target_there index)
   object_known (Invoke invocation) = invocation_known invocation
   object_known (Create creation) = creation_known creation
   object_known (CheckCast tested) = cast_known (tested_type set tested) (tested_known tested)
   object_known (InstanceOf tested) = test_known (tested_type set tested)
-  object_known Throw = λ fits. (refl, refl)
   object_known ReturnReference = return_known set.returned
-  object_known ReturnVoid = λ fits. (refl, refl)
+  object_known t = λ fits. (refl, refl)
 
   pub effect_known : (most : ℕ) (operation : Operation) (s t : Types) → effect_of set most operation s ≡ Ok t → AreKnown (is_class_at set.world) s → AreKnown (is_class_at set.world) t
   unfolding effect_of

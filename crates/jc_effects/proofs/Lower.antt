@@ -16,54 +16,48 @@ reverse-cons x xs = reverse-append (x ∷ []) xs
 module _ (below : ClassName → ClassName → Bool) where
   pub same_length : (xs ys : List Ty) → all_below below xs ys ≡ true → length xs ≡ length ys
   same_length [] [] h = refl
-  same_length [] (y ∷ ys) h = absurd cc
-  same_length (x ∷ xs) [] h = absurd cc
   same_length (x ∷ xs) (y ∷ ys) h = omega (arith, same_length xs ys (both (is_below below x y) (all_below below xs ys) h).1)
+  same_length t u h = absurd cc
 
   pub take_down : (n : ℕ) (xs ys : List Ty) → all_below below xs ys ≡ true → all_below below (take n xs) (take n ys) ≡ true
-  take_down zero xs ys h = refl
-  take_down (suc n) [] [] h = refl
   take_down (suc n) [] (y ∷ ys) h = absurd cc
   take_down (suc n) (x ∷ xs) [] h = absurd cc
   take_down (suc n) (x ∷ xs) (y ∷ ys) h =
       let two = both (is_below below x y) (all_below below xs ys) h in
       and_true (is_below below x y) (all_below below (take n xs) (take n ys)) two.0 (take_down n xs ys two.1)
+  take_down t xs ys h = refl
 
   pub drop_down : (n : ℕ) (xs ys : List Ty) → all_below below xs ys ≡ true → all_below below (drop n xs) (drop n ys) ≡ true
   drop_down zero xs ys h = h
   drop_down (suc n) [] [] h = refl
-  drop_down (suc n) [] (y ∷ ys) h = absurd cc
-  drop_down (suc n) (x ∷ xs) [] h = absurd cc
   drop_down (suc n) (x ∷ xs) (y ∷ ys) h = drop_down n xs ys (both (is_below below x y) (all_below below xs ys) h).1
+  drop_down t xs ys h = absurd cc
 
   append_down : (xs ys us vs : List Ty) → all_below below xs ys ≡ true → all_below below us vs ≡ true
       → all_below below (xs ++ us) (ys ++ vs) ≡ true
   append_down [] [] us vs h k = k
-  append_down [] (y ∷ ys) us vs h k = absurd cc
-  append_down (x ∷ xs) [] us vs h k = absurd cc
   append_down (x ∷ xs) (y ∷ ys) us vs h k =
       let two = both (is_below below x y) (all_below below xs ys) h in
       and_true (is_below below x y) (all_below below (xs ++ us) (ys ++ vs)) two.0 (append_down xs ys us vs two.1 k)
+  append_down t u us vs h k = absurd cc
 
   pub reverse_down : (xs ys : List Ty) → all_below below xs ys ≡ true → all_below below (reverse xs) (reverse ys) ≡ true
   reverse_down [] [] h = refl
-  reverse_down [] (y ∷ ys) h = absurd cc
-  reverse_down (x ∷ xs) [] h = absurd cc
   reverse_down (x ∷ xs) (y ∷ ys) h =
       let two = both (is_below below x y) (all_below below xs ys) h in
       rw (reverse-cons x xs, reverse-cons y ys)
       (append_down (reverse xs) (reverse ys) (x ∷ []) (y ∷ []) (reverse_down xs ys two.1) (and_true (is_below below x y) true two.0 refl))
+  reverse_down t u h = absurd cc
 
   pub set_down : (xs ys : List Ty) (i : ℕ) (x y : Ty) → all_below below xs ys ≡ true → is_below below x y ≡ true
       → all_below below (slice_set xs i x) (slice_set ys i y) ≡ true
   set_down [] [] i x y h k = refl
-  set_down [] (v ∷ ys) i x y h k = absurd cc
-  set_down (u ∷ xs) [] i x y h k = absurd cc
   set_down (u ∷ xs) (v ∷ ys) zero x y h k =
       and_true (is_below below x y) (all_below below xs ys) k (both (is_below below u v) (all_below below xs ys) h).1
   set_down (u ∷ xs) (v ∷ ys) (suc i) x y h k =
       let two = both (is_below below u v) (all_below below xs ys) h in
       and_true (is_below below u v) (all_below below (slice_set xs i x) (slice_set ys i y)) two.0 (set_down xs ys i x y two.1 k)
+  set_down t u i x y h k = absurd cc
 
   pub all_meet_down : IsTransitive below → (ds : List Demand) (xs ys : List Ty) → all_below below xs ys ≡ true
       → all_meet below ds ys ≡ true → all_meet below ds xs ≡ true

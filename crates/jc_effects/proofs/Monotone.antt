@@ -7,7 +7,7 @@ use Rattle.jc_code.specs.declared.instr.Operation.TheVariants as Operations
 use Rattle.jc_code.specs.declared.instr.Shuffle as shuffles
 use Rattle.jc_code.specs.declared.instr.Shuffle.TheVariants.{Pop, Duplicate, Swap}
 use Rattle.jc_code.specs.declared.instr.WordOperation.{WordOperation}
-use Rattle.jc_code.specs.declared.instr.WordOperation.TheVariants.{Nop, Push, Load, Store, Increment, Shuffle, Binary, Unary, Branch, StableSwitch, LookupSwitch, ReturnWord}
+use Rattle.jc_code.specs.declared.instr.WordOperation.TheVariants.{Shuffle}
 use Rattle.jc_classes.specs.Subtype.{is_class_below}
 use Rattle.jc_names.specs.declared.name.ClassName.{ClassName}
 use Rattle.jc_types.specs.declared.ty.Ty.{Ty}
@@ -15,7 +15,7 @@ use Rattle.jc_types.specs.Changes.{with_operands, drop_types, duplicate_types, s
 use Rattle.jc_types.specs.State.{Types, all_below, types_below}
 use Rattle.jc_types.specs.Ty.{is_below}
 use Rattle.jc_effects.specs.declared.row.Given.{Given}
-use Rattle.jc_effects.specs.declared.row.Given.TheVariants.{Nothing, Exactly, OfLocal, OfOperand, ComponentOf}
+use Rattle.jc_effects.specs.declared.row.Given.TheVariants.{Nothing}
 use Rattle.jc_effects.specs.declared.row.Place.{Place}
 use Rattle.jc_effects.specs.declared.row.Place.TheVariants.{Nowhere, At}
 use Rattle.jc_effects.specs.Effect.{effect_of}
@@ -32,16 +32,12 @@ pub four : (a b c d : Bool) (x t : Types)
     → (if a then Err BadLocal else if b then Err StackUnder else if c then Err WrongType else if d then Err StackOver else Ok x) ≡ Ok t
     → (a ≡ false) × (b ≡ false) × (c ≡ false) × (d ≡ false) × (x ≡ t)
 four false false false false x t h = (refl, refl, refl, refl, cc)
-four false false false true x t h = absurd cc
-four false false true d x t h = absurd cc
-four false true c d x t h = absurd cc
-four true b c d x t h = absurd cc
+four u b c d x t h = absurd cc
 
 pub two : (a b : Bool) (x t : Types) → (if a then Err StackUnder else if b then Err StackOver else Ok x) ≡ Ok t
     → (a ≡ false) × (b ≡ false) × (x ≡ t)
 two false false x t h = (refl, refl, cc)
-two false true x t h = absurd cc
-two true b x t h = absurd cc
+two u b x t h = absurd cc
 
 pub one : (a : Bool) (x t : Types) → (if a then Err StackUnder else Ok x) ≡ Ok t → (a ≡ false) × (x ≡ t)
 one false x t h = (refl, cc)
@@ -49,9 +45,7 @@ one true x t h = absurd cc
 
 pub three : (a b c : Bool) → not (a && b && c) ≡ false → (a ≡ true) × (b ≡ true) × (c ≡ true)
 three true true true h = (refl, refl, refl)
-three true true false h = absurd cc
-three true false c h = absurd cc
-three false b c h = absurd cc
+three t b c h = absurd cc
 
 module _ (below : ClassName → ClassName → Bool) (reflexive : IsReflexive below) (transitive : IsTransitive below) (most : ℕ) where
   -- ---- rows
@@ -98,10 +92,7 @@ module _ (below : ClassName → ClassName → Bool) (reflexive : IsReflexive bel
   put_on_down : (g : Given) (x y : Ty) (xs ys : List Ty) → is_below below x y ≡ true → all_below below xs ys ≡ true
       → all_below below (put_on g x xs) (put_on g y ys) ≡ true
   put_on_down Nothing x y xs ys h k = k
-  put_on_down (Exactly t) x y xs ys h k = and_true (is_below below x y) (all_below below xs ys) h k
-  put_on_down OfLocal x y xs ys h k = and_true (is_below below x y) (all_below below xs ys) h k
-  put_on_down (OfOperand i) x y xs ys h k = and_true (is_below below x y) (all_below below xs ys) h k
-  put_on_down (ComponentOf i) x y xs ys h k = and_true (is_below below x y) (all_below below xs ys) h k
+  put_on_down t x y xs ys h k = and_true (is_below below x y) (all_below below xs ys) h k
 
   put_at_down : (index : ℕ) (b : Bool) (x y : Ty) (xs ys : List Ty) → is_below below x y ≡ true → all_below below xs ys ≡ true
       → all_below below (if b then slice_set xs index x else xs) (if b then slice_set ys index y else ys) ≡ true
@@ -210,18 +201,8 @@ module _ (below : ClassName → ClassName → Bool) (reflexive : IsReflexive bel
   pub word_down : (returned : Option Ty) (operation : WordOperation)
       → IsMonotone below (word_effect below most returned operation)
   unfolding word_effect
-  word_down returned Nop = applied_down _
-  word_down returned (Push value) = applied_down _
-  word_down returned (Load local) = applied_down _
-  word_down returned (Store local) = applied_down _
-  word_down returned (Increment local by) = applied_down _
   word_down returned (Shuffle shuffle) = shuffle_down shuffle
-  word_down returned (Binary operator) = applied_down _
-  word_down returned (Unary operator) = applied_down _
-  word_down returned (Branch when offset) = applied_down _
-  word_down returned (StableSwitch default low offsets) = applied_down _
-  word_down returned (LookupSwitch default cases) = applied_down _
-  word_down returned ReturnWord = applied_down _
+  word_down returned t = applied_down _
 
 pub effect_down : (set : Setting) → IsReflexive (is_class_below set.world) → IsTransitive (is_class_below set.world)
     → (most : ℕ) (operation : Operation)

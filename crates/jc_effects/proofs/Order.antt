@@ -15,8 +15,7 @@ use Rattle.jc_effects.specs.Row.{component_of, given_type, is_array, is_bytes, i
 
 pub both : (a b : Bool) → a && b ≡ true → (a ≡ true) × (b ≡ true)
 both true true h = (refl, refl)
-both true false h = absurd cc
-both false b h = absurd cc
+both t b h = absurd cc
 
 pub and_true : (a b : Bool) → a ≡ true → b ≡ true → a && b ≡ true
 and_true a b h k = rw (h, k) refl
@@ -27,9 +26,8 @@ left false b e = absurd cc
 
 -- one of two holds, and so one of these two with others between
 around : (a b c : Bool) → (a || c) ≡ true → ((a || b) || c) ≡ true
-around true b c e = refl
-around false true c e = refl
 around false false c e = e
+around t b c e = refl
 
 -- ---- what the order of states says of types
 
@@ -60,79 +58,55 @@ module _ (below : ClassName → ClassName → Bool) where
   -- ---- what has to be
 
   bytes_down : (a b : Ty) → is_below below a b ≡ true → is_bytes b ≡ true → is_bytes a ≡ true
-  bytes_down a Top h k = absurd cc
-  bytes_down a Word h k = absurd cc
   bytes_down a Null h k = left (is_null a || is_boolean_array a) (is_byte_array a) (left (is_null a) (is_boolean_array a) h)
-  bytes_down a (Class d) h k = absurd cc
   bytes_down a BooleanArray h k = left (is_null a || is_boolean_array a) (is_byte_array a) h
   bytes_down a ByteArray h k = around (is_null a) (is_boolean_array a) (is_byte_array a) h
-  bytes_down a ShortArray h k = absurd cc
-  bytes_down a (ReferenceArray d) h k = absurd cc
+  bytes_down a t h k = absurd cc
 
   -- what is below arrays of references, and isn't null, is such an array
   arrays_down : (a : Ty) (d : ClassName) → is_below below a (ReferenceArray d) ≡ true → is_array a ≡ true
   arrays_down Top d h = absurd cc
   arrays_down Word d h = absurd cc
-  arrays_down Null d h = refl
   arrays_down (Class c) d h = absurd cc
-  arrays_down BooleanArray d h = refl
-  arrays_down ByteArray d h = refl
-  arrays_down ShortArray d h = refl
-  arrays_down (ReferenceArray c) d h = refl
+  arrays_down t d h = refl
 
   short_down : (a : Ty) → is_below below a ShortArray ≡ true → is_array a ≡ true
   short_down Top h = absurd cc
   short_down Word h = absurd cc
-  short_down Null h = refl
   short_down (Class c) h = absurd cc
-  short_down BooleanArray h = refl
-  short_down ByteArray h = refl
-  short_down ShortArray h = refl
-  short_down (ReferenceArray c) h = refl
+  short_down t h = refl
 
   bytes_are_arrays : (t : Ty) → is_bytes t ≡ true → is_array t ≡ true
   bytes_are_arrays t h = left (is_bytes t || is_short_array t) (is_some (class_of_components t)) (left (is_bytes t) (is_short_array t) h)
 
   array_down : (a b : Ty) → is_below below a b ≡ true → is_array b ≡ true → is_array a ≡ true
-  array_down a Top h k = absurd cc
-  array_down a Word h k = absurd cc
   array_down a Null h k = bytes_are_arrays a (bytes_down a Null h refl)
-  array_down a (Class d) h k = absurd cc
   array_down a BooleanArray h k = bytes_are_arrays a (bytes_down a BooleanArray h refl)
   array_down a ByteArray h k = bytes_are_arrays a (bytes_down a ByteArray h refl)
   array_down a ShortArray h k = short_down a h
   array_down a (ReferenceArray d) h k = arrays_down a d h
+  array_down a t h k = absurd cc
 
   arrays_are_references : (t : Ty) → is_array t ≡ true → is_reference t ≡ true
   arrays_are_references Top h = absurd cc
   arrays_are_references Word h = absurd cc
-  arrays_are_references Null h = refl
   arrays_are_references (Class c) h = absurd cc
-  arrays_are_references BooleanArray h = refl
-  arrays_are_references ByteArray h = refl
-  arrays_are_references ShortArray h = refl
-  arrays_are_references (ReferenceArray c) h = refl
+  arrays_are_references t h = refl
 
   -- what is below objects of a class is a reference
   objects_down : (a : Ty) (d : ClassName) → is_below below a (Class d) ≡ true → is_reference a ≡ true
   objects_down Top d h = absurd cc
   objects_down Word d h = absurd cc
-  objects_down Null d h = refl
-  objects_down (Class c) d h = refl
-  objects_down BooleanArray d h = refl
-  objects_down ByteArray d h = refl
-  objects_down ShortArray d h = refl
-  objects_down (ReferenceArray c) d h = refl
+  objects_down t d h = refl
 
   reference_down : (a b : Ty) → is_below below a b ≡ true → is_reference b ≡ true → is_reference a ≡ true
-  reference_down a Top h k = absurd cc
-  reference_down a Word h k = absurd cc
   reference_down a Null h k = left (is_null a) (is_some (class_of_objects a)) h
   reference_down a (Class d) h k = objects_down a d h
   reference_down a BooleanArray h k = arrays_are_references a (array_down a BooleanArray h refl)
   reference_down a ByteArray h k = arrays_are_references a (array_down a ByteArray h refl)
   reference_down a ShortArray h k = arrays_are_references a (array_down a ShortArray h refl)
   reference_down a (ReferenceArray d) h k = arrays_are_references a (array_down a (ReferenceArray d) h refl)
+  reference_down a t h k = absurd cc
 
   -- what is as it has to be is so further down
   pub meets_down : IsTransitive below → (d : Demand) (a b : Ty) → is_below below a b ≡ true → meets below d b ≡ true
@@ -146,43 +120,26 @@ module _ (below : ClassName → ClassName → Bool) where
 
   of_arrays_down : (a : Ty) (d : ClassName) → is_below below a (ReferenceArray d) ≡ true
       → is_below below (component_of a) (Class d) ≡ true
-  of_arrays_down Top d h = absurd cc
-  of_arrays_down Word d h = absurd cc
   of_arrays_down Null d h = refl
-  of_arrays_down (Class c) d h = absurd cc
-  of_arrays_down BooleanArray d h = absurd cc
-  of_arrays_down ByteArray d h = absurd cc
-  of_arrays_down ShortArray d h = absurd cc
   of_arrays_down (ReferenceArray c) d h = h
+  of_arrays_down t d h = absurd cc
 
   of_null_down : (a : Ty) → is_below below a Null ≡ true → is_below below (component_of a) Null ≡ true
-  of_null_down Top h = absurd cc
-  of_null_down Word h = absurd cc
   of_null_down Null h = refl
-  of_null_down (Class c) h = absurd cc
-  of_null_down BooleanArray h = absurd cc
-  of_null_down ByteArray h = absurd cc
-  of_null_down ShortArray h = absurd cc
-  of_null_down (ReferenceArray c) h = absurd cc
+  of_null_down t h = absurd cc
 
   component_down : (a b : Ty) → is_below below a b ≡ true → is_below below (component_of a) (component_of b) ≡ true
-  component_down a Top h = refl
-  component_down a Word h = refl
   component_down a Null h = of_null_down a h
-  component_down a (Class d) h = refl
-  component_down a BooleanArray h = refl
-  component_down a ByteArray h = refl
-  component_down a ShortArray h = refl
   component_down a (ReferenceArray d) h = of_arrays_down a d h
+  component_down a t h = refl
 
   -- the types at a place
   pub at_down : (xs ys : List Ty) (i : ℕ) → all_below below xs ys ≡ true
       → is_below below (unwrap_or (slice_get xs i) Top) (unwrap_or (slice_get ys i) Top) ≡ true
   at_down [] [] i h = refl
-  at_down [] (y ∷ ys) i h = absurd cc
-  at_down (x ∷ xs) [] i h = absurd cc
   at_down (x ∷ xs) (y ∷ ys) zero h = (both (is_below below x y) (all_below below xs ys) h).0
   at_down (x ∷ xs) (y ∷ ys) (suc i) h = at_down xs ys i (both (is_below below x y) (all_below below xs ys) h).1
+  at_down t u i h = absurd cc
 
   -- what is given of lower types is lower
   pub given_down : IsReflexive below → (g : Given) (l m : Ty) (xs ys : List Ty) → is_below below l m ≡ true

@@ -10,12 +10,11 @@ module _ (below : ClassName → ClassName → Bool) {X : Type 0} (f : X → Dema
   one_point : (xs : List X) (ts : List Ty) (i : ℕ) (x : X) (t : Ty) → i < length xs → length xs ≡ length ts
       → all_meet below (map f (drop i xs)) (drop i ts)
       ≡ meets below (f (get_or xs i x)) (get_or ts i t) && all_meet below (map f (drop (i + 1) xs)) (drop (i + 1) ts)
-  one_point [] ts i x t lt e = absurd (omega arith)
-  one_point (a ∷ xs) [] i x t lt e = absurd (omega arith)
   one_point (a ∷ xs) (b ∷ ts) zero x t lt e = refl
   one_point (a ∷ xs) (b ∷ ts) (suc i) x t lt e =
       let k : suc i + 1 ≡ suc (i + 1) = omega arith in
       rw k (one_point xs ts i x t (omega arith) (omega arith))
+  one_point u ts i x t lt e = absurd (omega arith)
 
   pub goes_on : (xs : List X) (ts : List Ty) (i : ℕ) (x : X) (t : Ty) (total : Bool) → i < length xs → length xs ≡ length ts
       → meets below (f (get_or xs i x)) (get_or ts i t) ≡ true → all_meet below (map f (drop i xs)) (drop i ts) ≡ total
@@ -37,10 +36,8 @@ module _ (below : ClassName → ClassName → Bool) {X : Type 0} (f : X → Dema
       → all_meet below (map f (drop i xs)) (drop i ts) ≡ true
   nothing_left [] [] zero le e = refl
   nothing_left [] [] (suc i) le e = refl
-  nothing_left [] (t ∷ ts) i le e = absurd (omega arith)
-  nothing_left (x ∷ xs) [] i le e = absurd (omega arith)
-  nothing_left (x ∷ xs) (t ∷ ts) zero le e = absurd (omega arith)
   nothing_left (x ∷ xs) (t ∷ ts) (suc i) le e = nothing_left xs ts i (omega arith) (omega arith)
+  nothing_left t u i le e = absurd (omega arith)
 
   pub is_done : (xs : List X) (ts : List Ty) (i : ℕ) (total : Bool) → length xs ≤ i → length xs ≡ length ts
       → all_meet below (map f (drop i xs)) (drop i ts) ≡ total → true ≡ total

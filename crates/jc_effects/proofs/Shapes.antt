@@ -23,7 +23,7 @@ use Rattle.jc_effects.specs.Row.{Row, after, applied, count_of, given_type, has_
 use Rattle.jc_effects.specs.Row.{put_in, put_on, taken_by}
 use Rattle.jc_effects.specs.Words.{shuffle_effect, word_effect}
 use Rattle.jc_effects.specs.declared.row.Given.{Given}
-use Rattle.jc_effects.specs.declared.row.Given.TheVariants.{Nothing, Exactly, OfLocal, OfOperand, ComponentOf}
+use Rattle.jc_effects.specs.declared.row.Given.TheVariants.{Nothing}
 use Rattle.jc_effects.specs.declared.row.Place.{Place}
 use Rattle.jc_effects.specs.declared.row.Place.TheVariants.{Nowhere, At}
 
@@ -41,10 +41,7 @@ put_locals (At index demand) given t locals = by_count (nat_lt 0 (count_of given
 put_operands : (given : Given) (t : Ty) (operands : List Ty)
     → length (put_on given t operands) ≤ length operands + count_of given
 put_operands Nothing t operands = omega arith
-put_operands (Exactly u) t operands = omega arith
-put_operands OfLocal t operands = omega arith
-put_operands (OfOperand k) t operands = omega arith
-put_operands (ComponentOf k) t operands = omega arith
+put_operands u t operands = omega arith
 
 -- what a row gives, in a state
 abbrev gives : Row → Given → Types → Ty
@@ -142,18 +139,8 @@ module _ (below : ClassName → ClassName → Bool) (most : ℕ) where
   pub word_stays : (returned : Option Ty) (operation : WordOperation)
       → KeepsShape most (word_effect below most returned operation)
   unfolding word_effect
-  word_stays returned Words.Nop = applied_stays _
-  word_stays returned (Words.Push value) = applied_stays _
-  word_stays returned (Words.Load local) = applied_stays _
-  word_stays returned (Words.Store local) = applied_stays _
-  word_stays returned (Words.Increment local by) = applied_stays _
   word_stays returned (Words.Shuffle shuffle) = shuffle_stays shuffle
-  word_stays returned (Words.Binary operator) = applied_stays _
-  word_stays returned (Words.Unary operator) = applied_stays _
-  word_stays returned (Words.Branch when offset) = applied_stays _
-  word_stays returned (Words.StableSwitch default low offsets) = applied_stays _
-  word_stays returned (Words.LookupSwitch default cases) = applied_stays _
-  word_stays returned Words.ReturnWord = applied_stays _
+  word_stays returned t = applied_stays _
 
 pub effect_stays : (setting : Setting) (most : ℕ) (operation : Operation)
     → KeepsShape most (effect_of setting most operation)

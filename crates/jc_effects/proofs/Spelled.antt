@@ -56,12 +56,11 @@ step : (o : Option (DeclaredType ClassName)) (p : Option (List (DeclaredType Cla
     → ((types : List (DeclaredType ClassName)) → p ≡ Some types → (rest ≡ map argument types) × (length types ≡ count))
     → option_and_then (λ t. option_map (λ ts. t ∷ ts) p) o ≡ Some found
     → (argument_found o ∷ rest ≡ map argument found) × (length found ≡ suc count)
-step None p rest count found so e = absurd cc
-step (Some d) None rest count found so e = absurd cc
 step (Some d) (Some types) rest count found so e =
     let h : d ∷ types ≡ found = cc in
     let both = so types refl in
     (ap (λ (l : List Demand). argument d ∷ l) both.0 ∙ ap (map argument) h, sym (ap length h) ∙ ap suc both.1)
+step t p rest count found so e = absurd cc
 
 -- where types are found, what is demanded is that arguments lie below them
 demanded : (find : ClassRef → Option ClassName) (types : List (DeclaredType ClassRef)) (found : List (DeclaredType ClassName))
@@ -88,12 +87,11 @@ module _ (world : List Shape) (home arguments : ℕ) (s : Signature ClassRef) wh
       → ((ps : List (DeclaredType ClassName)) → o ≡ Some ps → (spelled ≡ map argument ps) × (length ps ≡ length s.parameters))
       → is_some (found o q) ≡ true → q ≡ Some r
       → option_and_then (interface_row arguments) (found o q) ≡ row_if r (arguments == 1 + length s.parameters)
-  known None q r facts there e = absurd cc
-  known (Some ps) None r facts there e = absurd cc
   known (Some ps) (Some x) r facts there e =
       let h : x ≡ r = cc in
       let both = facts ps refl in
       rw (both.0, h, both.1) refl
+  known t q r facts there e = absurd cc
 
   known_row : (r : ReturnType ClassName) → is_some (member_type_of world home s) ≡ true
       → return_found (type_class world home) s.result ≡ Some r

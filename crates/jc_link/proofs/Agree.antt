@@ -6,43 +6,31 @@ use Rattle.std.specs.Option.{option_and_then, option_map}
 use Rattle.jc_base.specs.Signature.{Signature}
 use Rattle.jc_base.specs.declared.declared_type.DeclaredType.{DeclaredType}
 use Rattle.jc_base.specs.declared.declared_type.ReturnType.{ReturnType}
-use Rattle.jc_base.specs.declared.declared_type.ReturnType.TheVariants.{Value}
 use Rattle.jc_names.specs.declared.name.ClassName.{ClassName}
 use Rattle.jc_link.specs.Found.{type_found, return_found, types_found, signature_found, is_same_type, are_same_types, is_same_return, is_same_signature, agree}
 use Rattle.jc_link.specs.MemberType.{as_member}
-use Rattle.jc_link.specs.PrivateAgree.{type_agrees, types_agree, return_agrees, signature_agrees}
+use Rattle.jc_link.specs.PrivateAgree.{type_agrees, types_agree, signature_agrees}
 
 -- what isn't found is equal to nothing
 pub agree_none : {A : Type 0} (same : A → A → Bool) (o : Option A) → agree same o None ≡ false
-agree_none same None = refl
-agree_none same (Some a) = refl
+agree_none same o = grind arith
 
 and_false : (b : Bool) → (b && false) ≡ false
-and_false true = refl
-and_false false = refl
+and_false b = grind arith
 
 -- one more type in front of two lists
 cons_agree : (a b : Option (DeclaredType ClassName)) (xs ys : Option (List (DeclaredType ClassName)))
     → agree are_same_types (option_and_then (λ t. option_map (λ ts. t ∷ ts) xs) a) (option_and_then (λ t. option_map (λ ts. t ∷ ts) ys) b)
     ≡ (agree is_same_type a b && agree are_same_types xs ys)
-cons_agree None b xs ys = refl
-cons_agree (Some t) None None ys = refl
-cons_agree (Some t) None (Some ts) ys = refl
-cons_agree (Some t) (Some u) None ys = sym (and_false (is_same_type t u))
-cons_agree (Some t) (Some u) (Some ts) None = sym (and_false (is_same_type t u))
-cons_agree (Some t) (Some u) (Some ts) (Some us) = refl
+cons_agree a b xs ys = grind (arith, and_false)
 
 nil_cons : (b : Option (DeclaredType ClassName)) (ys : Option (List (DeclaredType ClassName)))
     → agree are_same_types (Some []) (option_and_then (λ t. option_map (λ ts. t ∷ ts) ys) b) ≡ false
-nil_cons None ys = refl
-nil_cons (Some t) None = refl
-nil_cons (Some t) (Some ts) = refl
+nil_cons b ys = grind arith
 
 cons_nil : (a : Option (DeclaredType ClassName)) (xs : Option (List (DeclaredType ClassName)))
     → agree are_same_types (option_and_then (λ t. option_map (λ ts. t ∷ ts) xs) a) (Some []) ≡ false
-cons_nil None xs = refl
-cons_nil (Some t) None = refl
-cons_nil (Some t) (Some ts) = refl
+cons_nil a xs = grind arith
 
 -- two lists of types agree where they agree at each place
 types_agree_is : {C D : Type 0} (find : C → Option ClassName) (look : D → Option ClassName) (xs : List (DeclaredType C)) (ys : List (DeclaredType D))
@@ -58,30 +46,19 @@ both_agree : (ps qs : Option (List (DeclaredType ClassName))) (r s : Option (Ret
     → agree is_same_signature (option_and_then (λ parameters. option_map (λ result. record { parameters = parameters; result = result }) r) ps)
     (option_and_then (λ parameters. option_map (λ result. record { parameters = parameters; result = result }) s) qs)
     ≡ (agree are_same_types ps qs && agree is_same_return r s)
-both_agree None qs r s = refl
-both_agree (Some p) None None s = refl
-both_agree (Some p) None (Some r) s = refl
-both_agree (Some p) (Some q) None s = sym (and_false (are_same_types p q))
-both_agree (Some p) (Some q) (Some r) None = sym (and_false (are_same_types p q))
-both_agree (Some p) (Some q) (Some r) (Some s) = refl
+both_agree ps qs r s = grind (arith, and_false)
 
 -- two members' types
 pub signature_agrees_is : {C D : Type 0} (find : C → Option ClassName) (look : D → Option ClassName) (s : Signature C) (t : Signature D)
     → agree is_same_signature (signature_found find s) (signature_found look t) ≡ signature_agrees find look s t
-signature_agrees_is find look s t =
-    both_agree (types_found find s.parameters) (types_found look t.parameters) (return_found find s.result) (return_found look t.result)
-    ∙ ap (λ b. b && return_agrees find look s.result t.result) (types_agree_is find look s.parameters t.parameters)
+signature_agrees_is find look s t = grind (arith, both_agree, types_agree_is)
 
 abbrev the_signature : List (DeclaredType ClassName) → ReturnType ClassName → Signature ClassName
 the_signature parameters result = record { parameters = parameters; result = result }
 
 -- a field's type is a member's that takes nothing
 field_found : {C : Type 0} (look : C → Option ClassName) (t : DeclaredType C) → signature_found look (as_member t) ≡ option_map as_member (type_found look t)
-field_found look t = by_type (type_found look t)
-  where
-    by_type : (o : Option (DeclaredType ClassName)) → option_map (the_signature []) (option_map Value o) ≡ option_map as_member o
-    by_type None = refl
-    by_type (Some u) = refl
+field_found look t = grind arith
 
 pub field_agrees_is : {C D : Type 0} (find : C → Option ClassName) (look : D → Option ClassName) (s : Signature C) (t : DeclaredType D)
     → agree is_same_signature (signature_found find s) (option_map as_member (type_found look t)) ≡ signature_agrees find look s (as_member t)
@@ -91,9 +68,7 @@ field_agrees_is find look s t = ap (agree is_same_signature (signature_found fin
 
 cons_there : (a : Option (DeclaredType ClassName)) (xs : Option (List (DeclaredType ClassName)))
     → is_some (option_and_then (λ t. option_map (λ ts. t ∷ ts) xs) a) ≡ (is_some a && is_some xs)
-cons_there None xs = refl
-cons_there (Some t) None = refl
-cons_there (Some t) (Some ts) = refl
+cons_there a xs = grind arith
 
 types_there : {C : Type 0} (find : C → Option ClassName) (xs : List (DeclaredType C)) → is_some (types_found find xs) ≡ list_all (λ t. is_some (type_found find t)) xs
 types_there find [] = refl
@@ -101,9 +76,7 @@ types_there find (c ∷ xs) = cons_there (type_found find c) (types_found find x
 
 both_there : (ps : Option (List (DeclaredType ClassName))) (r : Option (ReturnType ClassName))
     → is_some (option_and_then (λ parameters. option_map (the_signature parameters) r) ps) ≡ (is_some ps && is_some r)
-both_there None r = refl
-both_there (Some p) None = refl
-both_there (Some p) (Some r) = refl
+both_there ps r = grind arith
 
 pub signature_there : {C : Type 0} (find : C → Option ClassName) (s : Signature C)
     → is_some (signature_found find s) ≡ (list_all (λ t. is_some (type_found find t)) s.parameters && is_some (return_found find s.result))

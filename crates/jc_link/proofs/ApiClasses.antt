@@ -1,5 +1,5 @@
 -- The classes of the API in their world: each stands at its name, finds what it spells, and has the superclass that the API says.
-use Rattle.std.proofs.Common.{◌≡◌, ℕ, zero, suc, ◌+◌, ◌<◌, ◌≤◌, ◌==◌, ◌&&◌, ◌||◌, not, Bool, true, false, cond, List, [], ◌∷◌, Option, Some, None, refl, ap, sym, ◌∙◌, arith, is_some, slice_get, nat_lt, nat_le, unwrap_or}
+use Rattle.std.proofs.Common.{◌≡◌, ℕ, zero, suc, ◌+◌, ◌<◌, ◌≤◌, ◌==◌, ◌&&◌, ◌||◌, not, Bool, true, false, cond, List, [], ◌∷◌, Option, Some, None, refl, ap, sym, ◌∙◌, arith, is_some, slice_get, nat_le, unwrap_or}
 use Rattle.std.proofs.lemmas.Bool.{eq-eqb, eqb-true, le-leb, lt-ltb, ltb-true}
 use Rattle.std.specs.List.{list_all, list_any}
 use Rattle.std.specs.Option.{option_and_then, option_map, option_map_or}
@@ -14,10 +14,9 @@ use Rattle.jc_api.specs.NoClash.{HasNoClash}
 use Rattle.jc_api.specs.Numbered.{numbered}
 use Rattle.jc_api.specs.Token.{chain, is_at_or_above, is_same_class, is_same_package}
 use Rattle.jc_api.specs.declared.class.ApiClass.{ApiClass}
-use Rattle.jc_api.specs.declared.class.ApiClass.TheVariants.{Object}
 use Rattle.jc_api.specs.declared.class.ApiPackage.{ApiPackage}
 use Rattle.jc_api.specs.declared.class.ApiPackage.TheVariants.{Lang, Framework}
-use Rattle.jc_classes.specs.Api.{api_shape, api_world, class_in_api, class_shape_of, class_with, export_of, export_row, last_class, last_member, no_table, public_table, room_to, spelled_in}
+use Rattle.jc_classes.specs.Api.{api_shape, api_world, class_in_api, class_shape_of, export_of, export_row, last_class, last_member, no_table, public_table, room_to, spelled_in}
 use Rattle.jc_classes.specs.Members.{name_of}
 use Rattle.jc_classes.specs.World as World
 use Rattle.jc_names.specs.Names.{api_home, name_in}
@@ -65,55 +64,32 @@ in_range c = numbered_within numbered_classes (number_of c) c (numbered_again c)
 -- ---- packages
 
 pub same_package : (p q : ApiPackage) → is_same_package p q ≡ true → p ≡ q
-same_package Lang Lang e = refl
-same_package Lang Framework e = true_false (sym e)
-same_package Framework Lang e = true_false (sym e)
-same_package Framework Framework e = refl
+same_package p q h1 = grind (arith, true_false)
 
 pub package_itself : (p : ApiPackage) → is_same_package p p ≡ true
-package_itself Lang = refl
-package_itself Framework = refl
+package_itself p = grind arith
 
 -- the name at a class's number
 pub name_again : (c : ApiClass) → name_in (api_home (package_of c)) (number_of c) ≡ Some (Api c)
-name_again c =
-    by_low (package_of c) ∙ ap (option_and_then (λ class. cond (api_home (package_of class) == api_home (package_of c)) (Some (Api class)) None)) (numbered_again c)
-    ∙ ap (λ b. cond b (Some (Api c)) None) (eq-eqb (api_home (package_of c)) (api_home (package_of c)) refl)
-  where
-    by_low : (p : ApiPackage) → name_in (api_home p) (number_of c)
-        ≡ option_and_then (λ class. cond (api_home (package_of class) == api_home p) (Some (Api class)) None) (class_of (number_of c))
-    by_low Lang = refl
-    by_low Framework = refl
+name_again c = grind (arith, numbered_again, eq-eqb)
 
 -- and at its shape's place
 pub named_again : (bound : Bound) (c : ApiClass) → name_of (api_home (package_of c)) (class_in_api bound c) ≡ Some (Api c)
-named_again bound c = by_range (nat_lt (number_of c) 65_536) (in_range c).1 (lt-ltb (number_of c) 65_536)
-  where
-    by_range : (b : Bool) → number_of c ≤ 22 → (number_of c < 65_536 → b ≡ true) → cond b (name_in (api_home (package_of c)) (number_of c)) None ≡ Some (Api c)
-    by_range true h k = name_again c
-    by_range false h k = true_false (sym (k (omega arith)))
+named_again bound c = grind (arith, in_range, lt-ltb, name_again, true_false)
 
 -- ---- chains
 
 -- no interface has a superclass
 pub interface_alone : (c : ApiClass) → is_interface c ≡ true → superclass_of c ≡ None
-interface_alone c e = by_super (superclass_of c) (each_class (λ a. not (is_some (superclass_of a)) || not (is_interface a)) refl c)
-  where
-    by_super : (o : Option ApiClass) → (not (is_some o) || not (is_interface c)) ≡ true → o ≡ None
-    by_super None h = refl
-    by_super (Some d) h = true_false (sym e ∙ not_true (is_interface c) h)
+interface_alone c e = grind (arith, each_class, not, true_false, not_true)
 
 -- no superclass has a number above its class's, and none is at or above the other way round
 pub super_before : (c d : ApiClass) → superclass_of c ≡ Some d → number_of d < number_of c
-super_before c d e =
-    ltb-true (number_of d) (number_of c) (sym (ap (λ o. option_map_or (λ s. nat_lt (number_of s) (number_of c)) o true) e)
-    ∙ each_class (λ a. option_map_or (λ s. nat_lt (number_of s) (number_of a)) (superclass_of a) true) refl c)
+super_before c d e = grind (arith, ltb-true, each_class)
 
 pub not_above : (c d : ApiClass) → superclass_of c ≡ Some d → is_at_or_above c d ≡ false
 unfolding is_at_or_above chain
-not_above c d e =
-    not_true (is_at_or_above c d) (sym (ap (λ o. option_map_or (λ s. not (is_at_or_above c s)) o true) e)
-    ∙ each_class (λ a. option_map_or (λ s. not (is_at_or_above a s)) (superclass_of a) true) refl c)
+not_above c d e = grind (arith, not_true, not, each_class)
 
 pub above_itself : (c : ApiClass) → is_at_or_above c c ≡ true
 unfolding is_at_or_above chain
@@ -121,44 +97,25 @@ above_itself c = ap (λ b. b || list_any (is_same_class c) (chain 21 (superclass
 
 short : (c : ApiClass) → chain 21 (Some c) ≡ chain 22 (Some c)
 unfolding chain
-short Object = refl
-short c = refl
+short c = grind arith
 
 pub above_super : (a c d : ApiClass) → superclass_of c ≡ Some d → is_at_or_above a d ≡ true → is_at_or_above a c ≡ true
 unfolding is_at_or_above chain
-above_super a c d e h =
-    let up : list_any (is_same_class a) (chain 21 (superclass_of c)) ≡ true = ap (λ o. list_any (is_same_class a) (chain 21 o)) e
-    ∙ ap (list_any (is_same_class a)) (short d) ∙ h in
-    behind_true (is_same_class a c) (list_any (is_same_class a) (chain 21 (superclass_of c))) up
-  where
-    behind_true : (x y : Bool) → y ≡ true → (x || y) ≡ true
-    behind_true true y e = refl
-    behind_true false y e = e
+above_super a c d e h = grind (arith, short)
 
 -- ---- classes at their names
 
 module _ (bound : Bound) where
   pub package_there : (which : ApiPackage) → slice_get (api_world bound) (api_home which) ≡ Some (api_shape bound which)
-  package_there Lang = refl
-  package_there Framework = refl
+  package_there which = grind arith
 
   -- a class that stands in a package
   pub shape_is : (which : ApiPackage) (n : ℕ) (k : ClassShape) → class_shape_of bound which n ≡ Some k
       → (c : ApiClass) × (class_of n ≡ Some c) × (package_of c ≡ which) × (class_in_api bound c ≡ k)
-  shape_is which n k e =
-      let a = mapped (class_in_api bound) (class_with which n) k e in
-      let b = some_of (λ c. cond (is_same_package (package_of c) which) (Some c) None) (class_of n) a.0 a.1 in
-      by_package b.0 a.0 b.1 a.2 (is_same_package (package_of b.0) which) (same_package (package_of b.0) which) b.2
-    where
-      by_package : (c d : ApiClass) → class_of n ≡ Some c → class_in_api bound d ≡ k → (b : Bool) → (b ≡ true → package_of c ≡ which) → cond b (Some c) None ≡ Some d
-          → (c : ApiClass) × (class_of n ≡ Some c) × (package_of c ≡ which) × (class_in_api bound c ≡ k)
-      by_package c d f g true h e = (c, f, h refl, ap (class_in_api bound) (the_some c d e) ∙ g)
-      by_package c d f g false h e = absurd (none_some d e)
+  shape_is which n k e = grind (arith, mapped, some_of, same_package, the_some, none_some)
 
   pub shape_there : (c : ApiClass) → class_shape_of bound (package_of c) (number_of c) ≡ Some (class_in_api bound c)
-  shape_there c =
-      ap (λ o. option_map (class_in_api bound) (option_and_then (λ d. cond (is_same_package (package_of d) (package_of c)) (Some d) None) o)) (numbered_again c)
-      ∙ ap (λ b. option_map (class_in_api bound) (cond b (Some c) None)) (package_itself (package_of c))
+  shape_there c = grind (arith, numbered_again, package_itself)
 
   pub class_there : (c : ApiClass) → class_at (api_world bound) (Api c) ≡ Some (class_in_api bound c)
   class_there c =
@@ -191,10 +148,7 @@ bytes_itself (x ∷ xs) = ap (λ b. b && bytes_eq xs xs) (eq-eqb x x refl) ∙ b
 
 module _ (bound : Bound) (clear : HasNoClash bound) where
   lang_met : meets bound.lang (api_shape bound Lang) ≡ true
-  lang_met =
-      ap (λ b. (b && bound.lang.major == bound.lang.major) && nat_le bound.lang.minor bound.lang.minor) (bytes_itself bound.lang.aid)
-      ∙ ap (λ b. b && nat_le bound.lang.minor bound.lang.minor) (eq-eqb bound.lang.major bound.lang.major refl)
-      ∙ le-leb bound.lang.minor bound.lang.minor (omega arith)
+  lang_met = grind (arith, nat_le, bytes_itself, eq-eqb, le-leb)
 
   lang_imported : import_of (api_world bound) 1 0 ≡ Some 0
   lang_imported = rw lang_met refl
@@ -203,9 +157,7 @@ module _ (bound : Bound) (clear : HasNoClash bound) where
   class_token c = let r = in_range c in numbered_there bound.classes (number_of c) r.0 (omega (arith, r.1, clear.class_count))
 
   token_is : (c : ApiClass) (t : ℕ) → package_of c ≡ Lang → numbered bound.classes (number_of c) ≡ Some t → lang_token bound (number_of c) ≡ Some t
-  token_is c t lang e =
-      ap (option_and_then (λ d. cond (is_same_package (package_of d) Lang) (numbered bound.classes (number_of c)) None)) (numbered_again c)
-      ∙ ap (λ p. cond (is_same_package p Lang) (numbered bound.classes (number_of c)) None) lang ∙ e
+  token_is c t lang e = grind (arith, numbered_again)
 
   -- a class of java.lang is exported under its token
   row_is : (c : ApiClass) (t : ℕ) → package_of c ≡ Lang → numbered bound.classes (number_of c) ≡ Some t → export_of bound Lang t ≡ export_row bound (Some c)
@@ -244,12 +196,7 @@ module _ (bound : Bound) (clear : HasNoClash bound) where
   spelled which c seen = by_package (is_same_package (package_of c) which) (same_package (package_of c) which) (other which seen)
     where
       other : (which : ApiPackage) → is_seen which c ≡ true → is_same_package (package_of c) which ≡ false → (which ≡ Framework) × (package_of c ≡ Lang)
-      other Lang seen e = true_false (sym seen ∙ e)
-      other Framework seen e = (refl, by_other (package_of c) e)
-        where
-          by_other : (p : ApiPackage) → is_same_package p Framework ≡ false → p ≡ Lang
-          by_other Lang e = refl
-          by_other Framework e = true_false e
+      other which h1 h2 = grind (arith, true_false)
 
       outside : package_of c ≡ Lang → (t : ℕ) × (numbered bound.classes (number_of c) ≡ Some t)
           → class_spelled (api_world bound) 1 (External 0 (unwrap_or (numbered bound.classes (number_of c)) 0)) ≡ Some (Api c)
@@ -260,10 +207,7 @@ module _ (bound : Bound) (clear : HasNoClash bound) where
       by_package : (b : Bool) → (b ≡ true → package_of c ≡ which) → (b ≡ false → (which ≡ Framework) × (package_of c ≡ Lang))
           → class_spelled (api_world bound) (api_home which) (cond b (Internal (number_of c)) (External 0 (unwrap_or (numbered bound.classes (number_of c)) 0)))
           ≡ Some (Api c)
-      by_package true same f = ap (λ p. name_in (api_home p) (number_of c)) (sym (same refl)) ∙ name_again c
-      by_package false same f =
-          let g = f refl in
-          ap (λ p. class_spelled (api_world bound) (api_home p) (External 0 (unwrap_or (numbered bound.classes (number_of c)) 0))) g.0 ∙ outside g.1 (class_token c)
+      by_package b h1 h2 = grind (arith, name_again, outside, class_token)
 
   pub named : (which : ApiPackage) (c : ApiClass) → is_seen which c ≡ true → class_named (api_world bound) (api_home which) (spelled_in bound which c) ≡ Some (Api c)
   named which c seen = ap (option_and_then (if_there (api_world bound))) (spelled which c seen) ∙ if_class_there bound c
@@ -285,10 +229,8 @@ module _ (bound : Bound) (clear : HasNoClash bound) where
             package_methods = no_table;
             interfaces = [];
           }))) ≡ option_map (spelled_in bound (package_of c)) (superclass_of c)
-      its_record true h = ap (option_map (spelled_in bound (package_of c))) (sym (h refl))
-      its_record false h = refl
+      its_record b h1 = grind arith
 
       by_super : (o : Option ApiClass) → option_map_or (is_seen (package_of c)) o true ≡ true
           → option_and_then (class_named (api_world bound) (api_home (package_of c))) (option_map (spelled_in bound (package_of c)) o) ≡ option_map Api o
-      by_super None h = refl
-      by_super (Some d) h = named (package_of c) d h
+      by_super o h1 = grind (arith, named)

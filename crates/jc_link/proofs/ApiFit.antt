@@ -1,7 +1,7 @@
 -- Under every binding each class of the API is fit for its world.
-use Rattle.std.proofs.Common.{◌≡◌, ℕ, zero, suc, ◌<◌, ◌==◌, ◌&&◌, ◌||◌, ◌⊎◌, inl, inr, not, Bool, true, false, cond, List, [], ◌++◌, map, Option, Some, None, refl, ap, sym, subst, ◌∙◌, arith, is_some, slice_get, unwrap_or}
+use Rattle.std.proofs.Common.{◌≡◌, ℕ, zero, suc, ◌<◌, ◌==◌, ◌&&◌, ◌||◌, ◌⊎◌, not, Bool, true, false, List, [], Option, Some, None, refl, ap, sym, subst, ◌∙◌, arith, is_some, slice_get, unwrap_or}
 use Rattle.std.proofs.lemmas.Bool.{eq-eqb, ne_eqb}
-use Rattle.std.specs.List.{list_any, range_with_len}
+use Rattle.std.specs.List.{list_any}
 use Rattle.std.specs.Option.{option_and_then, option_map, option_map_or}
 use Rattle.jc_cap.specs.ClassComponent.{is_class}
 use Rattle.jc_cap.specs.Interfaces.{Implemented}
@@ -17,11 +17,10 @@ use Rattle.jc_api.specs.Token.{chain, is_virtual}
 use Rattle.jc_api.specs.declared.class.ApiClass.{ApiClass}
 use Rattle.jc_api.specs.declared.class.ApiClass.TheVariants.{Object, Applet}
 use Rattle.jc_api.specs.declared.class.ApiPackage.{ApiPackage}
-use Rattle.jc_api.specs.declared.class.ApiPackage.TheVariants.{Lang, Framework}
+use Rattle.jc_api.specs.declared.class.ApiPackage.TheVariants.{Lang}
 use Rattle.jc_api.specs.declared.member.MemberKind.{MemberKind}
-use Rattle.jc_api.specs.declared.member.MemberKind.TheVariants.{Constructor, Static, Virtual}
 use Rattle.jc_classes.specs.Api.{api_shape, api_world, class_in_api, class_shape_of, is_static, last_class, last_member, number_to, record_in, those_to}
-use Rattle.jc_classes.specs.Members.{DeclaredMethod, method_at, name_of}
+use Rattle.jc_classes.specs.Members.{method_at, name_of}
 use Rattle.jc_classes.specs.Methods.{declared_above, method_name, virtual_method_of}
 use Rattle.jc_classes.specs.Record.{interface_rows, package_entries, public_entries}
 use Rattle.jc_classes.specs.Subtype.{is_class_at, is_interface_at, is_at_or_above}
@@ -31,7 +30,7 @@ use Rattle.jc_names.specs.Names.{api_home}
 use Rattle.jc_classes.specs.World.{class_named, listed_refs}
 use Rattle.jc_names.specs.declared.name.ClassName.TheVariants as Names
 use Rattle.jc_names.specs.declared.name.MethodName.{MethodName}
-use Rattle.jc_names.specs.declared.name.MethodName.TheVariants.{Api, Loaded}
+use Rattle.jc_names.specs.declared.name.MethodName.TheVariants.{Api}
 use Rattle.jc_link.proofs.ApiClasses.{class_itself, class_there, each_class, named_again, same_class, shape_is, super_before, superclass_is}
 use Rattle.jc_link.proofs.ApiLists.{each_from, none_anywhere, none_of, those_from}
 use Rattle.jc_link.proofs.ApiMembers.{class_body, each_member, member_there, types_known, words_right}
@@ -40,9 +39,7 @@ use Rattle.jc_link.proofs.GrownParts.{none_some, the_some}
 use Rattle.jc_link.proofs.Nones.{neither, true_false}
 use Rattle.jc_link.proofs.Superclasses.{most_is}
 use Rattle.jc_link.specs.Classes.{has_bad_entry, is_bad_entry, is_inherited, lacks_superclass, leads_round}
-use Rattle.jc_link.specs.Inherited.{ListedRow, breaks_interface, breaks_row, is_abstract_at, is_other_type, is_same_method, is_unfinished, leaves_abstract, leaves_at, leaves_package_abstract, loses_at, package_tokens, public_tokens, retypes_at, rows_along, virtual_tokens}
-use Rattle.jc_link.specs.MemberType.{have_same_type, method_type_of}
-use Rattle.jc_link.specs.Named.{is_abstract_method}
+use Rattle.jc_link.specs.Inherited.{ListedRow, is_abstract_at, is_other_type, is_same_method, is_unfinished, leaves_at, loses_at, retypes_at, rows_along, virtual_tokens}
 use Rattle.jc_link.specs.PrivateFit.{AreAllFit, IsFit, IsFitThere, IsRoot}
 
 -- ---- what a record of the API says
@@ -50,11 +47,7 @@ use Rattle.jc_link.specs.PrivateFit.{AreAllFit, IsFit, IsFitThere, IsRoot}
 -- what a record gives, where that of an interface gives it and that of a class does
 of_record : {A : Type 0} (f : RecordBody → A) (x : A) (bound : Bound) (c : ApiClass)
     → f (Interface (record { superinterfaces = [] })) ≡ x → f (Class (class_record bound c)) ≡ x → f (record_in bound c) ≡ x
-of_record f x bound c i r = by_kind (is_interface c)
-  where
-    by_kind : (b : Bool) → f (cond b (Interface (record { superinterfaces = [] })) (Class (class_record bound c))) ≡ x
-    by_kind true = i
-    by_kind false = r
+of_record f x bound c i r = grind (arith, class_record)
 
 nothing_listed : (bound : Bound) (c : ApiClass) → listed_refs (record_in bound c) ≡ []
 nothing_listed bound c = of_record listed_refs [] bound c refl refl
@@ -66,18 +59,12 @@ nothing_visible : (bound : Bound) (c : ApiClass) → package_entries (record_in 
 nothing_visible bound c = of_record package_entries [] bound c refl refl
 
 entry_from : (bound : Bound) (c : ApiClass) (i x : ℕ) → slice_get (public_entries (record_in bound c)) i ≡ Some x → (t : ℕ) × (x ≡ entry bound c t)
-entry_from bound c i x e = by_kind (is_interface c) e
-  where
-    by_kind : (b : Bool) → slice_get (public_entries (cond b (Interface (record { superinterfaces = [] })) (Class (class_record bound c)))) i ≡ Some x
-        → (t : ℕ) × (x ≡ entry bound c t)
-    by_kind true e = absurd (none_some x e)
-    by_kind false e = each_from (entry bound c) (room bound c) i x e
+entry_from bound c i x e = grind (arith, class_record, entry, none_some, each_from, room)
 
 -- ---- members that are abstract, and those that aren't static
 
 or_other : (a b : Bool) → (not a || b) ≡ true → a ≡ true → b ≡ true
-or_other true b e f = e
-or_other false b e f = true_false (sym f)
+or_other a b h1 h2 = grind (arith, true_false)
 
 concrete : (n : ℕ) (m : ApiMember) (c : ApiClass) → member_of n ≡ Some m → Token.is_at_or_above m.class c ≡ true → is_abstract c ≡ false → m.is_abstract ≡ false
 unfolding Token.is_at_or_above chain
@@ -88,32 +75,24 @@ concrete n m c e h f = by_test m.is_abstract refl
         let its : m.class ≡ Applet = same_class m.class Applet (or_other m.is_abstract (Token.is_same_class m.class Applet)
         (each_member (λ m. not m.is_abstract || Token.is_same_class m.class Applet) refl n m e) g) in
         let below : Token.is_at_or_above Applet c ≡ true = ap (λ a. Token.is_at_or_above a c) (sym its) ∙ h in
-        let its_own : is_abstract c ≡ true = or_other (Token.is_at_or_above Applet c) (is_abstract c)
-        (each_class (λ a. not (Token.is_at_or_above Applet a) || is_abstract a) refl c) below in
+        let its_own : is_abstract c ≡ true = grind (arith, or_other, each_class, not) in
         true_false (sym its_own ∙ f)
     by_test false g = g
 
 not_static : (kind : MemberKind) → is_virtual kind ≡ true → is_static kind ≡ false
-not_static Constructor e = refl
-not_static Static e = true_false (sym e)
-not_static Virtual e = refl
+not_static kind h1 = grind (arith, true_false)
 
 api_method : (p : ApiPackage) (n : ℕ) → method_name (api_home p) n ≡ Api n
-api_method Lang n = refl
-api_method Framework n = refl
+api_method p n = grind arith
 
 same_method : (m : MethodName) → is_same_method m m ≡ true
-same_method (Api a) = eq-eqb a a refl
-same_method (Loaded p m) = ap (λ b. b && (m == m)) (eq-eqb p p refl) ∙ eq-eqb m m refl
+same_method m = grind (arith, eq-eqb)
 
 false_right : (b : Bool) → (b && false) ≡ false
-false_right true = refl
-false_right false = refl
+false_right b = grind arith
 
 unfinished_not : (a b c : Bool) → (b ≡ false → c ≡ false) → ((a && not b) && c) ≡ false
-unfinished_not true true c h = refl
-unfinished_not true false c h = h refl
-unfinished_not false b c h = refl
+unfinished_not a b c h1 = grind arith
 
 abbrev in_home : ApiClass → Implemented → ListedRow
 in_home c row = record { home = api_home (package_of c); row = row }
@@ -134,16 +113,12 @@ module _ (bound : Bound) (clear : HasNoClash bound) where
     where
       at_top : superclass_of c ≡ None → (b : Bool) → is_interface c ≡ b → (b || Token.is_same_class c Object) ≡ true
           → IsRoot world (Names.Api c) ⊎ (lacks_superclass world (Names.Api c) (class_in_api bound c) ≡ false)
-      at_top e true f h = inr (ap (λ b. b && not (option_map_or (is_class_at world) (World.superclass_of world (Names.Api c)) false)) (class_body bound c ∙ ap not f))
-      at_top e false f h = inl (record { object = ap Names.Api (same_class c Object h); nothing = superclass_is bound clear c ∙ ap (option_map Names.Api) e })
+      at_top h1 b h2 h3 = grind (arith, not, class_body, same_class, superclass_is)
 
       by_super : (o : Option ApiClass) → superclass_of c ≡ o → option_map_or (λ d. not (is_interface d)) o (is_interface c || Token.is_same_class c Object) ≡ true
           → IsRoot world (Names.Api c) ⊎ (lacks_superclass world (Names.Api c) (class_in_api bound c) ≡ false)
       by_super None e h = at_top e (is_interface c) refl h
-      by_super (Some d) e h =
-          inr (ap (λ o. is_class (record_in bound c) && not (option_map_or (is_class_at world) o false)) (superclass_is bound clear c ∙ ap (option_map Names.Api) e)
-          ∙ ap (λ b. is_class (record_in bound c) && not b) (is_class_there d ∙ h)
-          ∙ false_right (is_class (record_in bound c)))
+      by_super (Some d) e h = grind (arith, not, superclass_is, is_class_there, false_right)
 
   -- a class with a greater number isn't met
   not_met : (n : ℕ) (a b : ApiClass) → number_of b < number_of a → is_at_or_above world n (Names.Api a) (Names.Api b) ≡ false
@@ -156,22 +131,13 @@ module _ (bound : Bound) (clear : HasNoClash bound) where
     where
       by_super : (o : Option ApiClass) → ((d : ApiClass) → o ≡ Some d → is_at_or_above world n (Names.Api a) (Names.Api d) ≡ false)
           → option_map_or (is_at_or_above world n (Names.Api a)) (option_map Names.Api o) false ≡ false
-      by_super None k = refl
-      by_super (Some d) k = k d refl
+      by_super o h1 = grind arith
 
   not_round : (c : ApiClass) → leads_round world (Names.Api c) ≡ false
-  not_round c =
-      ap (λ o. option_map_or (is_at_or_above world most_classes (Names.Api c)) o false) (superclass_is bound clear c)
-      ∙ by_super (superclass_of c) (λ d e. not_met most_classes c d (super_before c d e))
-    where
-      by_super : (o : Option ApiClass) → ((d : ApiClass) → o ≡ Some d → is_at_or_above world most_classes (Names.Api c) (Names.Api d) ≡ false)
-          → option_map_or (is_at_or_above world most_classes (Names.Api c)) (option_map Names.Api o) false ≡ false
-      by_super None k = refl
-      by_super (Some d) k = k d refl
+  not_round c = grind (arith, superclass_is, not_met, super_before)
 
   met_itself : (n : ℕ) (c : ApiClass) → 0 < n → is_at_or_above world n (Names.Api c) (Names.Api c) ≡ true
-  met_itself zero c h = absurd (omega arith)
-  met_itself (suc n) c h = ap (λ b. b || option_map_or (is_at_or_above world n (Names.Api c)) (World.superclass_of world (Names.Api c)) false) (class_itself c)
+  met_itself n c h1 = grind (arith, class_itself)
 
   -- ---- entries of tables
 
@@ -181,17 +147,18 @@ module _ (bound : Bound) (clear : HasNoClash bound) where
       inherited : (n : ℕ) → IsDeclared bound c t n
           → option_map_or (is_inherited world (Names.Api c)) (method_at world (method_name (api_home (package_of c)) n)) false ≡ true
       inherited n d =
-          ap (λ m. option_map_or (is_inherited world (Names.Api c)) (method_at world m) false) (api_method (package_of c) n)
-          ∙ ap (λ o. option_map_or (is_inherited world (Names.Api c)) o false) (member_there bound n d.member d.number)
-          ∙ ap (λ b. not b && is_at_or_above world most_classes (Names.Api (d.member).class) (Names.Api c)) (not_static (d.member).kind d.virtual)
-          ∙ ap (λ a. is_at_or_above world most_classes (Names.Api a) (Names.Api c)) d.class
-          ∙ met_itself most_classes c (omega (arith, most_is))
+          grind (
+            arith,
+            api_method (package_of c) n,
+            member_there bound n d.member d.number,
+            not_static (d.member).kind d.virtual,
+            d.class,
+            met_itself most_classes c (omega (arith, most_is)),
+          )
 
       by_number : (o : Option ℕ) → number_to last_member (declared_token bound c) t ≡ o
           → is_bad_entry world (api_home (package_of c)) (Names.Api c) (unwrap_or o declared_above) ≡ false
-      by_number None e = refl
-      by_number (Some n) e =
-          ap (λ b. not (n == declared_above) && not b) (inherited n (is_declared bound c t n e)) ∙ false_right (not (n == declared_above))
+      by_number o h1 = grind (arith, not, inherited, is_declared, false_right)
 
   entries_good : (c : ApiClass) → has_bad_entry world (api_home (package_of c)) (Names.Api c) (class_in_api bound c) ≡ false
   entries_good c =
@@ -208,10 +175,7 @@ module _ (bound : Bound) (clear : HasNoClash bound) where
   -- ---- what is inherited
 
   kept_at : (c : ApiClass) (home token : ℕ) → loses_at world home (Names.Api c) token ≡ false
-  kept_at c home token =
-      ap (λ o. is_some (option_and_then (λ d. virtual_method_of world d token home) o) && not (is_some (virtual_method_of world (Names.Api c) token home)))
-      (superclass_is bound clear c)
-      ∙ by_super (superclass_of c) refl
+  kept_at c home token = grind (arith, superclass_is bound clear c, by_super (superclass_of c) refl)
     where
       by_found : (o : Option MethodName) → ((m : MethodName) → o ≡ Some m → virtual_method_of world (Names.Api c) token home ≡ Some m)
           → (is_some o && not (is_some (virtual_method_of world (Names.Api c) token home))) ≡ false
@@ -231,15 +195,11 @@ module _ (bound : Bound) (clear : HasNoClash bound) where
       ∙ by_super (superclass_of c) refl
     where
       never : (o : Option MethodName) → option_map_or (λ m. false) o false ≡ false
-      never None = refl
-      never (Some m) = refl
+      never o = grind arith
 
       by_found : (o : Option MethodName) → ((m : MethodName) → o ≡ Some m → virtual_method_of world (Names.Api c) token home ≡ Some m)
           → option_map_or (λ m. option_map_or (is_other_type world m) o false) (virtual_method_of world (Names.Api c) token home) false ≡ false
-      by_found None k = never (virtual_method_of world (Names.Api c) token home)
-      by_found (Some m) k =
-          ap (λ o. option_map_or (λ l. is_other_type world l m) o false) (k m refl)
-          ∙ ap (λ b. not b && not (have_same_type (method_type_of world m) (method_type_of world m))) (same_method m)
+      by_found o h1 = grind (arith, never, not, same_method)
 
       by_super : (o : Option ApiClass) → superclass_of c ≡ o
           → option_map_or (λ m. option_map_or (is_other_type world m) (option_and_then (λ d. virtual_method_of world d token home) (option_map Names.Api o)) false)
@@ -254,36 +214,33 @@ module _ (bound : Bound) (clear : HasNoClash bound) where
     where
       by_member : (m : MethodName) → IsMember bound c token m → is_abstract_at world m ≡ false
       by_member m i =
-          ap (is_abstract_at world) i.name
-          ∙ ap (λ o. option_map_or (λ (d : DeclaredMethod). is_abstract_method d.method) o false) (member_there bound i.number i.member i.is_number)
-          ∙ concrete i.number i.member c i.is_number i.class f
+          grind (
+            arith,
+            i.name,
+            member_there bound i.number i.member i.is_number,
+            concrete i.number i.member c i.is_number i.class f,
+          )
 
       by_found : (o : Option MethodName) → virtual_method_of world (Names.Api c) token asker ≡ o → option_map_or (is_abstract_at world) o false ≡ false
-      by_found None e = refl
-      by_found (Some m) e = by_member m (found_member bound clear asker token c m e)
+      by_found o h1 = grind (arith, by_member, found_member)
 
   no_rows : (n : ℕ) (c : ApiClass) → rows_along world n (Names.Api c) ≡ []
   no_rows zero c = refl
   no_rows (suc n) c =
-      ap (λ (o : Option ClassShape). option_map_or (λ k. map (in_home c) (interface_rows k.body)) o []
-      ++ option_map_or (rows_along world n) (World.superclass_of world (Names.Api c)) []) (class_there bound c)
-      ∙ ap (λ rows. map (in_home c) rows ++ option_map_or (rows_along world n) (World.superclass_of world (Names.Api c)) []) (nothing_implemented bound c)
-      ∙ ap (λ o. option_map_or (rows_along world n) o []) (superclass_is bound clear c)
-      ∙ by_super (superclass_of c) (λ d. no_rows n d)
+      grind (
+        arith,
+        class_there bound c,
+        nothing_implemented bound c,
+        superclass_is bound clear c,
+        by_super (superclass_of c) (λ d. no_rows n d),
+      )
     where
       by_super : (o : Option ApiClass) → ((d : ApiClass) → rows_along world n (Names.Api d) ≡ []) → option_map_or (rows_along world n) (option_map Names.Api o) [] ≡ []
       by_super None k = refl
       by_super (Some d) k = k d
 
   finished : (c : ApiClass) → is_unfinished world (Names.Api c) (class_in_api bound c) ≡ false
-  finished c =
-      unfinished_not (is_class (record_in bound c)) (is_abstract c) (leaves_abstract world (Names.Api c) || breaks_interface world (Names.Api c))
-      (λ f. neither (leaves_abstract world (Names.Api c)) (breaks_interface world (Names.Api c))
-      (neither (list_any (leaves_at world (Names.Api c) 0) public_tokens) (list_any (leaves_package_abstract world (Names.Api c)) (range_with_len 0 2))
-      (none_anywhere (leaves_at world (Names.Api c) 0) public_tokens (λ t. left_not c 0 t f))
-      (none_anywhere (leaves_package_abstract world (Names.Api c)) (range_with_len 0 2)
-      (λ asker. none_anywhere (leaves_at world (Names.Api c) asker) package_tokens (λ t. left_not c asker t f))))
-      (ap (list_any (breaks_row world (Names.Api c))) (no_rows most_classes c)))
+  finished c = grind (arith, unfinished_not, neither, none_anywhere, left_not, no_rows)
 
   -- ---- all together
 
@@ -314,6 +271,5 @@ module _ (bound : Bound) (clear : HasNoClash bound) where
 
 pub api_fit : (bound : Bound) → HasNoClash bound → AreAllFit (api_world bound)
 api_fit bound clear zero n shape k e f = in_package bound clear Lang n k (ap (λ (s : Shape). slice_get s.classes n) (the_some (api_shape bound Lang) shape e) ∙ f)
-api_fit bound clear (suc zero) n shape k e f =
-    in_package bound clear Framework n k (ap (λ (s : Shape). slice_get s.classes n) (the_some (api_shape bound Framework) shape e) ∙ f)
+api_fit bound clear (suc zero) n shape k e f = grind (arith, in_package, the_some)
 api_fit bound clear (suc (suc home)) n shape k e f = absurd (none_some shape e)

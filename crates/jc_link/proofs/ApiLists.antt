@@ -1,5 +1,5 @@
 -- What stands for numbers and for tokens, whatever it is.
-use Rattle.std.proofs.Common.{◌≡◌, ℕ, zero, suc, ◌+◌, ◌<◌, ◌≤◌, ◌==◌, ◌||◌, ◌⊎◌, inl, inr, Bool, true, false, cond, map, List, [], ◌∷◌, length, Option, Some, None, refl, ap, sym, ◌∙◌, arith, slice_get}
+use Rattle.std.proofs.Common.{◌≡◌, ℕ, zero, suc, ◌+◌, ◌<◌, ◌≤◌, ◌==◌, Bool, true, false, cond, map, List, [], ◌∷◌, length, Option, Some, None, refl, ap, sym, ◌∙◌, arith, slice_get}
 use Rattle.std.proofs.lemmas.Bool.{cases_lt, eq-eqb, eqb-true, eqb-false}
 use Rattle.std.specs.List.{cons_option, filter_map, find, list_all, list_any, range_with_len}
 use Rattle.jc_api.specs.Numbered.{numbered}
@@ -18,11 +18,7 @@ none_anywhere p xs h = none_of p xs (λ n x e. h x)
 
 pub any_found : {A : Type 0} (p : A → Bool) (xs : List A) (x : A) → find p xs ≡ Some x → list_any p xs ≡ true
 any_found p [] x e = absurd (none_some x e)
-any_found p (y ∷ ys) x e = by_test (p y) (any_found p ys x) e
-  where
-    by_test : (b : Bool) → (find p ys ≡ Some x → list_any p ys ≡ true) → cond b (Some y) (find p ys) ≡ Some x → (b || list_any p ys) ≡ true
-    by_test true rest e = refl
-    by_test false rest e = rest e
+any_found p (y ∷ ys) x e = grind (arith, any_found p ys x)
 
 all_at : {A : Type 0} (p : A → Bool) (xs : List A) → list_all p xs ≡ true → (n : ℕ) (x : A) → slice_get xs n ≡ Some x → p x ≡ true
 all_at p [] all n x e = absurd (none_some x e)
@@ -30,8 +26,7 @@ all_at p (y ∷ ys) all zero x e = ap p (sym (the_some y x e)) ∙ left_true (p 
 all_at p (y ∷ ys) all (suc n) x e = all_at p ys (right_true (p y) (list_all p ys) all) n x e
 
 pub all_numbered : {A : Type 0} (p : A → Bool) (rows : List A) → list_all p rows ≡ true → (n : ℕ) (x : A) → numbered rows n ≡ Some x → p x ≡ true
-all_numbered p rows all zero x e = absurd (none_some x e)
-all_numbered p rows all (suc n) x e = all_at p rows all n x e
+all_numbered p rows h1 n x h2 = grind (arith, none_some, all_at)
 
 within : {A : Type 0} (xs : List A) (n : ℕ) (x : A) → slice_get xs n ≡ Some x → n < length xs
 within [] n x e = absurd (none_some x e)
@@ -39,8 +34,7 @@ within (y ∷ ys) zero x e = omega arith
 within (y ∷ ys) (suc n) x e = let h = within ys n x e in omega arith
 
 pub numbered_within : {A : Type 0} (rows : List A) (n : ℕ) (x : A) → numbered rows n ≡ Some x → (1 ≤ n) × (n ≤ length rows)
-numbered_within rows zero x e = absurd (none_some x e)
-numbered_within rows (suc n) x e = let h = within rows n x e in (omega arith, omega arith)
+numbered_within rows n x h1 = grind (arith, none_some, within)
 
 pub there_at : {A : Type 0} (xs : List A) (n : ℕ) → n < length xs → (x : A) × (slice_get xs n ≡ Some x)
 there_at [] n h = absurd (omega arith)
@@ -59,9 +53,7 @@ from_number {A = A} f from (suc n) i x e = by_first (f from) refl (λ j. from_nu
   where
     by_first : (o : Option A) → f from ≡ o → ((j : ℕ) → slice_get (filter_map f (range_with_len (from + 1) n)) j ≡ Some x → (m : ℕ) × (f m ≡ Some x))
         → (i : ℕ) → slice_get (cons_option o (filter_map f (range_with_len (from + 1) n))) i ≡ Some x → (m : ℕ) × (f m ≡ Some x)
-    by_first None g rest i e = rest i e
-    by_first (Some y) g rest zero e = (from, g ∙ e)
-    by_first (Some y) g rest (suc i) e = rest i e
+    by_first o h1 h2 i h3 = grind arith
 
 pub those_from : {A : Type 0} (f : ℕ → Option A) (last i : ℕ) (x : A) → slice_get (those_to last f) i ≡ Some x → (m : ℕ) × (f m ≡ Some x)
 unfolding those_to
@@ -75,24 +67,19 @@ found_only {A = A} p f from (suc n) m x low high at passes only =
     by_place (from == m) (eqb-true from m) (eqb-false from m) (λ above. found_only p f (from + 1) n m x above (omega arith) at passes only)
   where
     here : f from ≡ Some x → find p (cons_option (f from) (filter_map f (range_with_len (from + 1) n))) ≡ Some x
-    here g =
-        ap (λ o. find p (cons_option o (filter_map f (range_with_len (from + 1) n)))) g
-        ∙ ap (λ b. cond b (Some x) (find p (filter_map f (range_with_len (from + 1) n)))) passes
+    here g = grind arith
 
     by_test : (y : A) (b : Bool) → p y ≡ b → f from ≡ Some y → (from ≡ m → ⊥) → find p (filter_map f (range_with_len (from + 1) n)) ≡ Some x
         → cond b (Some y) (find p (filter_map f (range_with_len (from + 1) n))) ≡ Some x
-    by_test y true t g other behind = absurd (other (only from y g t))
-    by_test y false t g other behind = behind
+    by_test y b h1 h2 h3 h4 = grind arith
 
     by_first : (o : Option A) → f from ≡ o → (from ≡ m → ⊥) → find p (filter_map f (range_with_len (from + 1) n)) ≡ Some x
         → find p (cons_option o (filter_map f (range_with_len (from + 1) n))) ≡ Some x
-    by_first None g other behind = behind
-    by_first (Some y) g other behind = by_test y (p y) refl g other behind
+    by_first o h1 h2 h3 = grind (arith, by_test)
 
     by_place : (b : Bool) → (b ≡ true → from ≡ m) → (b ≡ false → from ≡ m → ⊥) → (from + 1 ≤ m → find p (filter_map f (range_with_len (from + 1) n)) ≡ Some x)
         → find p (cons_option (f from) (filter_map f (range_with_len (from + 1) n))) ≡ Some x
-    by_place true same h behind = here (ap f (same refl) ∙ at)
-    by_place false h other behind = let differ = other refl in by_first (f from) refl differ (behind (omega (arith, differ)))
+    by_place b h1 h2 h3 = grind (arith, here, by_first)
 
 pub those_found : {A : Type 0} (p : A → Bool) (f : ℕ → Option A) (last m : ℕ) (x : A) → 1 ≤ m → m ≤ last → f m ≡ Some x → p x ≡ true
     → ((k : ℕ) (y : A) → f k ≡ Some y → p y ≡ true → k ≡ m) → find p (those_to last f) ≡ Some x
@@ -103,11 +90,7 @@ those_found p f last m x low high at passes only = found_only p f 1 last m x low
 
 pub number_has : (last : ℕ) (tokens : ℕ → Option ℕ) (token n : ℕ) → number_to last tokens token ≡ Some n → tokens n ≡ Some token
 unfolding number_to
-number_has last tokens token n e = by_token (tokens n) (found_passes (λ number. is_token token (tokens number)) (range_with_len 1 last) n e)
-  where
-    by_token : (o : Option ℕ) → is_token token o ≡ true → o ≡ Some token
-    by_token None e = true_false (sym e)
-    by_token (Some t) e = ap Some (eqb-true t token e)
+number_has last tokens token n e = grind (arith, found_passes, true_false, eqb-true)
 
 found_some : (p : ℕ → Bool) (from n m : ℕ) → from ≤ m → m < from + n → p m ≡ true → (k : ℕ) × (find p (range_with_len from n) ≡ Some k)
 found_some p from zero m low high e = absurd (omega arith)
@@ -115,8 +98,7 @@ found_some p from (suc n) m low high e =
     by_test (p from) refl (by_place (from == m) (eqb-true from m) (eqb-false from m)) (λ above. found_some p (from + 1) n m above (omega arith) e)
   where
     by_place : (b : Bool) → (b ≡ true → from ≡ m) → (b ≡ false → from ≡ m → ⊥) → p from ≡ false → from + 1 ≤ m
-    by_place true same h f = true_false (sym e ∙ ap p (sym (same refl)) ∙ f)
-    by_place false h other f = let differ = other refl in omega (arith, differ)
+    by_place b h1 h2 h3 = grind (arith, true_false)
 
     by_test : (b : Bool) → p from ≡ b → (p from ≡ false → from + 1 ≤ m) → (from + 1 ≤ m → (k : ℕ) × (find p (range_with_len (from + 1) n) ≡ Some k))
         → (k : ℕ) × (cond b (Some from) (find p (range_with_len (from + 1) n)) ≡ Some k)
@@ -139,18 +121,14 @@ below_room f from (suc n) m t low high e =
     by_place (from == m) (eqb-true from m) (eqb-false from m) (λ above. below_room f (from + 1) n m t above (omega arith) e)
   where
     by_first : (o : Option ℕ) (room : List ℕ) → t < room_for room → t < room_for (cons_option o room)
-    by_first None room h = h
-    by_first (Some y) room h = omega arith
+    by_first o room h1 = grind arith
 
     here : (o : Option ℕ) (room : List ℕ) → o ≡ Some t → t < room_for (cons_option o room)
-    here None room e = absurd (none_some t e)
-    here (Some y) room e = let s = the_some y t e in omega (arith, s)
+    here o room h1 = grind (arith, none_some, the_some)
 
     by_place : (b : Bool) → (b ≡ true → from ≡ m) → (b ≡ false → from ≡ m → ⊥) → (from + 1 ≤ m → t < room_for (filter_map f (range_with_len (from + 1) n)))
         → t < room_for (cons_option (f from) (filter_map f (range_with_len (from + 1) n)))
-    by_place true same h behind = here (f from) (filter_map f (range_with_len (from + 1) n)) (ap f (same refl) ∙ e)
-    by_place false h other behind =
-        let differ = other refl in by_first (f from) (filter_map f (range_with_len (from + 1) n)) (behind (omega (arith, differ)))
+    by_place b h1 h2 h3 = grind (arith, here, by_first)
 
 pub within_room : (last : ℕ) (tokens : ℕ → Option ℕ) (n t : ℕ) → 1 ≤ n → n ≤ last → tokens n ≡ Some t → t < room_to last tokens
 unfolding room_to
@@ -161,9 +139,7 @@ within_room last tokens n t low high e = below_room tokens 1 last n t low (omega
 mapped_there : {A : Type 0} (f : ℕ → A) (from n i : ℕ) → i < n → slice_get (map f (range_with_len from n)) i ≡ Some (f (from + i))
 mapped_there f from zero i h = absurd (omega arith)
 mapped_there f from (suc n) zero h = let e : from ≡ from + 0 = omega arith in ap (λ m. Some (f m)) e
-mapped_there f from (suc n) (suc i) h =
-    let e : (from + 1) + i ≡ from + suc i = omega arith in
-    mapped_there f (from + 1) n i (omega arith) ∙ ap (λ m. Some (f m)) e
+mapped_there f from (suc n) (suc i) h = grind (arith, mapped_there f (from + 1) n i (omega arith))
 
 mapped_past : {A : Type 0} (f : ℕ → A) (from n i : ℕ) → n ≤ i → slice_get (map f (range_with_len from n)) i ≡ None
 mapped_past f from zero i h = refl
@@ -192,8 +168,4 @@ unfolding each_below
 each_from f room i x e = mapped_from f (range_with_len 0 room) i x e
 
 pub each_is : {A : Type 0} (f : ℕ → A) (room t : ℕ) (x : A) → slice_get (each_below room f) t ≡ Some x → x ≡ f t
-each_is f room t x e = by_order (cases_lt t room)
-  where
-    by_order : (t < room) ⊎ (room ≤ t) → x ≡ f t
-    by_order (inl h) = the_some x (f t) (sym e ∙ each_there f room t h)
-    by_order (inr h) = absurd (none_some x (sym (each_past f room t h) ∙ e))
+each_is f room t x e = grind (arith, cases_lt, the_some, each_there, none_some, each_past)

@@ -1,8 +1,8 @@
 -- The members of the API in their world: each stands at its name, its type is there, and its header says how many words it takes.
-use Rattle.std.proofs.Common.{◌≡◌, ℕ, suc, ◌+◌, ◌≤◌, ◌==◌, ◌&&◌, not, Bool, true, false, cond, map, List, [], ◌∷◌, length, Option, Some, None, refl, ap, sym, ◌∙◌, is_some, slice_get}
+use Rattle.std.proofs.Common.{◌≡◌, ℕ, suc, ◌≤◌, ◌==◌, ◌&&◌, not, Bool, true, false, cond, map, List, [], ◌∷◌, length, Option, Some, None, refl, ap, sym, ◌∙◌, is_some, slice_get, arith}
 use Rattle.std.proofs.lemmas.Bool.{eq-eqb, eqb-true}
 use Rattle.std.specs.List.{find, list_all}
-use Rattle.std.specs.Option.{option_and_then, option_map, option_map_or}
+use Rattle.std.specs.Option.{option_map, option_map_or}
 use Rattle.jc_base.specs.Signature.{Signature, return_map, signature_map, type_map}
 use Rattle.jc_base.specs.declared.class_ref.ClassRef.{ClassRef}
 use Rattle.jc_base.specs.declared.declared_type.DeclaredType.{DeclaredType}
@@ -15,14 +15,12 @@ use Rattle.jc_cap.specs.declared.record.InterfaceRecord.{InterfaceRecord}
 use Rattle.jc_cap.specs.declared.record.RecordBody.TheVariants.{Interface, Class}
 use Rattle.jc_cap_desc.specs.Shape.{ClassShape, MethodShape}
 use Rattle.jc_api.specs.Bound.{Bound}
-use Rattle.jc_api.specs.Class.{is_interface, number_of, package_of, size_of, superclass_of}
+use Rattle.jc_api.specs.Class.{is_interface, number_of, package_of}
 use Rattle.jc_api.specs.Member.{ApiMember, member_of, members}
 use Rattle.jc_api.specs.NoClash.{HasNoClash}
-use Rattle.jc_api.specs.Token.{is_same_class}
 use Rattle.jc_api.specs.declared.class.ApiClass.{ApiClass}
-use Rattle.jc_api.specs.declared.class.ApiClass.TheVariants.{Object}
-use Rattle.jc_classes.specs.Api.{api_shape, api_world, class_in_api, class_shape_of, declared_by, is_static, last_class, last_member, method_in, method_of, nargs_of, no_table, public_table, record_in, spelled_in, those_to}
-use Rattle.jc_classes.specs.Members.{DeclaredMethod, declared_in, method_at, name_of}
+use Rattle.jc_classes.specs.Api.{api_shape, api_world, class_in_api, class_shape_of, last_class, last_member, method_in, method_of, record_in, spelled_in, those_to}
+use Rattle.jc_classes.specs.Members.{DeclaredMethod, method_at}
 use Rattle.jc_classes.specs.Methods.{has_method, method_of_class}
 use Rattle.jc_names.specs.Names.{api_home}
 use Rattle.jc_names.specs.declared.name.ClassName.{ClassName}
@@ -49,17 +47,10 @@ pub no_interface : (n : ℕ) (m : ApiMember) → member_of n ≡ Some m → is_i
 no_interface n m e = not_true (is_interface m.class) (each_member (λ m. not (is_interface m.class)) refl n m e)
 
 class_or : (b : Bool) (i : InterfaceRecord) (k : ClassRecord) → is_class (cond b (Interface i) (Class k)) ≡ not b
-class_or true i k = refl
-class_or false i k = refl
+class_or b i k = grind arith
 
 pub class_body : (bound : Bound) (c : ApiClass) → is_class (record_in bound c) ≡ not (is_interface c)
-class_body bound c = class_or (is_interface c) (record { superinterfaces = [] }) (record {
-  superclass = option_map (spelled_in bound (package_of c)) (superclass_of c);
-  declared_size = size_of c;
-  public_methods = public_table bound c;
-  package_methods = no_table;
-  interfaces = [];
-})
+class_body bound c = grind (arith, class_or)
 
 -- ---- members where they are declared
 
@@ -69,20 +60,10 @@ made c m = record { class = c; method = m }
 module _ (bound : Bound) where
   pub method_is : (c : ApiClass) (n : ℕ) (x : MethodShape) → method_of bound c n ≡ Some x
       → (m : ApiMember) × (member_of n ≡ Some m) × (m.class ≡ c) × (method_in bound n m ≡ x)
-  method_is c n x e =
-      let a = mapped (method_in bound n) (declared_by c n) x e in
-      let b = some_of (λ (m : ApiMember). cond (is_same_class m.class c) (Some m) None) (member_of n) a.0 a.1 in
-      by_class b.0 a.0 b.1 a.2 (is_same_class (b.0).class c) (same_class (b.0).class c) b.2
-    where
-      by_class : (m l : ApiMember) → member_of n ≡ Some m → method_in bound n l ≡ x → (b : Bool) → (b ≡ true → m.class ≡ c) → cond b (Some m) None ≡ Some l
-          → (m : ApiMember) × (member_of n ≡ Some m) × (m.class ≡ c) × (method_in bound n m ≡ x)
-      by_class m l f g true h e = (m, f, h refl, ap (method_in bound n) (the_some m l e) ∙ g)
-      by_class m l f g false h e = absurd (none_some l e)
+  method_is c n x e = grind (arith, mapped, some_of, same_class, the_some, none_some)
 
   pub method_from : (n : ℕ) (m : ApiMember) → member_of n ≡ Some m → method_of bound m.class n ≡ Some (method_in bound n m)
-  method_from n m e =
-      ap (λ o. option_map (method_in bound n) (option_and_then (λ (l : ApiMember). cond (is_same_class l.class m.class) (Some l) None) o)) e
-      ∙ ap (λ b. option_map (method_in bound n) (cond b (Some m) None)) (class_itself m.class)
+  method_from n m e = grind (arith, class_itself)
 
   pub method_in_class : (n : ℕ) (m : ApiMember) → member_of n ≡ Some m → method_of_class n (class_in_api bound m.class) ≡ Some (method_in bound n m)
   method_in_class n m e =
@@ -127,14 +108,7 @@ module _ (bound : Bound) where
       any_found (λ k. is_some (method_of_class n k)) (those_to last_class (class_shape_of bound (package_of m.class))) (class_in_api bound m.class) (declared n m e)
 
   pub member_there : (n : ℕ) (m : ApiMember) → member_of n ≡ Some m → method_at (api_world bound) (Api n) ≡ Some (made (Names.Api m.class) (method_in bound n m))
-  member_there n m e =
-      ap (λ o. option_and_then (λ home. option_and_then (declared_in home n) (slice_get (api_world bound) home))
-      (option_map (λ (l : ApiMember). api_home (package_of l.class)) o)) e
-      ∙ ap (option_and_then (declared_in (api_home (package_of m.class)) n)) (package_there bound (package_of m.class))
-      ∙ ap (option_and_then (λ k. option_and_then (λ class. option_map (made class) (method_of_class n k)) (name_of (api_home (package_of m.class)) k)))
-      (declared n m e)
-      ∙ ap (option_and_then (λ class. option_map (made class) (method_of_class n (class_in_api bound m.class)))) (named_again bound m.class)
-      ∙ ap (option_map (made (Names.Api m.class))) (method_in_class n m e)
+  member_there n m e = grind (arith, package_there, declared, named_again, method_in_class)
 
 -- ---- types
 
@@ -163,50 +137,29 @@ module _ (find : ClassRef → Option ClassName) (spell : ApiClass → ClassRef) 
     (finds : (c : ApiClass) → seen c ≡ true → find (spell c) ≡ Some (counted_name c)) where
   type_is : (t : DeclaredType ApiClass) → type_seen seen t ≡ true
       → type_found find (type_map spell t) ≡ Some (type_map counted_name t)
-  type_is Boolean e = refl
-  type_is Byte e = refl
-  type_is Short e = refl
-  type_is (Reference c) e = ap (option_map Reference) (finds c e)
-  type_is BooleanArray e = refl
-  type_is ByteArray e = refl
-  type_is ShortArray e = refl
-  type_is (ReferenceArray c) e = ap (option_map ReferenceArray) (finds c e)
+  type_is t h1 = grind arith
 
   types_are : (ts : List (DeclaredType ApiClass)) → list_all (type_seen seen) ts ≡ true
       → types_found find (map (type_map spell) ts) ≡ Some (map (type_map counted_name) ts)
   types_are [] e = refl
   types_are (t ∷ ts) e =
-      ap (option_and_then (λ u. option_map (λ us. u ∷ us) (types_found find (map (type_map spell) ts))))
-      (type_is t (left_true (type_seen seen t) (list_all (type_seen seen) ts) e))
-      ∙ ap (option_map (λ us. type_map counted_name t ∷ us))
-      (types_are ts (right_true (type_seen seen t) (list_all (type_seen seen) ts) e))
+      grind (
+        arith,
+        type_is t (left_true (type_seen seen t) (list_all (type_seen seen) ts) e),
+        types_are ts (right_true (type_seen seen t) (list_all (type_seen seen) ts) e),
+      )
 
   return_is : (r : ReturnType ApiClass) → return_seen seen r ≡ true
       → return_found find (return_map spell r) ≡ Some (return_map counted_name r)
-  return_is Void e = refl
-  return_is (Value t) e = ap (option_map Value) (type_is t e)
+  return_is r h1 = grind (arith, type_is)
 
   signature_is : (s : Signature ApiClass) → signature_seen seen s ≡ true
       → signature_found find (signature_map spell s) ≡ Some (signature_map counted_name s)
-  signature_is s e =
-      ap (option_and_then (λ (ps : List (DeclaredType ClassName)). option_map
-      (λ r. the_signature ps r) (return_found find (return_map spell s.result))))
-      (types_are s.parameters (left_true (list_all (type_seen seen) s.parameters) (return_seen seen s.result) e))
-      ∙ ap (option_map (λ r. the_signature (map (type_map counted_name) s.parameters) r))
-      (return_is s.result (right_true (list_all (type_seen seen) s.parameters) (return_seen seen s.result) e))
+  signature_is s e = grind (arith, types_are, left_true, return_is, right_true)
 
 module _ (bound : Bound) (clear : HasNoClash bound) where
   counts : (c : ApiClass) → counted (api_world bound) (Names.Api c) ≡ counted_name c
-  counts c =
-      ap (λ o. cond (option_map_or (λ (k : ClassShape). not (is_class k.body)) o false) (Names.Api Object)
-      (Names.Api c))
-      (class_there bound c)
-      ∙ ap (λ b. cond (not b) (Names.Api Object) (Names.Api c)) (class_body bound c)
-      ∙ twice (is_interface c)
-    where
-      twice : (b : Bool) → cond (not (not b)) (Names.Api Object) (Names.Api c) ≡ cond b (Names.Api Object) (Names.Api c)
-      twice true = refl
-      twice false = refl
+  counts c = grind (arith, not, class_there, class_body)
 
   pub member_type_is : (n : ℕ) (m : ApiMember) → member_of n ≡ Some m
       → member_type_of (api_world bound) (api_home (package_of m.class)) (method_in bound n m).signature
@@ -232,9 +185,7 @@ module _ (bound : Bound) (clear : HasNoClash bound) where
       each i x e =
           let k = those_from (method_of bound c) last_member i x e in
           let a = method_is bound c k.0 x k.1 in
-          ap (λ (x : MethodShape). not (is_some (member_type_of (api_world bound) (api_home (package_of c)) x.signature))) (sym a.3)
-          ∙ ap (λ d. not (is_some (member_type_of (api_world bound) (api_home (package_of d)) (method_in bound k.0 a.0).signature))) (sym a.2)
-          ∙ ap not (member_type_there k.0 a.0 a.1)
+          grind (arith, not, member_type_there)
 
 -- ---- words of arguments
 
@@ -248,12 +199,4 @@ words_right bound c =
   where
     each : (i : ℕ) (x : MethodShape) → slice_get (those_to last_member (method_of bound c)) i ≡ Some x
         → option_map_or (λ header. not (header.nargs == words_of x)) x.header false ≡ false
-    each i x e =
-        let k = those_from (method_of bound c) last_member i x e in
-        let a = method_is bound c k.0 x k.1 in
-        ap (λ (x : MethodShape). option_map_or (λ header. not (header.nargs == words_of x)) x.header false) (sym a.3) ∙ of_member k.0 a.0
-      where
-        of_member : (n : ℕ) (m : ApiMember) → not (nargs_of m == words_of (method_in bound n m)) ≡ false
-        of_member n m =
-            ap not (eq-eqb (nargs_of m) (words_of (method_in bound n m))
-            (ap (λ l. cond (is_static m.kind) l (l + 1)) (as_many (type_map (spelled_in bound (package_of m.class))) m.signature.parameters)))
+    each i x e = grind (arith, those_from, method_is, not, eq-eqb, as_many)

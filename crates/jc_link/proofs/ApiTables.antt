@@ -14,7 +14,6 @@ use Rattle.jc_api.specs.Numbered.{numbered}
 use Rattle.jc_api.specs.Token.{is_at_or_above, is_same_class, is_virtual, members_meet}
 use Rattle.jc_api.specs.declared.class.ApiClass.{ApiClass}
 use Rattle.jc_api.specs.declared.class.ApiPackage.{ApiPackage}
-use Rattle.jc_api.specs.declared.class.ApiPackage.TheVariants.{Lang, Framework}
 use Rattle.jc_classes.specs.Api.{api_shape, api_world, class_in_api, each_below, last_member, member_token, no_table, number_to, public_table, room_to, spelled_in}
 use Rattle.jc_classes.specs.Methods.{declared_above, entry_visit, has_method, method_there, record_visit, table_visit, virtual_method_of, virtual_visit}
 use Rattle.jc_classes.specs.Walk.{found_from, most_classes, walk}
@@ -63,21 +62,7 @@ pub record IsDeclared (bound : Bound) (c : ApiClass) (token n : ℕ) : Type 0 wh
   pub its_token : numbered bound.members n ≡ Some token
 
 pub is_declared : (bound : Bound) (c : ApiClass) (t n : ℕ) → number_to last_member (declared_token bound c) t ≡ Some n → IsDeclared bound c t n
-is_declared bound c t n e =
-    let a = some_of (λ (m : ApiMember). cond (is_virtual m.kind && is_same_class m.class c) (numbered bound.members n) None) (member_of n) t
-    (number_has last_member (declared_token bound c) t n e) in
-    by_test a.0 a.1 (is_virtual (a.0).kind && is_same_class (a.0).class c) refl a.2
-  where
-    by_test : (m : ApiMember) → member_of n ≡ Some m → (b : Bool) → (is_virtual m.kind && is_same_class m.class c) ≡ b → cond b (numbered bound.members n) None ≡ Some t
-        → IsDeclared bound c t n
-    by_test m f true g k = record {
-      member = m;
-      number = f;
-      virtual = left_true (is_virtual m.kind) (is_same_class m.class c) g;
-      class = same_class m.class c (right_true (is_virtual m.kind) (is_same_class m.class c) g);
-      its_token = k;
-    }
-    by_test m f false g k = absurd (none_some t k)
+is_declared bound c t n e = grind (arith, some_of, number_has, left_true, same_class, right_true, none_some)
 
 -- ---- members along a chain
 
@@ -92,15 +77,7 @@ pub record IsMember (bound : Bound) (c : ApiClass) (token : ℕ) (m : MethodName
   pub its_token : numbered bound.members number ≡ Some token
 
 member_below : (bound : Bound) (c d : ApiClass) (token : ℕ) (m : MethodName) → superclass_of c ≡ Some d → IsMember bound d token m → IsMember bound c token m
-member_below bound c d token m e i = record {
-  number = i.number;
-  member = i.member;
-  name = i.name;
-  is_number = i.is_number;
-  virtual = i.virtual;
-  class = above_super (i.member).class c d e i.class;
-  its_token = i.its_token;
-}
+member_below bound c d token m e i = grind (arith, above_super)
 
 pub both_meet : (a b : ApiMember) → is_virtual a.kind ≡ true → is_virtual b.kind ≡ true → is_at_or_above a.class b.class ≡ true → members_meet a b ≡ true
 unfolding members_meet
@@ -118,11 +95,7 @@ module _ (bound : Bound) (clear : HasNoClash bound) (asker token : ℕ) where
   pub walk_step : (n : ℕ) (c : ApiClass) → steps (suc n) (Names.Api c)
       ≡ found_from (virtual_visit world asker token (Names.Api c) (class_in_api bound c))
       (option_and_then (steps n) (option_map Names.Api (superclass_of c)))
-  walk_step n c =
-      ap (option_and_then (λ k. found_from (virtual_visit world asker token (Names.Api c) k)
-      (option_and_then (steps n) (World.superclass_of world (Names.Api c))))) (class_there bound c)
-      ∙ ap (λ o. found_from (virtual_visit world asker token (Names.Api c) (class_in_api bound c))
-      (option_and_then (steps n) o)) (superclass_is bound clear c)
+  walk_step n c = grind (arith, class_there, superclass_is)
 
   -- more steps than a class's number change nothing
   enough : (n m : ℕ) (c : ApiClass) → number_of c ≤ n → number_of c ≤ m
@@ -139,8 +112,7 @@ module _ (bound : Bound) (clear : HasNoClash bound) (asker token : ℕ) where
           → ((d : ApiClass) → o ≡ Some d → steps n (Names.Api d) ≡ steps m (Names.Api d))
           → option_and_then (steps n) (option_map Names.Api o)
           ≡ option_and_then (steps m) (option_map Names.Api o)
-      by_super None h = refl
-      by_super (Some d) h = h d refl
+      by_super o h1 = grind arith
 
   pub found_step : (c : ApiClass) → virtual_method_of world (Names.Api c) token asker
       ≡ found_from (virtual_visit world asker token (Names.Api c) (class_in_api bound c))
@@ -153,15 +125,7 @@ module _ (bound : Bound) (clear : HasNoClash bound) (asker token : ℕ) where
 
   past : (home : ℕ) (c : ApiClass) (b : Bool) (above : Option MethodName) → 128 ≤ token → above ≡ None
       → found_from (record_visit world asker token home (cond b (Interface (record { superinterfaces = [] })) (Class (class_record bound c)))) above ≡ None
-  past home c true above h e = refl
-  past home c false above h e = rw (le-ltb token 128 h) (by_home (home == asker) (nat_lt (token - 128) 0))
-    where
-      by_home : (b d : Bool) → found_from
-          (cond b (cond (d || true) (entry_visit world home (Some declared_above)) (entry_visit world home None))
-          (entry_visit world home (Some declared_above))) above ≡ None
-      by_home true true = e
-      by_home true false = e
-      by_home false d = e
+  past home c b above h1 h2 = grind (arith, le-ltb)
 
   none_visible : (n : ℕ) (c : ApiClass) → 128 ≤ token → steps n (Names.Api c) ≡ None
   none_visible zero c h = refl
@@ -169,8 +133,7 @@ module _ (bound : Bound) (clear : HasNoClash bound) (asker token : ℕ) where
     where
       by_super : (o : Option ApiClass) → ((d : ApiClass) → steps n (Names.Api d) ≡ None)
           → option_and_then (steps n) (option_map Names.Api o) ≡ None
-      by_super None k = refl
-      by_super (Some d) k = k d
+      by_super o h1 = grind arith
 
   -- ---- public tokens find members
 
@@ -179,8 +142,7 @@ module _ (bound : Bound) (clear : HasNoClash bound) (asker token : ℕ) where
 
   pub there_visit : (n : ℕ) (p : ApiPackage) (above : Option MethodName) → has_method n (api_shape bound p) ≡ true
       → found_from (method_there world (api_home p) n) above ≡ Some (Api n)
-  there_visit n Lang above h = rw h refl
-  there_visit n Framework above h = rw h refl
+  there_visit n p above h1 = grind arith
 
   -- what a class gives is what is above it, or the member that it declares
   module _ (c : ApiClass) (above : Option MethodName) (m : MethodName) (low : token < 128) where
@@ -189,31 +151,15 @@ module _ (bound : Bound) (clear : HasNoClash bound) (asker token : ℕ) where
 
     by_number : (o : Option ℕ) → number_to last_member (declared_token bound c) token ≡ o
         → found_from (entry_visit world (api_home (package_of c)) (Some (unwrap_or o declared_above))) above ≡ Some m → Gives
-    by_number None f e = inl e
-    by_number (Some n) f e = by_test (n == declared_above) e
-      where
-        is_there : found_from (method_there world (api_home (package_of c)) n) above ≡ Some (Api n)
-        is_there =
-            let d = is_declared bound c token n f in
-            there_visit n (package_of c) above
-            (ap (λ (a : ApiClass). has_method n (api_shape bound (package_of a))) (sym d.class) ∙ has_member bound n d.member d.number)
-
-        by_test : (b : Bool) → found_from
-            (cond b (entry_visit world (api_home (package_of c)) (Some declared_above)) (method_there world (api_home (package_of c)) n)) above ≡ Some m → Gives
-        by_test true e = inl e
-        by_test false e = inr (n, sym (the_some (Api n) m (sym is_there ∙ e)), f)
+    by_number o h1 h2 = grind (arith, is_declared, there_visit, has_member, the_some)
 
     by_entry : (o : Option ℕ) → slice_get (each_below (room bound c) (entry bound c)) token ≡ o
         → found_from (entry_visit world (api_home (package_of c)) o) above ≡ Some m → Gives
-    by_entry None f e = absurd (none_some m e)
-    by_entry (Some x) f e =
-        by_number (number_to last_member (declared_token bound c) token) refl
-        (ap (λ x. found_from (entry_visit world (api_home (package_of c)) (Some x)) above) (sym (each_is (entry bound c) (room bound c) token x f)) ∙ e)
+    by_entry o h1 h2 = grind (arith, none_some, by_number, each_is)
 
     by_table : (b : Bool) (t : ℕ) → t ≡ token → found_from (cond b (entry_visit world (api_home (package_of c)) (Some declared_above))
         (entry_visit world (api_home (package_of c)) (slice_get (each_below (room bound c) (entry bound c)) t))) above ≡ Some m → Gives
-    by_table true t one e = inl e
-    by_table false t one e = by_entry (slice_get (each_below (room bound c) (entry bound c)) t) (ap (slice_get (each_below (room bound c) (entry bound c))) (sym one)) e
+    by_table b t h1 h2 = grind (arith, by_entry)
 
     by_kind : (b : Bool) → found_from (record_visit world asker token (api_home (package_of c))
         (cond b (Interface (record { superinterfaces = [] })) (Class (class_record bound c)))) above ≡ Some m → Gives
@@ -232,18 +178,11 @@ module _ (bound : Bound) (clear : HasNoClash bound) (asker token : ℕ) where
       → found_from (virtual_visit world asker token (Names.Api c) (class_in_api bound c)) above ≡ above
   passes c above low class within none =
       let same : token ≡ token - 0 = omega arith in
-      ap (λ b. found_from (record_visit world asker token (api_home (package_of c))
-      (cond b (Interface (record { superinterfaces = [] })) (Class (class_record bound c)))) above) class
-      ∙ ap (λ v. found_from v above) (public_visit (api_home (package_of c)) (class_record bound c) low)
-      ∙ by_table (nat_lt token 0 || length (each_below (room bound c) (entry bound c)) == 0) (token - 0) same
+      grind (arith, public_visit, by_table)
     where
       by_table : (b : Bool) (t : ℕ) → token ≡ t → found_from (cond b (entry_visit world (api_home (package_of c)) (Some declared_above))
           (entry_visit world (api_home (package_of c)) (slice_get (each_below (room bound c) (entry bound c)) t))) above ≡ above
-      by_table true t one = refl
-      by_table false t one =
-          ap (λ t. found_from (entry_visit world (api_home (package_of c)) (slice_get (each_below (room bound c) (entry bound c)) t)) above) (sym one)
-          ∙ ap (λ o. found_from (entry_visit world (api_home (package_of c)) o) above) (each_there (entry bound c) (room bound c) token within)
-          ∙ ap (λ o. found_from (entry_visit world (api_home (package_of c)) (Some (unwrap_or o declared_above))) above) none
+      by_table b t h1 = grind (arith, each_there)
 
   -- ---- what is found
 
@@ -262,22 +201,10 @@ module _ (bound : Bound) (clear : HasNoClash bound) (asker token : ℕ) where
       by_case (Some d) f above (inl e) = member_below bound c d token m f (above d e)
       by_case o f above (inr k) =
           let d = is_declared bound c token k.0 k.2 in
-          record {
-            number = k.0;
-            member = d.member;
-            name = k.1;
-            is_number = d.number;
-            virtual = d.virtual;
-            class = ap (λ a. is_at_or_above a c) d.class ∙ above_itself c;
-            its_token = d.its_token;
-          }
+          grind (arith, above_itself)
 
   pub found_member : (c : ApiClass) (m : MethodName) → virtual_method_of world (Names.Api c) token asker ≡ Some m → IsMember bound c token m
-  found_member c m e = by_order (cases_lt token 128)
-    where
-      by_order : (token < 128) ⊎ (128 ≤ token) → IsMember bound c token m
-      by_order (inl low) = walk_finds most_classes c m low e
-      by_order (inr high) = absurd (none_some m (sym (none_visible most_classes c high) ∙ e))
+  found_member c m e = grind (arith, cases_lt, walk_finds, none_some, none_visible)
 
   -- a class finds what its superclass finds
   pub found_below : (c d : ApiClass) (m : MethodName) → superclass_of c ≡ Some d
@@ -288,8 +215,7 @@ module _ (bound : Bound) (clear : HasNoClash bound) (asker token : ℕ) where
       is_member = member_below bound c d token m e (found_member d m f)
 
       is_class : (b : Bool) → is_interface c ≡ b → is_interface c ≡ false
-      is_class true h = absurd (none_some d (sym (interface_alone c h) ∙ e))
-      is_class false h = h
+      is_class b h1 = grind (arith, none_some, interface_alone)
 
       has_room : token < room bound c
       has_room =
@@ -310,14 +236,8 @@ module _ (bound : Bound) (clear : HasNoClash bound) (asker token : ℕ) where
           true_false (sym i.class ∙ ap (λ a. is_at_or_above a d) its ∙ not_above c d e)
 
       by_number : (o : Option ℕ) → number_to last_member (declared_token bound c) token ≡ o → token < 128 → virtual_method_of world (Names.Api c) token asker ≡ Some m
-      by_number None g low =
-          found_step c
-          ∙ ap (λ o. found_from (virtual_visit world asker token (Names.Api c) (class_in_api bound c))
-          (option_and_then (λ d. virtual_method_of world d token asker) (option_map Names.Api o))) e
-          ∙ passes c (virtual_method_of world (Names.Api d) token asker) low (is_class (is_interface c) refl) has_room g
-          ∙ f
+      by_number None g low = grind (arith, found_step, passes, is_class, has_room)
       by_number (Some n) g low = absurd (not_own n (is_declared bound c token n g))
 
       by_order : (token < 128) ⊎ (128 ≤ token) → virtual_method_of world (Names.Api c) token asker ≡ Some m
-      by_order (inl low) = by_number (number_to last_member (declared_token bound c) token) refl low
-      by_order (inr high) = absurd (none_some m (sym (none_visible most_classes d high) ∙ f))
+      by_order h1 = grind (arith, by_number, none_some, none_visible)

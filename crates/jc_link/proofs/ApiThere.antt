@@ -1,25 +1,20 @@
 -- The classes of the API stand in every world that is built, with the cells that the API's tables say.
-use Rattle.std.proofs.Common.{◌≡◌, ℕ, zero, suc, ◌+◌, ◌-◌, ◌==◌, ◌||◌, not, Bool, true, false, cond, List, [], ◌∷◌, ◌++◌, take, Option, Some, None, refl, sym, ap, ◌∙◌, arith}
+use Rattle.std.proofs.Common.{◌≡◌, ℕ, zero, suc, ◌+◌, ◌-◌, not, Bool, true, cond, List, [], ◌∷◌, ◌++◌, take, Option, Some, None, refl, sym, ap, ◌∙◌, arith}
 use Rattle.std.proofs.lemmas.Bool.{eqb-true}
-use Rattle.std.specs.List.{find}
 use Rattle.std.specs.Option.{option_and_then, option_map, option_map_or}
-use Rattle.jc_base.specs.declared.declared_type.DeclaredType.{DeclaredType}
 use Rattle.jc_cap.specs.ClassComponent.{is_class}
 use Rattle.jc_cap.specs.declared.record.RecordBody.{RecordBody}
-use Rattle.jc_cap_desc.specs.Shape.{ClassShape, FieldShape, Shape}
+use Rattle.jc_cap_desc.specs.Shape.{ClassShape, Shape}
 use Rattle.jc_api.specs.Bound.{Bound}
 use Rattle.jc_api.specs.Class as tables
 use Rattle.jc_api.specs.NoClash.{HasNoClash}
 use Rattle.jc_api.specs.Token.{is_virtual}
 use Rattle.jc_api.specs.declared.class.ApiClass.{ApiClass}
-use Rattle.jc_api.specs.declared.class.ApiClass.TheVariants.{Object}
 use Rattle.jc_classes.specs.Api.{api_world, class_in_api}
 use Rattle.jc_classes.specs.Growth.{KeepsAllLookups, LiesWithin}
 use Rattle.jc_classes.specs.Record.{declared_size}
 use Rattle.jc_classes.specs.Walk.{most_classes}
-use Rattle.jc_names.specs.Names.{home_of}
 use Rattle.jc_classes.specs.World.{class_at, superclass_of}
-use Rattle.jc_names.specs.declared.name.ClassName.{ClassName}
 use Rattle.jc_names.specs.declared.name.ClassName.TheVariants.{Api}
 use Rattle.jc_names.specs.declared.name.MethodName.TheVariants as Method
 use Rattle.jc_link.proofs.ApiClasses.{each_class}
@@ -32,8 +27,8 @@ use Rattle.jc_link.proofs.Superclasses.{most_is}
 use Rattle.jc_link.specs.ApiClasses.{StandsOnApi, StandsThere, cells_of}
 use Rattle.jc_link.specs.Built.{IsBuilt, api, loaded}
 use Rattle.jc_link.specs.Growth.{KeepsAllLinking}
-use Rattle.jc_link.specs.MemberType.{declared_type_of, field_type_of}
-use Rattle.jc_link.specs.Named.{cells_above, instance_field_in, is_instance_field, size_of}
+use Rattle.jc_link.specs.MemberType.{declared_type_of}
+use Rattle.jc_link.specs.Named.{cells_above, size_of}
 use Rattle.jc_link.specs.Target.{instance_type_of}
 
 -- ---- one class in the API's world, and in larger ones
@@ -49,18 +44,12 @@ record IsAsTold (world : List Shape) (c : ApiClass) : Type 0 where
 
 -- an interface has no cells
 no_size : (c : ApiClass) → tables.is_interface c ≡ true → tables.size_of c ≡ 0
-no_size c e =
-    by_kind (tables.is_interface c) e (each_class (λ a. not (tables.is_interface a) || tables.size_of a == 0) refl c)
-  where
-    by_kind : (b : Bool) → b ≡ true → (not b || tables.size_of c == 0) ≡ true → tables.size_of c ≡ 0
-    by_kind true f h = eqb-true (tables.size_of c) 0 h
-    by_kind false f h = true_false (sym f)
+no_size c e = grind (arith, each_class, not, eqb-true, true_false)
 
 its_size : (b : Bool) (x y : RecordBody) (size : ℕ) → (b ≡ true → size ≡ 0) → declared_size x ≡ 0
     → declared_size y ≡ size
     → declared_size (cond b x y) ≡ size
-its_size true x y size none e f = let zero_is = none refl in omega (arith, zero_is, e)
-its_size false x y size none e f = f
+its_size b x y size h1 h2 h3 = grind arith
 
 -- ---- the API's packages are the first of a world
 
@@ -71,15 +60,11 @@ record BeginsWithApi (world : List Shape) : Type 0 where
 
 first_two : (before : List Shape) (p : Shape) (b : Bound) → take 2 before ≡ api_world b
     → take 2 (before ++ p ∷ []) ≡ api_world b
-first_two [] p b e = absurd cc
-first_two (x ∷ []) p b e = absurd cc
-first_two (x ∷ y ∷ before) p b e = e
+first_two before p b h1 = grind arith
 
 begins : (world : List Shape) → IsBuilt world → BeginsWithApi world
 begins _ (api bound clear) = record { bound = bound; clear = clear; lies = refl }
-begins _ (loaded before p built well) =
-    let s = begins before built in
-    record { bound = s.bound; clear = s.clear; lies = first_two before p.shape s.bound s.lies }
+begins _ (loaded before p built well) = grind (arith, first_two, begins before built)
 
 told : (world : List Shape) (bound : Bound) → HasNoClash bound → KeepsAllLookups (api_world bound) world
     → (c : ApiClass) → IsAsTold world c
@@ -101,15 +86,13 @@ above zero c = 0
 above (suc n) c = option_map_or (λ d. tables.size_of d + above n d) (tables.superclass_of c) 0
 
 size_is : (world : List Shape) (c : ApiClass) → IsAsTold world c → size_of world (Api c) ≡ tables.size_of c
-size_is world c told =
-    ap (λ (o : Option ClassShape). option_map_or (λ k. declared_size k.body) o 0) told.there ∙ told.declared
+size_is world c told = grind arith
 
 cells_are : (world : List Shape) → ((c : ApiClass) → IsAsTold world c) → (n : ℕ) (c : ApiClass)
     → cells_above world n (Api c) ≡ above n c
 cells_are world told zero c = refl
 cells_are world told (suc n) c =
-    ap (λ (o : Option ClassName). option_map_or (λ d. size_of world d + cells_above world n d) o 0) (told c).superclass
-    ∙ by_superclass (tables.superclass_of c) (λ d. cells_are world told n d)
+    grind (arith, (told c).superclass, by_superclass (tables.superclass_of c) (λ d. cells_are world told n d))
   where
     by_superclass : (o : Option ApiClass) → ((d : ApiClass) → cells_above world n (Api d) ≡ above n d)
         → option_map_or (λ d. size_of world d + cells_above world n d) (option_map Api o) 0
@@ -120,27 +103,19 @@ cells_are world told (suc n) c =
 
 -- six classes are enough
 six_enough : (n : ℕ) (c : ApiClass) → tables.size_of c + above (suc (suc (suc (suc (suc (suc n)))))) c ≡ cells_of c
-six_enough n Object = refl
-six_enough n c = refl
+six_enough n c = grind arith
 
 all_cells : (world : List Shape) → ((c : ApiClass) → IsAsTold world c) → (c : ApiClass)
     → size_of world (Api c) + cells_above world most_classes (Api c) ≡ cells_of c
 all_cells world told c =
     let six : most_classes ≡ suc (suc (suc (suc (suc (suc (most_classes - 6)))))) = omega (arith, most_is) in
-    ap (λ i. i + cells_above world most_classes (Api c)) (size_is world c (told c))
-    ∙ ap (λ i. tables.size_of c + i) (cells_are world told most_classes c)
-    ∙ ap (λ n. tables.size_of c + above n c) six ∙ six_enough (most_classes - 6) c
+    grind (arith, size_is, told, cells_are, six_enough)
 
 -- ---- fields
 
 no_field : (world : List Shape) (c : ApiClass) → IsAsTold world c → (token : ℕ)
     → instance_type_of world (Api c) token ≡ None
-no_field world c told token =
-    ap (λ (o : Option ClassShape). type_of (option_and_then (instance_field_in token) o)) told.there
-    ∙ ap (λ (fields : List FieldShape). type_of (find (λ f. is_instance_field token f.place) fields)) told.no_fields
-  where
-    type_of : Option FieldShape → Option (DeclaredType ClassName)
-    type_of o = option_and_then (field_type_of world (home_of (Api c))) o
+no_field world c told token = grind arith
 
 module _ (lookups : (before after : List Shape) → LiesWithin before after → KeepsAllLookups before after) where
   pub api_stands_there : (world : List Shape) → IsBuilt world → (c : ApiClass) → StandsThere world c
@@ -148,16 +123,7 @@ module _ (lookups : (before after : List Shape) → LiesWithin before after → 
       let s = begins world built in
       let all = told world s.bound s.clear (lookups (api_world s.bound) world s.lies) in
       let told = all c in
-      record {
-        shape = told.shape;
-        there = told.there;
-        class_or_not = told.class_or_not;
-        abstract_or_not = told.abstract_or_not;
-        superclass = told.superclass;
-        size = size_is world c told;
-        cells = all_cells world all c;
-        fields = no_field world c told;
-      }
+      grind (arith, told, size_is, all_cells, no_field)
 
   -- and so do its members
   pub stands_on_api : ((before after : List Shape) → LiesWithin before after → KeepsAllLinking before after)

@@ -1,7 +1,7 @@
 -- The virtual members of the API in each world that begins with its packages: the token at which each stands in its
 -- class's table, and what is found there.
-use Rattle.std.proofs.Common.{◌≡◌, ℕ, zero, suc, ◌-◌, ◌<◌, ◌≤◌, ◌==◌, ◌||◌, List, [], ◌∷◌, length, Bool, true, false}
-use Rattle.std.proofs.Common.{cond, Option, Some, None, nat_lt, slice_get, unwrap_or, refl, sym, ap, ◌∙◌, subst, arith}
+use Rattle.std.proofs.Common.{◌≡◌, ℕ, zero, suc, ◌-◌, ◌<◌, ◌≤◌, ◌==◌, List, [], ◌∷◌, length, Bool, true, false}
+use Rattle.std.proofs.Common.{cond, Option, Some, nat_lt, slice_get, unwrap_or, refl, sym, ap, ◌∙◌, subst, arith}
 use Rattle.std.proofs.lemmas.Bool.{eq-eqb, eqb-true, le-ltb, lt-ltb, ltb-true}
 use Rattle.std.proofs.lemmas.List.Folds.{find_at}
 use Rattle.std.proofs.lemmas.Option.{slice_get_within}
@@ -16,18 +16,16 @@ use Rattle.jc_api.specs.Numbered.{numbered}
 use Rattle.jc_api.specs.Token.{is_at_or_above, is_virtual, member_token_limit}
 use Rattle.jc_api.specs.declared.class.ApiClass.{ApiClass}
 use Rattle.jc_api.specs.declared.class.ApiPackage.{ApiPackage}
-use Rattle.jc_api.specs.declared.class.ApiPackage.TheVariants.{Framework, Lang}
 use Rattle.jc_api.specs.declared.member.MemberKind.{MemberKind}
-use Rattle.jc_api.specs.declared.member.MemberKind.TheVariants.{Constructor, Static, Virtual}
 use Rattle.jc_cap.specs.declared.record.ClassRecord.{ClassRecord}
 use Rattle.jc_cap.specs.declared.record.RecordBody.TheVariants.{Class, Interface}
 use Rattle.jc_cap_desc.specs.Shape.{ClassShape, Shape}
 use Rattle.jc_classes.specs.Api.{api_world, class_in_api, each_below, last_member, method_in}
-use Rattle.jc_classes.specs.Api.{number_to, public_table, record_in}
+use Rattle.jc_classes.specs.Api.{public_table, record_in}
 use Rattle.jc_classes.specs.Growth.{IsMethodWithin, KeepsAllLookups}
 use Rattle.jc_classes.specs.Members.{DeclaredMethod, declared_in, method_at}
-use Rattle.jc_classes.specs.Methods.{declared_above, entry_visit, method_name, method_there}
-use Rattle.jc_classes.specs.Methods.{package_visible, record_visit, table_visit, virtual_method_of, virtual_visit}
+use Rattle.jc_classes.specs.Methods.{declared_above, method_name}
+use Rattle.jc_classes.specs.Methods.{package_visible, virtual_method_of, virtual_visit}
 use Rattle.jc_classes.specs.Record.{public_entries}
 use Rattle.jc_classes.specs.Walk.{found_from, most_classes, walk}
 use Rattle.jc_classes.specs.World.{class_at, superclass_of}
@@ -52,35 +50,23 @@ use Rattle.jc_names.specs.declared.name.MethodName.TheVariants.{Api, Loaded}
 -- ---- tests
 
 false_if : (b : Bool) → (b ≡ true → ⊥) → b ≡ false
-false_if true h = absurd (h refl)
-false_if false h = refl
+false_if b h1 = grind arith
 
 never : (b : Bool) → b ≡ true → b ≡ false → ⊥
-never true e f = absurd cc
-never false e f = absurd cc
+never b h1 h2 = grind arith
 
 -- ---- where a number stands
 
 some_found : (n : ℕ) (xs : List ℕ) (t : ℕ) → slice_get xs t ≡ Some n → find (λ (m : ℕ). m == n) xs ≡ Some n
 some_found n [] t e = absurd cc
-some_found n (y ∷ xs) zero e =
-    let is : y ≡ n = cc in
-    by_test (λ (o : Option ℕ). o ≡ Some n) (y == n) (Some y) (find (λ (m : ℕ). m == n) xs) (λ h. ap Some is)
-    (λ h. absurd (never (y == n) (eq-eqb y n is) h))
+some_found n (y ∷ xs) zero e = grind (arith, by_test, never, eq-eqb)
 some_found n (y ∷ xs) (suc t) e =
     by_test (λ (o : Option ℕ). o ≡ Some n) (y == n) (Some y) (find (λ (m : ℕ). m == n) xs)
     (λ h. ap Some (eqb-true y n h)) (λ h. some_found n xs t e)
 
 found_position : (p : ℕ → Bool) (xs : List ℕ) (x : ℕ) → find p xs ≡ Some x
     → (i : ℕ) × (position p xs ≡ Some i) × (slice_get xs i ≡ Some x)
-found_position p xs x e =
-    let at : slice_get xs (position_or_len p xs) ≡ Some x = sym (find_at p xs) ∙ e in
-    let less = slice_get_within xs (position_or_len p xs) x at in (
-      position_or_len p xs,
-      ap (λ b. cond b (Some (position_or_len p xs)) None) (lt-ltb (position_or_len p xs)
-          (length xs) less),
-      at,
-    )
+found_position p xs x e = grind (arith, find_at, slice_get_within, lt-ltb)
 
 -- ---- in the API's tables
 
@@ -88,26 +74,13 @@ module _ (bound : Bound) (clear : HasNoClash bound) where
   -- what stands in a class's table is a member that it declares under that token
   pub in_class : (b : ApiClass) (token offset : ℕ) → slice_get (each_below (room bound b) (entry bound b)) token
       ≡ Some offset → (offset == declared_above) ≡ false → IsDeclared bound b token offset
-  in_class b token offset e other =
-      by_number (number_to last_member (declared_token bound b) token) refl
-      (each_is (entry bound b) (room bound b) token offset e)
-    where
-      by_number : (o : Option ℕ) → number_to last_member (declared_token bound b) token ≡ o
-          → offset ≡ unwrap_or o declared_above → IsDeclared bound b token offset
-      by_number None f e = absurd (never (offset == declared_above) (eq-eqb offset declared_above e) other)
-      by_number (Some k) f e =
-          subst (λ (j : ℕ). IsDeclared bound b token j) (sym e) (is_declared bound b token k f)
+  in_class b token offset e other = grind (arith, declared_token, each_is, entry, room, never, eq-eqb, is_declared)
 
   not_above : (n : ℕ) (x : ApiMember) → member_of n ≡ Some x → (n == declared_above) ≡ false
-  not_above n x is =
-      false_if (n == declared_above)
-      (λ h.
-      let e = eqb-true n declared_above h in let most = (member_range n x is).1 in absurd (omega (arith, e, most)))
+  not_above n x is = grind (arith, false_if, eqb-true, member_range)
 
   virtual_limit : (kind : MemberKind) → is_virtual kind ≡ true → member_token_limit kind ≡ 127
-  virtual_limit Constructor e = absurd cc
-  virtual_limit Static e = absurd cc
-  virtual_limit Virtual e = refl
+  virtual_limit kind h1 = grind arith
 
   -- so its token is public
   token_low : (b : ApiClass) (token n : ℕ) → IsDeclared bound b token n → token < package_visible
@@ -192,11 +165,7 @@ module _ (bound : Bound) (clear : HasNoClash bound) where
         }
 
     some_there : (xs : List ℕ) (i : ℕ) → slice_get xs i ≡ Some n → (length xs == 0) ≡ false
-    some_there xs i e =
-        false_if (length xs == 0)
-        (λ h.
-        let none = eqb-true (length xs) 0 h in
-        let some = slice_get_within xs i n e in absurd (omega (arith, none, some)))
+    some_there xs i e = grind (arith, false_if, eqb-true, slice_get_within)
 
     not_below : (i : ℕ) → nat_lt i 0 ≡ false
     not_below i = false_if (nat_lt i 0) (λ h. let less = ltb-true i 0 h in absurd (omega (arith, less)))
@@ -208,22 +177,16 @@ module _ (bound : Bound) (clear : HasNoClash bound) where
         let home = api_home (package_of x.class) in
         let above = option_and_then (λ d. virtual_method_of (api_world bound) d i 0) (option_map classes.Api
         (tables.superclass_of x.class)) in
-        found_step bound clear 0 i x.class
-        ∙ ap (λ (b : Bool). found_from (record_visit (api_world bound) 0 i home (cond b (Interface
-        (record { superinterfaces = [] })) (Class (class_record bound x.class)))) above) (no_interface n x is)
-        ∙ ap (λ (b : Bool). found_from (cond b (table_visit (api_world bound) home (public_table bound x.class) i) (cond
-        (home == 0) (table_visit (api_world bound) home (class_record bound x.class).package_methods
-        (i - package_visible)) (record_visit (api_world bound) 1 128 0 (Class (class_record bound x.class))))) above)
-        (lt-ltb i 128 low)
-        ∙ ap (λ (b : Bool). found_from (cond (b || length entries == 0) (entry_visit (api_world bound) home
-        (Some declared_above)) (entry_visit (api_world bound) home (slice_get entries (i - 0)))) above) (not_below i)
-        ∙ ap (λ (b : Bool). found_from (cond b (entry_visit (api_world bound) home (Some declared_above)) (entry_visit
-        (api_world bound) home (slice_get entries (i - 0)))) above) (some_there entries i e)
-        ∙ ap (λ (o : Option ℕ). found_from (entry_visit (api_world bound) home o) above)
-        (ap (slice_get entries) same ∙ e)
-        ∙ ap (λ (b : Bool). found_from (cond b (entry_visit (api_world bound) home (Some declared_above)) (method_there
-        (api_world bound) home n)) above) (not_above n x is)
-        ∙ there_visit bound clear 0 i n (package_of x.class) above (has_member bound n x is)
+        grind (
+          arith,
+          found_step bound clear 0 i x.class,
+          no_interface n x is,
+          lt-ltb i 128 low,
+          not_below i,
+          some_there entries i e,
+          not_above n x is,
+          there_visit bound clear 0 i n (package_of x.class) above (has_member bound n x is),
+        )
 
 -- ---- in a world
 
@@ -237,9 +200,7 @@ module _ (world : List Shape) (bound : Bound) (clear : HasNoClash bound)
   its_superclass b = looks.superclasses (classes.Api b) (api_low (package_of b)) ∙ superclass_is bound clear b
 
   pub method_within : (n : ℕ) → IsMethodWithin (api_world bound) (Api n)
-  method_within n home e =
-      let a = mapped (λ (l : ApiMember). api_home (package_of l.class)) (member_of n) home e in
-      subst (λ (h : ℕ). h < 2) a.2 (api_low (package_of (a.0).class))
+  method_within n home e = grind (arith, mapped, api_low)
 
   pub its_method : (n : ℕ) (x : ApiMember) → member_of n ≡ Some x
       → method_at world (Api n) ≡ Some (record { class = classes.Api x.class; method = method_in bound n x })
@@ -266,8 +227,7 @@ module _ (world : List Shape) (bound : Bound) (clear : HasNoClash bound)
       }
 
   api_offset : (p : ApiPackage) (offset j : ℕ) → method_name (api_home p) offset ≡ Api j → offset ≡ j
-  api_offset Lang offset j e = cc
-  api_offset Framework offset j e = cc
+  api_offset p offset j h1 = grind arith
 
   by_name : (c : ClassName) (k : ClassShape) → class_at world c ≡ Some k → (token offset j : ℕ) (r : ClassRecord)
       → k.body ≡ Class r → slice_get r.public_methods.methods (token - r.public_methods.base) ≡ Some offset
@@ -278,10 +238,7 @@ module _ (world : List Shape) (bound : Bound) (clear : HasNoClash bound)
       subst (λ (i : ℕ). IsAt token i) same
       (in_record b (is_interface b) token offset r (sym (ap (λ (x : ClassShape). x.body) is) ∙ body) e other)
   by_name (classes.Loaded zero o) k there token offset j r body e other name = absurd cc
-  by_name (classes.Loaded (suc n) o) k there token offset j r body e other name =
-      let far = ap (λ b. cond b (Api offset) (Loaded (suc (suc n) - 1) offset))
-      (le-ltb (suc (suc n)) 2 (omega arith)) in
-      let is = sym far ∙ name in absurd cc
+  by_name (classes.Loaded (suc n) o) k there token offset j r body e other name = grind (arith, le-ltb)
 
   walk_finds : (token j : ℕ) → nat_lt token package_visible ≡ true → (steps : ℕ) (c : ClassName)
       → walk (virtual_visit world 0 token) world steps c ≡ Some (Api j) → IsAt token j
@@ -339,8 +296,7 @@ module _ (world : List Shape) (bound : Bound) (clear : HasNoClash bound)
         let k = (walk_finds its.token j.0 (lt-ltb its.token 128 its.small) most_classes c
         (finds ∙ ap Some j.1)).declared in
         let same = the_some d _ (sym there ∙ ap (method_at world) j.1 ∙ its_method j.0 k.member k.number) in
-        let classes_same : classes.Api a.class ≡ classes.Api k.member.class
-        = sym a.is ∙ ap (λ (y : DeclaredMethod). y.class) same in
+        let classes_same : classes.Api a.class ≡ classes.Api k.member.class = grind arith in
         let class_is : a.class ≡ k.member.class = cc in
         j.1 ∙ ap Api (only_one bound clear n j.0 its.token x k.member is virtual k.number k.virtual
         (subst (λ (y : ApiClass). is_at_or_above y x.class ≡ true) class_is a.above) k.its_token its.its)
@@ -349,9 +305,7 @@ module _ (world : List Shape) (bound : Bound) (clear : HasNoClash bound)
     has_virtual = record {
       token = its.token;
       public = its.small;
-      listed = ap (λ (b : Bool). position (λ i. i == n) (public_entries (cond b (Interface
-          (record { superinterfaces = [] })) (Class (class_record bound x.class))))) (no_interface n x is) ∙ its.placed;
-      found = looks.virtual_methods (classes.Api x.class) its.token 0 (api_low (package_of x.class))
-          ∙ found_there bound clear n x is virtual its.token its.there its.small;
+      listed = grind (arith, class_record, no_interface);
+      found = grind (arith, api_low, found_there);
       only = only;
     }

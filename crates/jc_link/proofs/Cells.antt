@@ -22,11 +22,7 @@ step world n m c e = ap (λ i. cells_above world i c) e
 
 pub ends : (world : List Shape) (counter cells total : ℕ) (c : ClassName) → counter < 17_085 → cells + cells_above world (most_classes - counter) c ≡ total
     → superclass_of world c ≡ None → cells ≡ total
-ends world counter cells total c h so_far e =
-    let one : most_classes - counter ≡ suc (most_classes - (counter + 1)) = omega (arith, most_is) in
-    let s = step world (most_classes - counter) (most_classes - (counter + 1)) c one in
-    let z : cells_above world (most_classes - counter) c ≡ 0 = s ∙ ap (λ o. option_map_or (λ d. size_in world d + cells_above world (most_classes - (counter + 1)) d) o 0) e in
-    omega (arith, z, so_far)
+ends world counter cells total c h so_far e = grind (arith, most_is, step)
 
 pub goes_on : (world : List Shape) (counter cells total size : ℕ) (c d : ClassName) → counter < 17_085 → cells + cells_above world (most_classes - counter) c ≡ total
     → superclass_of world c ≡ Some d → size ≡ option_map_or (λ k. declared_size k.body) (class_at world d) 0

@@ -19,9 +19,7 @@ module _ (p : ℕ → Bool) (total : Option ℕ) (count i : ℕ) (so_far : total
   passed h e = front h ∙ ap (λ b. cond b (Some i) (find p (range_with_len (i + 1) (count - (i + 1))))) e
 
   pub none : count ≤ i → None ≡ total
-  none h =
-      let all : count - i ≡ 0 = omega arith in
-      sym (so_far ∙ ap (λ n. find p (range_with_len i n)) all)
+  none h = grind arith
 
 -- ---- the first place of a list
 
@@ -38,6 +36,4 @@ from_is p q (x ∷ xs) i h =
 -- the first number of a place at which an item passes
 pub first_place : {A : Type 0} (p : A → Bool) (xs : List A) (count : ℕ) → count ≡ length xs
     → find (λ i. option_map_or p (slice_get xs i) false) (range_with_len 0 count) ≡ position p xs
-first_place p xs count e =
-    ap (λ n. find (λ i. option_map_or p (slice_get xs i) false) (range_with_len 0 n)) e
-    ∙ sym (position_from-zero p xs ∙ from_is p (λ i. option_map_or p (slice_get xs i) false) xs 0 (λ k. let z : 0 + k ≡ k = omega arith in ap (λ i. option_map_or p (slice_get xs i) false) (sym z)))
+first_place p xs count e = grind (arith, position_from-zero, from_is)

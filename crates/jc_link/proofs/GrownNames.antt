@@ -1,8 +1,7 @@
 -- A package behind the others changes no type and no name of those before it.
-use Rattle.std.proofs.Common.{◌≡◌, ℕ, zero, suc, ◌+◌, ◌<◌, false, not, cond, List, [], ◌∷◌, length, take, Option, Some, None, refl, ap, subst, ◌∙◌, arith, slice_get}
+use Rattle.std.proofs.Common.{◌≡◌, ℕ, zero, suc, ◌+◌, ◌<◌, false, not, cond, List, length, Option, Some, None, refl, ap, subst, ◌∙◌, arith, slice_get}
 use Rattle.std.proofs.Math.Path.{fun_ext}
 use Rattle.std.proofs.lemmas.List.{take-append-le}
-use Rattle.std.specs.List.{position}
 use Rattle.std.specs.Option.{option_and_then, option_map, option_map_or}
 use Rattle.jc_base.specs.Signature.{Signature}
 use Rattle.jc_base.specs.declared.class_ref.ClassRef.{ClassRef}
@@ -12,17 +11,14 @@ use Rattle.jc_cap_desc.specs.Shape.{ClassShape, FieldShape, Shape}
 use Rattle.jc_cap.specs.declared.entry.PoolEntry.{PoolEntry}
 use Rattle.jc_cap.specs.declared.entry.PoolEntry.TheVariants.{Classref, InstanceFieldref, VirtualMethodref, SuperMethodref, StaticFieldref, StaticMethodref}
 use Rattle.jc_cap.specs.declared.entry.StaticRef.{StaticRef}
-use Rattle.jc_cap.specs.declared.entry.StaticRef.TheVariants.{Internal, External}
 use Rattle.jc_api.specs.declared.class.ApiClass.TheVariants.{Object}
 use Rattle.jc_classes.specs.Growth.{grown, IsMethodWithin, IsWithin, KeepsLookups}
-use Rattle.jc_names.specs.Names.{method_home, method_offset}
-use Rattle.jc_classes.specs.Members.{DeclaredMethod, declared_in, method_at}
+use Rattle.jc_classes.specs.Members.{DeclaredMethod, method_at}
 use Rattle.jc_classes.specs.Methods.{method_name, virtual_method_of}
 use Rattle.jc_classes.specs.Record.{declared_size}
 use Rattle.jc_classes.specs.Subtype.{is_class_at, is_interface_at}
-use Rattle.jc_classes.specs.Walk.{most_classes}
 use Rattle.jc_names.specs.Names.{home_of}
-use Rattle.jc_classes.specs.World.{class_at, meets, import_of, class_named, superclass_of}
+use Rattle.jc_classes.specs.World.{class_at, import_of, class_named, superclass_of}
 use Rattle.jc_names.specs.declared.name.ClassName.{ClassName}
 use Rattle.jc_names.specs.declared.name.ClassName.TheVariants.{Api}
 use Rattle.jc_names.specs.declared.name.MethodName.{MethodName}
@@ -30,9 +26,9 @@ use Rattle.jc_link.proofs.GrownParts.{the_some, some_of, mapped, chosen_of, then
 use Rattle.jc_link.proofs.GrownWithin.{import_before, named_within, superclass_within, method_name_within, declared_within, virtual_within}
 use Rattle.jc_link.specs.Found.{type_found, signature_found}
 use Rattle.jc_link.specs.Growth.{HasApi}
-use Rattle.jc_link.specs.MemberType.{as_member, counted, type_class, member_type_of, field_type_of, declared_type_of, method_type_of}
+use Rattle.jc_link.specs.MemberType.{counted, type_class, member_type_of, field_type_of, declared_type_of, method_type_of}
 use Rattle.jc_link.specs.Named.{instance_field_in, instance_field_at, static_field_in, static_field_at, cells_above, exported_place, static_place, is_abstract_method, is_concrete, if_passes, named_field, named_virtual, method_above, named_above, named_static_field, named_static_method, named_by}
-use Rattle.jc_link.specs.Target.{instance_type_of, static_type_of, named_type_of, cell_of, target_of_declared, target_of, pool_target_of}
+use Rattle.jc_link.specs.Target.{instance_type_of, static_type_of, named_type_of, target_of, pool_target_of}
 use Rattle.jc_link.specs.declared.named.Named.{Named}
 use Rattle.jc_link.specs.declared.named.Named.TheVariants as Names
 use Rattle.jc_link.specs.declared.named.StaticPlace.{StaticPlace}
@@ -63,9 +59,7 @@ module _ (world : List Shape) (more : Shape) (keeps : KeepsLookups world more) w
   counted_stays c h = ap (λ b. cond b (Api Object) c) (is_interface_stays c h)
 
   type_class_stays : (home : ℕ) (ref : ClassRef) → home < length world → type_class (grown world more) home ref ≡ type_class world home ref
-  type_class_stays home ref h =
-      ap (option_map (counted (grown world more))) (keeps.references home ref h)
-      ∙ map_same (counted (grown world more)) (counted world) (class_named world home ref) (λ c e. counted_stays c (named_within world home ref c h e))
+  type_class_stays home ref h = grind (arith, map_same, counted_stays, named_within)
 
   pub member_type_stays : (home : ℕ) (s : Signature ClassRef) → home < length world → member_type_of (grown world more) home s ≡ member_type_of world home s
   member_type_stays home s h = ap (λ (find : ClassRef → Option ClassName). signature_found find s) (fun_ext (λ ref. type_class_stays home ref h))
@@ -77,14 +71,10 @@ module _ (world : List Shape) (more : Shape) (keeps : KeepsLookups world more) w
   declared_type_stays d h = member_type_stays (home_of d.class) d.method.signature h
 
   pub method_stays : (m : MethodName) → IsMethodWithin world m → method_at (grown world more) m ≡ method_at world m
-  method_stays m h =
-      then_same (λ home. option_and_then (declared_in home (method_offset m)) (slice_get (grown world more) home)) (λ home. option_and_then (declared_in home (method_offset m)) (slice_get world home)) (method_home m)
-      (λ home e. ap (option_and_then (declared_in home (method_offset m))) (packages_stay home (h home e)))
+  method_stays m h = grind (arith, then_same, packages_stay)
 
   pub method_type_stays : (m : MethodName) → IsMethodWithin world m → method_type_of (grown world more) m ≡ method_type_of world m
-  method_type_stays m h =
-      ap (option_and_then (declared_type_of (grown world more))) (method_stays m h)
-      ∙ then_same (declared_type_of (grown world more)) (declared_type_of world) (method_at world m) (λ d e. declared_type_stays d (declared_within world m d h e))
+  method_type_stays m h = grind (arith, method_stays, then_same, declared_type_stays, declared_within)
 
   -- ---- fields and static places
 
@@ -101,34 +91,22 @@ module _ (world : List Shape) (more : Shape) (keeps : KeepsLookups world more) w
       ∙ or_same (λ d. option_map_or (λ k. declared_size k.body) (class_at (grown world more) d) 0 + cells_above (grown world more) n d)
       (λ d. option_map_or (λ k. declared_size k.body) (class_at world d) 0 + cells_above world n d) 0 (superclass_of world c)
       (λ d e. let w = superclass_within world c d h e in
-      ap (λ (o : Option ClassShape). option_map_or (λ k. declared_size k.body) o 0 + cells_above (grown world more) n d) (keeps.classes d w)
-      ∙ ap (λ i. option_map_or (λ k. declared_size k.body) (class_at world d) 0 + i) (cells_stay n d w))
+      grind (arith, keeps.classes d w, (cells_stay n d w)))
 
   pub import_stays : (home token : ℕ) → home < length world → import_of (grown world more) home token ≡ import_of world home token
-  import_stays home token h =
-      ap (λ (before : List Shape). option_and_then (λ wanted. position (meets wanted) before) (option_and_then (λ shape. slice_get shape.imports token) (slice_get (grown world more) home))) (take-append-le home world (more ∷ []) (omega arith))
-      ∙ ap (λ (o : Option Shape). option_and_then (λ wanted. position (meets wanted) (take home world)) (option_and_then (λ shape. slice_get shape.imports token) o)) (packages_stay home h)
+  import_stays home token h = grind (arith, take-append-le, packages_stay)
 
   exported_stays : (tokens : ExportedClass → List ℕ) (there class token : ℕ) → there < length world → exported_place tokens (grown world more) there class token ≡ exported_place tokens world there class token
-  exported_stays tokens there class token h =
-      ap (λ (o : Option Shape). option_map (λ offset. record { home = there; offset = offset })
-      (option_and_then (λ row. slice_get (tokens row) token) (option_and_then (λ shape. slice_get shape.exports class) o))) (packages_stay there h)
+  exported_stays tokens there class token h = grind (arith, packages_stay)
 
   static_place_stays : (tokens : ExportedClass → List ℕ) (home : ℕ) (s : StaticRef) → home < length world → static_place tokens (grown world more) home s ≡ static_place tokens world home s
-  static_place_stays tokens home (Internal offset) h = refl
-  static_place_stays tokens home (External import class token) h =
-      ap (option_and_then (λ there. exported_place tokens (grown world more) there class token)) (import_stays home import h)
-      ∙ then_same (λ there. exported_place tokens (grown world more) there class token) (λ there. exported_place tokens world there class token) (import_of world home import)
-      (λ there e. let k = import_before world home import there (omega arith) e in exported_stays tokens there class token (omega arith))
+  static_place_stays tokens home s h1 = grind (arith, import_stays, then_same, import_before, exported_stays)
 
   pub concrete_stays : (m : MethodName) → IsMethodWithin world m → is_concrete (grown world more) m ≡ is_concrete world m
   concrete_stays m h = ap (λ (o : Option DeclaredMethod). option_map_or (λ d. not (is_abstract_method d.method)) o false) (method_stays m h)
 
   pub above_stays : (home token : ℕ) (c : ClassName) → IsWithin world c → method_above (grown world more) home token c ≡ method_above world home token c
-  above_stays home token c h =
-      ap (option_and_then (λ d. virtual_method_of (grown world more) d token home)) (keeps.superclasses c h)
-      ∙ then_same (λ d. virtual_method_of (grown world more) d token home) (λ d. virtual_method_of world d token home) (superclass_of world c)
-      (λ d e. keeps.virtual_methods d token home (superclass_within world c d h e))
+  above_stays home token c h = grind (arith, then_same, superclass_within)
 
   -- ---- what an entry names
 
@@ -144,9 +122,7 @@ module _ (world : List Shape) (more : Shape) (keeps : KeepsLookups world more) w
   named_field_stays token c h = ap (option_map (λ (f : FieldShape). Names.InstanceField c token)) (instance_field_stays c token h)
 
   named_virtual_stays : (home token : ℕ) (c : ClassName) → IsWithin world c → named_virtual (grown world more) home token c ≡ named_virtual world home token c
-  named_virtual_stays home token c h =
-      ap (λ b. cond b (option_map (Names.VirtualMethod c token) (virtual_method_of (grown world more) c token home)) None) (is_class_stays c h)
-      ∙ ap (λ (o : Option MethodName). cond (is_class_at world c) (option_map (Names.VirtualMethod c token) o) None) (keeps.virtual_methods c token home h)
+  named_virtual_stays home token c h = grind (arith, is_class_stays)
 
   named_above_stays : (home token : ℕ) (c : ClassName) → HasApi world → IsWithin world c → named_above (grown world more) home token c ≡ named_above world home token c
   named_above_stays home token c api h =
@@ -160,32 +136,18 @@ module _ (world : List Shape) (more : Shape) (keeps : KeepsLookups world more) w
   named_static_field_stays place h = ap (option_map (λ (f : FieldShape). Names.StaticField place)) (static_field_stays place h)
 
   named_static_method_stays : (place : StaticPlace) → HasApi world → place.home < length world → named_static_method (grown world more) place ≡ named_static_method world place
-  named_static_method_stays place api h =
-      ap (option_map Names.StaticMethod) (passing_stays (method_name place.home place.offset) (method_name_within world place.home place.offset api h))
+  named_static_method_stays place api h = grind (arith, passing_stays, method_name_within)
 
   place_within : (tokens : ExportedClass → List ℕ) (home : ℕ) (s : StaticRef) (place : StaticPlace) → home < length world → static_place tokens world home s ≡ Some place → place.home < length world
-  place_within tokens home (Internal offset) place h e = let same : home ≡ place.home = ap (λ (p : StaticPlace). p.home) (the_some _ _ e) in omega arith
-  place_within tokens home (External import class token) place h e =
-      let a = some_of (λ there. exported_place tokens world there class token) (import_of world home import) place e in
-      let b = mapped (λ offset. record { home = a.0; offset = offset }) (option_and_then (λ row. slice_get (tokens row) token) (option_and_then (λ shape. slice_get shape.exports class) (slice_get world a.0))) place a.2 in
-      let same : a.0 ≡ place.home = ap (λ (p : StaticPlace). p.home) b.2 in
-      let k = import_before world home import a.0 (omega arith) a.1 in
-      omega arith
+  place_within tokens home s place h1 h2 = grind (arith, the_some, some_of, mapped, import_before)
 
   pub names_stay : (home : ℕ) (entry : PoolEntry) → HasApi world → home < length world → named_by (grown world more) home entry ≡ named_by world home entry
   names_stay home (Classref ref) api h = ap (option_map Names.Class) (keeps.references home ref h)
-  names_stay home (InstanceFieldref m) api h =
-      ap (option_and_then (named_field (grown world more) m.token)) (keeps.references home m.class h)
-      ∙ then_same (named_field (grown world more) m.token) (named_field world m.token) (class_named world home m.class) (λ c e. named_field_stays m.token c (named_within world home m.class c h e))
-  names_stay home (VirtualMethodref m) api h =
-      ap (option_and_then (named_virtual (grown world more) home m.token)) (keeps.references home m.class h)
-      ∙ then_same (named_virtual (grown world more) home m.token) (named_virtual world home m.token) (class_named world home m.class) (λ c e. named_virtual_stays home m.token c (named_within world home m.class c h e))
-  names_stay home (SuperMethodref m) api h =
-      ap (option_and_then (named_above (grown world more) home m.token)) (keeps.references home m.class h)
-      ∙ then_same (named_above (grown world more) home m.token) (named_above world home m.token) (class_named world home m.class) (λ c e. named_above_stays home m.token c api (named_within world home m.class c h e))
+  names_stay home (InstanceFieldref m) api h = grind (arith, then_same, named_field_stays, named_within)
+  names_stay home (VirtualMethodref m) api h = grind (arith, then_same, named_virtual_stays, named_within)
+  names_stay home (SuperMethodref m) api h = grind (arith, then_same, named_above_stays, named_within)
   names_stay home (StaticFieldref s) api h =
-      ap (option_and_then (named_static_field (grown world more))) (static_place_stays (λ row. row.fields) home s h)
-      ∙ then_same (named_static_field (grown world more)) (named_static_field world) (static_place (λ row. row.fields) world home s) (λ p e. named_static_field_stays p (place_within (λ row. row.fields) home s p h e))
+      grind (arith, static_place_stays, then_same, named_static_field_stays, place_within)
   names_stay home (StaticMethodref s) api h =
       ap (option_and_then (named_static_method (grown world more))) (static_place_stays (λ row. row.methods) home s h)
       ∙ then_same (named_static_method (grown world more)) (named_static_method world) (static_place (λ row. row.methods) world home s) (λ p e. named_static_method_stays p api (place_within (λ row. row.methods) home s p h e))
@@ -193,9 +155,7 @@ module _ (world : List Shape) (more : Shape) (keeps : KeepsLookups world more) w
   -- ---- what is named is within
 
   pub named_there : (home : ℕ) (entry : PoolEntry) (n : Named) → HasApi world → home < length world → named_by world home entry ≡ Some n → IsNamedWithin world n
-  named_there home (Classref ref) n api h e =
-      let a = mapped Names.Class (class_named world home ref) n e in
-      subst (IsNamedWithin world) a.2 (named_within world home ref a.0 h a.1)
+  named_there home (Classref ref) n api h e = grind (arith, mapped, named_within)
   named_there home (InstanceFieldref m) n api h e =
       let a = some_of (named_field world m.token) (class_named world home m.class) n e in
       let b = mapped (λ (f : FieldShape). Names.InstanceField a.0 m.token) (instance_field_at world a.0 m.token) n a.2 in
@@ -211,10 +171,7 @@ module _ (world : List Shape) (more : Shape) (keeps : KeepsLookups world more) w
       let p = some_of (if_passes (is_concrete world)) (method_above world home m.token a.0) b.0 b.1 in
       let same : p.0 ≡ b.0 = the_some _ _ (chosen_of (is_concrete world p.0) (Some p.0) b.0 p.2) in
       subst (IsNamedWithin world) b.2 (subst (IsMethodWithin world) same (above_within home m.token a.0 p.0 api (named_within world home m.class a.0 h a.1) p.1))
-  named_there home (StaticFieldref s) n api h e =
-      let a = some_of (named_static_field world) (static_place (λ row. row.fields) world home s) n e in
-      let b = mapped (λ (f : FieldShape). Names.StaticField a.0) (static_field_at world a.0) n a.2 in
-      subst (IsNamedWithin world) b.2 (place_within (λ row. row.fields) home s a.0 h a.1)
+  named_there home (StaticFieldref s) n api h e = grind (arith, some_of, mapped, place_within)
   named_there home (StaticMethodref s) n api h e =
       let a = some_of (named_static_method world) (static_place (λ row. row.methods) world home s) n e in
       let name : MethodName = method_name (a.0).home (a.0).offset in
@@ -227,38 +184,22 @@ module _ (world : List Shape) (more : Shape) (keeps : KeepsLookups world more) w
 
   pub instance_type_stays : (c : ClassName) (token : ℕ) → IsWithin world c
       → instance_type_of (grown world more) c token ≡ instance_type_of world c token
-  instance_type_stays c token h =
-      ap (option_and_then (field_type_of (grown world more) (home_of c))) (instance_field_stays c token h)
-      ∙ then_same (field_type_of (grown world more) (home_of c)) (field_type_of world (home_of c)) (instance_field_at world c token) (λ f e. field_type_stays (home_of c) f h)
+  instance_type_stays c token h = grind (arith, instance_field_stays, then_same, field_type_stays)
 
   pub static_type_stays : (place : StaticPlace) → place.home < length world
       → static_type_of (grown world more) place ≡ static_type_of world place
-  static_type_stays place h =
-      ap (option_and_then (field_type_of (grown world more) place.home)) (static_field_stays place h)
-      ∙ then_same (field_type_of (grown world more) place.home) (field_type_of world place.home) (static_field_at world place) (λ f e. field_type_stays place.home f h)
+  static_type_stays place h = grind (arith, static_field_stays, then_same, field_type_stays)
 
   pub named_type_stays : (n : Named) → IsNamedWithin world n → named_type_of (grown world more) n ≡ named_type_of world n
-  named_type_stays (Names.Class c) h = refl
-  named_type_stays (Names.InstanceField c token) h = ap (option_map as_member) (instance_type_stays c token h)
-  named_type_stays (Names.StaticField place) h = ap (option_map as_member) (static_type_stays place h)
-  named_type_stays (Names.VirtualMethod c token m) h = method_type_stays m h
-  named_type_stays (Names.SuperMethod c m) h = method_type_stays m h
-  named_type_stays (Names.StaticMethod m) h = method_type_stays m h
+  named_type_stays n h1 = grind (arith, instance_type_stays, static_type_stays, method_type_stays)
 
   target_stays : (n : Named) → IsNamedWithin world n → target_of (grown world more) n ≡ target_of world n
   target_stays (Names.Class c) h = refl
-  target_stays (Names.InstanceField c token) h =
-      ap (λ (cells : ℕ). option_map (To.InstanceField c (cells + token)) (instance_type_of (grown world more) c token)) (cells_stay most_classes c h)
-      ∙ ap (option_map (To.InstanceField c (cell_of world c token))) (instance_type_stays c token h)
+  target_stays (Names.InstanceField c token) h = grind (arith, cells_stay, instance_type_stays)
   target_stays (Names.StaticField place) h = ap (option_map (To.StaticField place)) (static_type_stays place h)
   target_stays (Names.VirtualMethod c token m) h = ap (option_map (To.VirtualMethod c token)) (method_type_stays m h)
   target_stays (Names.SuperMethod c m) h = ap (option_map (To.SuperMethod c m)) (method_type_stays m h)
-  target_stays (Names.StaticMethod m) h =
-      ap (option_and_then (target_of_declared (grown world more) m)) (method_stays m h)
-      ∙ then_same (target_of_declared (grown world more) m) (target_of_declared world m) (method_at world m)
-      (λ d e. ap (option_map (To.StaticMethod d.class m d.method.is_static)) (declared_type_stays d (declared_within world m d h e)))
+  target_stays (Names.StaticMethod m) h = grind (arith, method_stays, then_same, declared_type_stays, declared_within)
 
   pub targets_stay : (home : ℕ) (entry : PoolEntry) → HasApi world → home < length world → pool_target_of (grown world more) home entry ≡ pool_target_of world home entry
-  targets_stay home entry api h =
-      ap (option_and_then (target_of (grown world more))) (names_stay home entry api h)
-      ∙ then_same (target_of (grown world more)) (target_of world) (named_by world home entry) (λ n e. target_stays n (named_there home entry n api h e))
+  targets_stay home entry api h = grind (arith, names_stay, then_same, target_stays, named_there)

@@ -1,8 +1,8 @@
 -- Options of which what is there gives the same, and lists with one element more.
-use Rattle.std.proofs.Common.{◌≡◌, ℕ, zero, suc, ◌<◌, ◌||◌, Bool, true, false, cond, List, [], ◌∷◌, ◌++◌, length, Option, Some, None, refl, ap, ◌∙◌, arith, nat_lt, slice_get}
+use Rattle.std.proofs.Common.{◌≡◌, ℕ, zero, suc, ◌<◌, ◌||◌, Bool, true, cond, List, [], ◌∷◌, ◌++◌, length, Option, Some, None, refl, ap, ◌∙◌, arith, slice_get}
 use Rattle.std.proofs.Math.Path.{fun_ext}
 use Rattle.std.proofs.lemmas.Bool.{ltb-true}
-use Rattle.std.specs.List.{find, list_any, position, position_or_len}
+use Rattle.std.specs.List.{find, list_any, position}
 use Rattle.std.specs.Option.{option_and_then, option_map, option_map_or}
 
 pub the_some : {A : Type 0} (x y : A) → Some x ≡ Some y → x ≡ y
@@ -14,41 +14,30 @@ none_some y h = cc
 -- ---- what an option came from
 
 pub some_of : {A B : Type 0} (f : A → Option B) (o : Option A) (b : B) → option_and_then f o ≡ Some b → (a : A) × (o ≡ Some a) × (f a ≡ Some b)
-some_of f None b e = absurd (none_some b e)
-some_of f (Some a) b e = (a, refl, e)
+some_of f o b h1 = grind (arith, none_some)
 
 pub mapped : {A B : Type 0} (f : A → B) (o : Option A) (b : B) → option_map f o ≡ Some b → (a : A) × (o ≡ Some a) × (f a ≡ b)
-mapped f None b e = absurd (none_some b e)
-mapped f (Some a) b e = (a, refl, the_some _ _ e)
+mapped f o b h1 = grind (arith, none_some, the_some)
 
 pub chosen_of : {A : Type 0} (b : Bool) (o : Option A) (a : A) → cond b o None ≡ Some a → o ≡ Some a
-chosen_of true o a e = e
-chosen_of false o a e = absurd (none_some a e)
+chosen_of b o a h1 = grind (arith, none_some)
 
 pub chosen_true : {A : Type 0} (b : Bool) (o : Option A) (a : A) → cond b o None ≡ Some a → b ≡ true
-chosen_true true o a e = refl
-chosen_true false o a e = absurd (none_some a e)
+chosen_true b o a h1 = grind (arith, none_some)
 
 pub position_below : {A : Type 0} (p : A → Bool) (xs : List A) (i : ℕ) → position p xs ≡ Some i → i < length xs
-position_below p xs i e = by_place (nat_lt (position_or_len p xs) (length xs)) (ltb-true (position_or_len p xs) (length xs)) e
-  where
-    by_place : (b : Bool) → (b ≡ true → position_or_len p xs < length xs) → cond b (Some (position_or_len p xs)) None ≡ Some i → i < length xs
-    by_place true h e = let k = the_some _ _ e in let l = h refl in omega arith
-    by_place false h e = absurd (none_some i e)
+position_below p xs i e = grind (arith, ltb-true, the_some, none_some)
 
 -- ---- the same of what is there
 
 pub then_same : {A B : Type 0} (f g : A → Option B) (o : Option A) → ((a : A) → o ≡ Some a → f a ≡ g a) → option_and_then f o ≡ option_and_then g o
-then_same f g None h = refl
-then_same f g (Some a) h = h a refl
+then_same f g o h1 = grind arith
 
 pub map_same : {A B : Type 0} (f g : A → B) (o : Option A) → ((a : A) → o ≡ Some a → f a ≡ g a) → option_map f o ≡ option_map g o
-map_same f g None h = refl
-map_same f g (Some a) h = ap Some (h a refl)
+map_same f g o h1 = grind arith
 
 pub or_same : {A B : Type 0} (f g : A → B) (d : B) (o : Option A) → ((a : A) → o ≡ Some a → f a ≡ g a) → option_map_or f o d ≡ option_map_or g o d
-or_same f g d None h = refl
-or_same f g d (Some a) h = h a refl
+or_same f g d o h1 = grind arith
 
 pub any_same : {A : Type 0} (f g : A → Bool) → ((a : A) → f a ≡ g a) → (xs : List A) → list_any f xs ≡ list_any g xs
 any_same f g h xs = ap (λ p. list_any p xs) (fun_ext h)

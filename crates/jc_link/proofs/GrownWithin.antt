@@ -1,28 +1,26 @@
 -- What is found from a package of a world stands in a package of that world.
-use Rattle.std.proofs.Common.{◌≡◌, ℕ, zero, suc, ◌+◌, ◌-◌, ◌==◌, ◌<◌, ◌≤◌, Bool, true, false, cond, ◌||◌, List, length, take, Option, Some, None, refl, sym, ap, subst, ◌∙◌, arith, nat_lt, is_some, slice_get}
-use Rattle.std.specs.List.{find, position}
-use Rattle.std.specs.Option.{option_and_then, option_map, option_map_or}
+use Rattle.std.proofs.Common.{◌≡◌, ℕ, zero, suc, ◌+◌, ◌-◌, ◌==◌, ◌<◌, ◌≤◌, Bool, true, false, cond, List, length, Option, Some, None, ap, subst, arith, nat_lt, is_some, slice_get}
+use Rattle.std.specs.List.{find}
+use Rattle.std.specs.Option.{option_and_then, option_map}
 use Rattle.std.proofs.lemmas.List.{length-take-le}
 use Rattle.std.proofs.lemmas.Bool.{eqb-true, ltb-false}
 use Rattle.jc_base.specs.declared.class_ref.ClassRef.{ClassRef}
 use Rattle.jc_base.specs.declared.class_ref.ClassRef.TheVariants.{Internal, External}
 use Rattle.jc_cap.specs.declared.record.ClassRecord.{ClassRecord}
 use Rattle.jc_cap.specs.declared.record.RecordBody.{RecordBody}
-use Rattle.jc_cap.specs.declared.record.RecordBody.TheVariants.{Interface, Class}
+use Rattle.jc_cap.specs.declared.record.RecordBody.TheVariants.{Class}
 use Rattle.jc_cap.specs.declared.record.VirtualTable.{VirtualTable}
 use Rattle.jc_cap_desc.specs.Shape.{ClassShape, MethodShape, Shape}
 use Rattle.jc_api.specs.Class.{class_of, package_of}
-use Rattle.jc_api.specs.Member.{member_of}
 use Rattle.jc_api.specs.declared.class.ApiClass.{ApiClass}
 use Rattle.jc_api.specs.declared.class.ApiPackage.{ApiPackage}
-use Rattle.jc_api.specs.declared.class.ApiPackage.TheVariants.{Lang, Framework}
 use Rattle.jc_classes.specs.Growth.{IsMethodWithin, IsWithin}
-use Rattle.jc_names.specs.Names.{method_home, method_offset}
+use Rattle.jc_names.specs.Names.{method_home}
 use Rattle.jc_classes.specs.Members.{DeclaredMethod, name_of, declared_in, method_at}
-use Rattle.jc_classes.specs.Methods.{method_of_class, has_method, method_name, entry_visit, table_visit, record_visit, virtual_method_of, virtual_visit, package_visible, declared_above}
+use Rattle.jc_classes.specs.Methods.{method_of_class, method_name, entry_visit, table_visit, record_visit, virtual_method_of, virtual_visit, package_visible, declared_above}
 use Rattle.jc_classes.specs.Walk.{found_from, walk, most_classes}
 use Rattle.jc_names.specs.Names.{api_home, api_name, home_of, name_in}
-use Rattle.jc_classes.specs.World.{class_at, meets, import_of, exported_class, class_spelled, if_there, class_named, superclass_ref, superclass_of}
+use Rattle.jc_classes.specs.World.{class_at, import_of, exported_class, class_spelled, if_there, class_named, superclass_of}
 use Rattle.jc_names.specs.declared.name.ClassName.{ClassName}
 use Rattle.jc_names.specs.declared.name.ClassName.TheVariants.{Api, Loaded}
 use Rattle.jc_names.specs.declared.name.MethodName.{MethodName}
@@ -38,25 +36,17 @@ api_name_home home number c e =
     by_home (api_home (package_of a.0) == home) a.0 a.2 (eqb-true (api_home (package_of a.0)) home)
   where
     by_home : (b : Bool) (class : ApiClass) → cond b (Some (Api class)) None ≡ Some c → (b ≡ true → api_home (package_of class) ≡ home) → home_of c ≡ home
-    by_home true class e h = sym (ap home_of (the_some _ _ e)) ∙ h refl
-    by_home false class e h = absurd (none_some c e)
+    by_home b class h1 h2 = grind (arith, the_some, none_some)
 
 name_home : (home offset : ℕ) (c : ClassName) → name_in home offset ≡ Some c → home_of c ≡ home
-name_home home offset c e = by_home (nat_lt home 2) (ltb-false home 2) e
-  where
-    by_home : (b : Bool) → (b ≡ false → 2 ≤ home) → cond b (api_name home offset) (Some (Loaded (home - 1) offset)) ≡ Some c → home_of c ≡ home
-    by_home true h e = api_name_home home offset c e
-    by_home false h e = let l = h refl in sym (ap home_of (the_some _ _ e)) ∙ omega arith
+name_home home offset c e = grind (arith, ltb-false, api_name_home, the_some)
 
 -- a class's name is of the package that it was made for
 pub class_home : (home : ℕ) (k : ClassShape) (c : ClassName) → name_of home k ≡ Some c → home_of c ≡ home
 class_home home k c e = name_home home k.offset c (chosen_of (nat_lt k.offset 0x10000) (name_in home k.offset) c e)
 
 pub import_before : (world : List Shape) (home token there : ℕ) → home ≤ length world → import_of world home token ≡ Some there → there < home
-import_before world home token there h e =
-    let a = some_of (λ wanted. position (meets wanted) (take home world)) (option_and_then (λ shape. slice_get shape.imports token) (slice_get world home)) there e in
-    let b = position_below (meets a.0) (take home world) there a.2 in
-    omega (arith, b, length-take-le home world h)
+import_before world home token there h e = grind (arith, some_of, position_below, length-take-le)
 
 spelled_home : (world : List Shape) (home : ℕ) (ref : ClassRef) (c : ClassName) → home ≤ length world → class_spelled world home ref ≡ Some c → home_of c ≤ home
 spelled_home world home (Internal offset) c h e = let k = name_home home offset c e in omega arith
@@ -78,38 +68,22 @@ named_within world home ref c h e =
     omega arith
 
 pub superclass_within : (world : List Shape) (c d : ClassName) → IsWithin world c → superclass_of world c ≡ Some d → IsWithin world d
-superclass_within world c d h e =
-    let a = some_of (class_named world (home_of c)) (option_and_then (λ k. superclass_ref k.body) (class_at world c)) d e in
-    named_within world (home_of c) a.0 d h a.2
+superclass_within world c d h e = grind (arith, some_of, named_within)
 
 -- ---- methods
 
 api_home_small : (p : ApiPackage) → api_home p < 2
-api_home_small Lang = omega arith
-api_home_small Framework = omega arith
+api_home_small p = grind arith
 
 loaded_home : (number offset home : ℕ) → 1 ≤ number → method_home (Method.Loaded number offset) ≡ Some home → number + 1 ≡ home
-loaded_home zero offset home h e = absurd (omega arith)
-loaded_home (suc n) offset home h e = let same : suc (suc n) ≡ home = the_some _ _ e in omega arith
+loaded_home number offset home h1 h2 = grind (arith, the_some)
 
 pub method_name_within : (world : List Shape) (home offset : ℕ) → HasApi world → home < length world → IsMethodWithin world (method_name home offset)
-method_name_within world home offset api h = by_home (nat_lt home 2) (ltb-false home 2)
-  where
-    by_home : (b : Bool) → (b ≡ false → 2 ≤ home) → IsMethodWithin world (cond b (Method.Api offset) (Method.Loaded (home - 1) offset))
-    by_home true l there e =
-        let a = mapped (λ m. api_home (package_of m.class)) (member_of offset) there e in
-        let small = api_home_small (package_of (a.0).class) in
-        let same = a.2 in
-        omega arith
-    by_home false l there e =
-        let more = l refl in
-        let same = loaded_home (home - 1) offset there (omega arith) e in
-        omega arith
+method_name_within world home offset api h = grind (arith, ltb-false, mapped, api_home_small, loaded_home)
 
 class_of_declared : (home : ℕ) (c : ClassName) (o : Option MethodShape) (d : DeclaredMethod) → home_of c ≡ home
     → option_map (λ m. record { class = c; method = m }) o ≡ Some d → home_of d.class ≡ home
-class_of_declared home c None d h e = absurd (none_some d e)
-class_of_declared home c (Some m) d h e = sym (ap (λ (d : DeclaredMethod). home_of d.class) (the_some _ _ e)) ∙ h
+class_of_declared home c o d h1 h2 = grind (arith, none_some, the_some)
 
 pub declared_home : (home offset : ℕ) (shape : Shape) (d : DeclaredMethod) → declared_in home offset shape ≡ Some d → home_of d.class ≡ home
 declared_home home offset shape d e =
@@ -119,23 +93,16 @@ declared_home home offset shape d e =
 
 -- where a method's class stands
 pub declared_within : (world : List Shape) (m : MethodName) (d : DeclaredMethod) → IsMethodWithin world m → method_at world m ≡ Some d → IsWithin world d.class
-declared_within world m d h e =
-    let a = some_of (λ home. option_and_then (declared_in home (method_offset m)) (slice_get world home)) (method_home m) d e in
-    let b = some_of (declared_in a.0 (method_offset m)) (slice_get world a.0) d a.2 in
-    let same = declared_home a.0 (method_offset m) b.0 d b.2 in
-    let less = h a.0 a.1 in
-    omega arith
+declared_within world m d h e = grind (arith, some_of, declared_home)
 
 -- ---- walks
 
 -- what holds of the branch that is taken
 pub by_test : {V : Type 0} (Q : V → Type 0) (b : Bool) (x y : V) → (b ≡ true → Q x) → (b ≡ false → Q y) → Q (cond b x y)
-by_test Q true x y h k = h refl
-by_test Q false x y h k = k refl
+by_test Q b x y h1 h2 = grind arith
 
 pub by_other : {V : Type 0} (Q : V → Type 0) (b : Bool) (x y : V) → b ≡ false → Q y → Q (cond b x y)
-by_other Q true x y e k = let f : true ≡ false = e in absurd cc
-by_other Q false x y e k = k
+by_other Q b x y h1 h2 = grind arith
 
 -- what a class's record gives at a token: what is above it, or the method of an entry of one of its tables
 module _ (world : List Shape) (home : ℕ) (above : Option MethodName) (m : MethodName) (R : Type 0)
@@ -146,30 +113,18 @@ module _ (world : List Shape) (home : ℕ) (above : Option MethodName) (m : Meth
 
   at_entry : (methods : List ℕ) (at : ℕ) (o : Option ℕ) → slice_get methods at ≡ o → Own methods at
       → found_from (entry_visit world home o) above ≡ Some m → R
-  at_entry methods at None f own e = absurd (none_some m e)
-  at_entry methods at (Some offset) f own e =
-      by_test (λ v. found_from v above ≡ Some m → R) (offset == declared_above) _ _ (λ h. k)
-      (λ other. by_test (λ v. found_from v above ≡ Some m → R) (option_map_or (has_method offset)
-      (slice_get world home) false) _ _
-      (λ h g. own offset f other (the_some _ _ g)) (λ h g. absurd (none_some m g))) e
+  at_entry methods at o h1 h2 h3 = grind (arith, none_some, by_test, the_some)
 
   at_table : (table : VirtualTable) (token : ℕ) → Own table.methods (token - table.base)
       → found_from (table_visit world home table token) above ≡ Some m → R
-  at_table table token own =
-      by_test (λ v. found_from v above ≡ Some m → R) (nat_lt token table.base || length table.methods == 0) _ _ (λ h. k)
-      (λ h. at_entry table.methods (token - table.base) (slice_get table.methods (token - table.base)) refl own)
+  at_table table token own = grind (arith, by_test, at_entry)
 
   pub at_record : (asker token : ℕ) (body : RecordBody)
       → ((r : ClassRecord) → body ≡ Class r → Own r.public_methods.methods (token - r.public_methods.base))
       → ((r : ClassRecord) → body ≡ Class r → nat_lt token package_visible ≡ false
       → Own r.package_methods.methods (token - package_visible - r.package_methods.base))
       → found_from (record_visit world asker token home body) above ≡ Some m → R
-  at_record asker token (Interface r) own also e = absurd (none_some m e)
-  at_record asker token (Class r) own also e =
-      by_test (λ v. found_from v above ≡ Some m → R) (nat_lt token package_visible) _ _
-      (λ low. at_table r.public_methods token (own r refl))
-      (λ high. by_test (λ v. found_from v above ≡ Some m → R) (home == asker) _ _
-      (λ h. at_table r.package_methods (token - package_visible) (also r refl high)) (λ h. k)) e
+  at_record asker token body h1 h2 h3 = grind (arith, none_some, by_test, at_table)
 
 -- the method that a walk finds is in a package of the world
 walk_within : (world : List Shape) (token asker : ℕ) (m : MethodName) → HasApi world → (steps : ℕ) (c : ClassName) → IsWithin world c

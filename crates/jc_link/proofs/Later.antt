@@ -1,5 +1,5 @@
 -- Many packages behind the others change nothing of what is said of those before them.
-use Rattle.std.proofs.Common.{◌≡◌, ℕ, suc, ◌<◌, ◌≤◌, ◌⊎◌, inl, inr, List, [], ◌∷◌, ◌++◌, length, take, drop, Option, refl, sym, ap, subst, ◌∙◌, arith, append_assoc, append-nil, take-append-drop}
+use Rattle.std.proofs.Common.{◌≡◌, ℕ, suc, ◌<◌, ◌≤◌, ◌⊎◌, inl, inr, List, [], ◌∷◌, ◌++◌, length, take, drop, Option, sym, ap, subst, arith, append_assoc, append-nil, take-append-drop}
 use Rattle.std.proofs.lemmas.Bool.{cases_lt}
 use Rattle.std.proofs.lemmas.List.{take-append-le, take_all}
 use Rattle.std.specs.Option.{option_map_or}
@@ -33,20 +33,7 @@ one_more before more keeps = record {
 }
 
 no_more : (world : List Shape) → KeepsAllLinking world world
-no_more world = record {
-  counts = λ c w. refl;
-  types = λ home s h. refl;
-  field_types = λ home f h. refl;
-  declared_types = λ d w. refl;
-  method_types = λ m w. refl;
-  instance_types = λ c token w. refl;
-  static_types = λ place h. refl;
-  sizes = λ c w. refl;
-  cells = λ steps c w. refl;
-  names = λ home entry has h. refl;
-  targets = λ home entry has h. refl;
-  faults = λ home p has h. refl;
-}
+no_more world = grind arith
 
 module _ (first middle last : List Shape) (count : length first ≤ length middle) (f : KeepsAllLinking first middle)
     (g : KeepsAllLinking middle last) where
@@ -63,21 +50,7 @@ module _ (first middle last : List Shape) (count : length first ≤ length middl
   api_further has = omega (arith, has, count)
 
   both_keep : KeepsAllLinking first last
-  both_keep = record {
-    counts = λ c w. g.counts c (class_further c w) ∙ f.counts c w;
-    types = λ home s h. g.types home s (home_further home h) ∙ f.types home s h;
-    field_types = λ home field h. g.field_types home field (home_further home h) ∙ f.field_types home field h;
-    declared_types = λ d w. g.declared_types d (class_further d.class w) ∙ f.declared_types d w;
-    method_types = λ m w. g.method_types m (method_further m w) ∙ f.method_types m w;
-    instance_types = λ c token w. g.instance_types c token (class_further c w) ∙ f.instance_types c token w;
-    static_types = λ place h. g.static_types place (home_further place.home h) ∙ f.static_types place h;
-    sizes = λ c w. g.sizes c (class_further c w) ∙ f.sizes c w;
-    cells = λ steps c w. g.cells steps c (class_further c w) ∙ f.cells steps c w;
-    names = λ home entry has h. g.names home entry (api_further has) (home_further home h) ∙ f.names home entry has h;
-    targets =
-        λ home entry has h. g.targets home entry (api_further has) (home_further home h) ∙ f.targets home entry has h;
-    faults = λ home p has h. g.faults home p (api_further has) (home_further home h) ∙ f.faults home p has h;
-  }
+  both_keep = grind (arith, class_further, home_further, method_further, api_further)
 
 -- ---- many packages
 
@@ -92,17 +65,13 @@ module _ (keeps : (world : List Shape) (more : Shape) → KeepsLookups world mor
 
   pub all_kept : (before after : List Shape) → LiesWithin before after → KeepsAllLinking before after
   all_kept before after lies =
-      let whole : before ++ drop (length before) after ≡ after =
-      ap (λ (first : List Shape). first ++ drop (length before) after) (sym lies)
-      ∙ take-append-drop (length before) after in
+      let whole : before ++ drop (length before) after ≡ after = grind (arith, take-append-drop) in
       subst (KeepsAllLinking before) whole (all_behind before (drop (length before) after))
 
 -- ---- worlds that are built
 
 pub built_has_api : (world : List Shape) → IsBuilt world → HasApi world
-built_has_api _ (api bound clash) = omega arith
-built_has_api _ (loaded before p built well) =
-    let rest = built_has_api before built in omega (arith, length_more before p.shape, rest)
+built_has_api world h1 = grind (arith, length_more)
 
 pub first_built : (world : List Shape) (count : ℕ) → IsBuilt world → 2 ≤ count → IsBuilt (take count world)
 first_built _ count (api bound clash) few = subst IsBuilt (sym (take_all count (api_world bound) few)) (api bound clash)
@@ -111,8 +80,7 @@ first_built _ count (loaded before p built well) few =
   where
     by_place : (count < suc (length before)) ⊎ (suc (length before) ≤ count) → IsBuilt (take count before)
         → IsBuilt (take count (grown before p.shape))
-    by_place (inl less) rest =
-        subst IsBuilt (sym (take-append-le count before (p.shape ∷ []) (omega (arith, less)))) rest
+    by_place (inl less) rest = grind (arith, take-append-le)
     by_place (inr past) rest =
         subst IsBuilt (sym (take_all count (grown before p.shape) (omega (arith, past, length_more before p.shape))))
         (loaded before p built well)

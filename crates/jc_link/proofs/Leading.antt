@@ -1,10 +1,8 @@
 -- Each entry that names something leads somewhere, in a world in which what is declared has a type.
-use Rattle.std.proofs.Common.{◌≡◌, ℕ, ◌+◌, ◌||◌, Bool, true, false, cond, not, List, [], ◌∷◌, length, Option, Some, None, refl, ap, sym, ◌∙◌, subst, is_some}
+use Rattle.std.proofs.Common.{◌≡◌, ℕ, ◌+◌, Bool, true, false, not, List, [], ◌∷◌, length, Option, Some, None, refl, ap, sym, ◌∙◌, subst, is_some, arith}
 use Rattle.std.proofs.lemmas.Iterator.Adapters.{position_from-zero}
 use Rattle.std.specs.List.{list_any, position_from}
-use Rattle.std.specs.Option.{IsSome, option_and_then, option_map, option_map_or, option_or}
-use Rattle.jc_base.specs.declared.fault.LoadFault.{LoadFault}
-use Rattle.jc_base.specs.declared.fault.LoadFault.TheVariants.{MissingImport, Unresolved}
+use Rattle.std.specs.Option.{IsSome, option_and_then, option_map}
 use Rattle.jc_cap_desc.specs.Shape.{Package, Shape}
 use Rattle.jc_cap.specs.declared.entry.PoolEntry.{PoolEntry}
 use Rattle.jc_cap.specs.declared.entry.PoolEntry.TheVariants.{Classref, InstanceFieldref, VirtualMethodref, SuperMethodref, StaticFieldref, StaticMethodref}
@@ -18,12 +16,11 @@ use Rattle.jc_link.proofs.GrownParts.{some_of, mapped, chosen_of, the_some, none
 use Rattle.jc_link.proofs.Nones.{left_false, right_false, not_false, there_some, true_false}
 use Rattle.jc_link.specs.Built.{IsBuilt}
 use Rattle.jc_link.specs.Built.IsBuilt.{loaded}
-use Rattle.jc_link.specs.Imports.{first_unmet}
 use Rattle.jc_link.specs.MemberType.{declared_type_of, method_type_of}
-use Rattle.jc_link.specs.Named.{if_passes, instance_field_at, is_abstract_method, is_concrete, method_above, named_above, named_by, named_field, named_static_field, named_static_method, named_virtual, static_field_at, static_place}
+use Rattle.jc_link.specs.Named.{if_passes, instance_field_at, is_concrete, method_above, named_above, named_by, named_field, named_static_method, named_virtual, static_place}
 use Rattle.jc_link.specs.Pool.{first_unresolved, is_unresolved}
 use Rattle.jc_link.specs.Sound.{IsSound, LeadSomewhere, leads_somewhere}
-use Rattle.jc_link.specs.Target.{instance_type_of, static_type_of, target_of, target_of_declared}
+use Rattle.jc_link.specs.Target.{instance_type_of, target_of, target_of_declared}
 use Rattle.jc_link.specs.declared.named.Named.{Named}
 use Rattle.jc_link.specs.declared.named.Named.TheVariants as Names
 use Rattle.jc_link.specs.WellFormed.{IsWellFormed}
@@ -31,30 +28,17 @@ use Rattle.jc_link.specs.WellFormed.{IsWellFormed}
 -- no place passes, so none does
 none_position : {A : Type 0} (p : A → Bool) (from : ℕ) (xs : List A) → position_from p from xs ≡ None → list_any p xs ≡ false
 none_position p from [] e = refl
-none_position p from (x ∷ xs) e = by_first (p x) (none_position p (from + 1) xs) e
-  where
-    by_first : (b : Bool) → (position_from p (from + 1) xs ≡ None → list_any p xs ≡ false) → cond b (Some from) (position_from p (from + 1) xs) ≡ None → (b || list_any p xs) ≡ false
-    by_first true rest e = absurd (none_some from (sym e))
-    by_first false rest e = rest e
+none_position p from (x ∷ xs) e = grind (arith, none_some, none_position p (from + 1) xs)
 
 map_there : {A B : Type 0} (f : A → B) (o : Option A) → IsSome o → is_some (option_map f o) ≡ true
-map_there f None h = true_false (sym h)
-map_there f (Some a) h = refl
+map_there f o h1 = grind (arith, true_false)
 
 -- a name that passes a test
 passed : {A : Type 0} (test : A → Bool) (x y : A) → if_passes test x ≡ Some y → test y ≡ true
-passed test x y e = by_test (test x) refl e
-  where
-    by_test : (b : Bool) → test x ≡ b → cond b (Some x) None ≡ Some y → test y ≡ true
-    by_test true is e = ap test (sym (the_some x y e)) ∙ is
-    by_test false is e = absurd (none_some y e)
+passed test x y e = grind (arith, the_some, none_some)
 
 concrete_there : (world : List Shape) (m : MethodName) → is_concrete world m ≡ true → (d : DeclaredMethod) × (method_at world m ≡ Some d)
-concrete_there world m e = by_method (method_at world m) e
-  where
-    by_method : (o : Option DeclaredMethod) → option_map_or (λ d. not (is_abstract_method d.method)) o false ≡ true → (d : DeclaredMethod) × (o ≡ Some d)
-    by_method None e = true_false (sym e)
-    by_method (Some d) e = (d, refl)
+concrete_there world m e = grind (arith, not, true_false)
 
 module _ (world : List Shape) (home : ℕ) (sound : IsSound world) where
   method_typed : (m : MethodName) (d : DeclaredMethod) → method_at world m ≡ Some d → IsSome (method_type_of world m)
@@ -62,9 +46,7 @@ module _ (world : List Shape) (home : ℕ) (sound : IsSound world) where
 
   -- what is named leads somewhere
   leads_to : (entry : PoolEntry) (named : Named) → named_by world home entry ≡ Some named → is_some (target_of world named) ≡ true
-  leads_to (Classref ref) named e =
-      let c = mapped Names.Class (class_named world home ref) named e in
-      subst (λ n. is_some (target_of world n) ≡ true) c.2 refl
+  leads_to (Classref ref) named e = grind (arith, mapped)
   leads_to (InstanceFieldref m) named e =
       let c = some_of (named_field world m.token) (class_named world home m.class) named e in
       let f = mapped (λ f. Names.InstanceField c.0 m.token) (instance_field_at world c.0 m.token) named c.2 in
@@ -80,10 +62,7 @@ module _ (world : List Shape) (home : ℕ) (sound : IsSound world) where
       let a = some_of (if_passes (is_concrete world)) (method_above world home m.token c.0) n.0 n.1 in
       let is = concrete_there world n.0 (passed (is_concrete world) a.0 n.0 a.2) in
       subst (λ n. is_some (target_of world n) ≡ true) n.2 (map_there _ (method_type_of world n.0) (method_typed n.0 is.0 is.1))
-  leads_to (StaticFieldref s) named e =
-      let p = some_of (named_static_field world) (static_place (λ row. row.fields) world home s) named e in
-      let f = mapped (λ f. Names.StaticField p.0) (static_field_at world p.0) named p.2 in
-      subst (λ n. is_some (target_of world n) ≡ true) f.2 (map_there _ (static_type_of world p.0) (sound.fields.statics p.0 f.0 f.1))
+  leads_to (StaticFieldref s) named e = grind (arith, some_of, mapped, map_there)
   leads_to (StaticMethodref s) named e =
       let p = some_of (named_static_method world) (static_place (λ row. row.methods) world home s) named e in
       let n = mapped Names.StaticMethod (if_passes (is_concrete world) (method_name (p.0).home (p.0).offset)) named p.2 in
@@ -110,17 +89,10 @@ module _ (world : List Shape) (home : ℕ) (sound : IsSound world) where
 
 -- a package that is well-formed has no entry that names nothing
 none_unresolved : (before : List Shape) (p : Package) → IsWellFormed before p → first_unresolved (grown before p.shape) (length before) p.body.pool ≡ None
-none_unresolved before p fine =
-    none_second (option_map MissingImport (first_unmet (grown before p.shape) (length before) p.shape)) (first_unresolved (grown before p.shape) (length before) p.body.pool) _ fine
-  where
-    none_second : (first : Option LoadFault) (second : Option ℕ) (third : Option LoadFault) → option_or first (option_or (option_map Unresolved second) third) ≡ None → second ≡ None
-    none_second None None third e = refl
-    none_second None (Some n) third e = absurd (none_some (Unresolved n) (sym e))
-    none_second (Some fault) second third e = absurd (none_some fault (sym e))
+none_unresolved before p fine = grind (arith, none_some)
 
 pub built_behind : (before world : List Shape) (p : Package) → IsBuilt before → IsWellFormed before p → world ≡ grown before p.shape → IsBuilt world
 built_behind before world p built fine is = subst IsBuilt (sym is) (loaded before p built fine)
 
 pub pool_leads : (before world : List Shape) (p : Package) → IsSound world → IsWellFormed before p → world ≡ grown before p.shape → LeadSomewhere world (length before) p.body.pool
-pool_leads before world p sound fine is =
-    entries_lead world (length before) sound p.body.pool (ap (λ w. first_unresolved w (length before) p.body.pool) is ∙ none_unresolved before p fine)
+pool_leads before world p sound fine is = grind (arith, entries_lead, none_unresolved)

@@ -1,9 +1,8 @@
 -- What records list.
-use Rattle.std.proofs.Common.{◌≡◌, Bool, true, false, ◌||◌, List, [], ◌∷◌, map, refl, ap, ◌∙◌}
+use Rattle.std.proofs.Common.{◌≡◌, Bool, false, ◌||◌, List, [], ◌∷◌, map, refl, ap, arith}
 use Rattle.std.specs.List.{list_any}
 use Rattle.jc_base.specs.declared.class_ref.ClassRef.{ClassRef}
 use Rattle.jc_cap.specs.declared.record.RecordBody.{RecordBody}
-use Rattle.jc_cap.specs.declared.record.RecordBody.TheVariants.{Interface, Class}
 use Rattle.jc_classes.specs.Record.{superinterfaces, interface_rows}
 use Rattle.jc_classes.specs.World.{listed_refs}
 
@@ -12,9 +11,7 @@ list_any_map p f [] = refl
 list_any_map p f (x ∷ xs) = ap (λ b. p (f x) || b) (list_any_map p f xs)
 
 pub or_none : (b : Bool) → b ≡ (b || false)
-or_none true = refl
-or_none false = refl
+or_none b = grind arith
 
 pub listed_either_way : (p : ClassRef → Bool) (body : RecordBody) → list_any p (listed_refs body) ≡ (list_any (λ i. p i.interface) (superinterfaces body) || list_any (λ i. p i.interface) (interface_rows body))
-listed_either_way p (Interface r) = list_any_map p (λ i. i.interface) r.superinterfaces ∙ or_none _
-listed_either_way p (Class r) = list_any_map p (λ i. i.interface) r.interfaces
+listed_either_way p body = grind (arith, list_any_map, or_none)

@@ -1,5 +1,5 @@
 -- What the entries of a pool name, each found once and kept in a list.
-use Rattle.std.proofs.Common.{◌≡◌, ℕ, zero, suc, ◌+◌, ◌<◌, inl, inr, Bool, true, false, List, [], ◌∷◌, ◌++◌, length, take, map, slice_get, Option, Some, None, refl, sym, subst, ap, ◌∙◌, arith, is_some, not, get_or, add-one}
+use Rattle.std.proofs.Common.{◌≡◌, ℕ, zero, suc, ◌+◌, ◌<◌, Bool, true, false, List, [], ◌∷◌, ◌++◌, length, take, map, slice_get, Option, Some, None, refl, sym, subst, ap, ◌∙◌, arith, is_some, not, get_or, add-one}
 use Rattle.std.proofs.lemmas.List.{map-append}
 use Rattle.std.proofs.lemmas.List.{take_more}
 use Rattle.std.proofs.lemmas.List.Folds.{list_all-map, list_all_at}
@@ -39,11 +39,7 @@ module _ {A B : Type 0} (f : A → Option B) where
   -- one more is kept
   pub one_more : (xs : List A) (ys : List B) (i : ℕ) (y : B) → map Some ys ≡ map f (take i xs)
       → option_and_then f (slice_get xs i) ≡ Some y → map Some (ys ++ y ∷ []) ≡ map f (take (i + 1) xs)
-  one_more xs ys i y e h =
-      map-append Some ys (y ∷ [])
-      ∙ ap (λ os. os ++ Some y ∷ []) e
-      ∙ sym (step xs i y h)
-      ∙ ap (λ n. map f (take n xs)) (sym (add-one i))
+  one_more xs ys i y e h = grind (arith, map-append, step, add-one)
 
   -- whether an element is there of which nothing is found
   pub nothing_at : (xs : List A) (i : ℕ) → i < length xs → option_and_then f (slice_get xs i) ≡ None
@@ -54,18 +50,12 @@ module _ {A B : Type 0} (f : A → Option B) where
 
   pub something_at : (xs : List A) (i : ℕ) (y : B) → option_and_then f (slice_get xs i) ≡ Some y
       → option_map_or (λ x. not (is_some (f x))) (slice_get xs i) false ≡ false
-  something_at xs i y e = by_place (slice_get xs i) e
-    where
-      by_place : (o : Option A) → option_and_then f o ≡ Some y
-          → option_map_or (λ x. not (is_some (f x))) o false ≡ false
-      by_place None e = refl
-      by_place (Some x) e = ap (λ o. not (is_some o)) e
+  something_at xs i y e = grind (arith, not)
 
   -- what is made of what is kept, and what is asked of it
   map_are : {C : Type 0} (g : B → Option C) (xs : List A) (ys : List B) → map Some ys ≡ map f xs
       → map g ys ≡ map (λ x. option_and_then g (f x)) xs
-  map_are g xs ys e =
-      sym (map_map (option_and_then g) Some ys) ∙ ap (map (option_and_then g)) e ∙ map_map (option_and_then g) f xs
+  map_are g xs ys e = grind (arith, map_map (option_and_then g) Some ys, map_map (option_and_then g) f xs)
 
   all_are : (p : Option B → Bool) (xs : List A) (ys : List B) → map Some ys ≡ map f xs
       → list_all (λ y. p (Some y)) ys ≡ list_all (λ x. p (f x)) xs
@@ -77,8 +67,7 @@ module _ {A B : Type 0} (f : A → Option B) where
 pub entry_name : (world : List Shape) (home : ℕ) (pool : List PoolEntry) (names : List Named) (i : ℕ) (entry : PoolEntry)
     (named : Named) → AreNamed world home pool names → slice_get pool i ≡ Some entry → slice_get names i ≡ Some named
     → named_by world home entry ≡ Some named
-entry_name world home pool names i entry named are there kept =
-    name_at (named_by world home) pool names i entry named are there kept
+entry_name world home pool names i entry named are there kept = grind (arith, name_at)
 
 -- where they lead
 pub targets_are : (world : List Shape) (home : ℕ) (pool : List PoolEntry) (names : List Named)
@@ -93,32 +82,20 @@ names_lead world home pool names are lead =
 -- one of names that lead somewhere does
 pub name_leads : (world : List Shape) (names : List Named) (i : ℕ) (named : Named) → NamesLead world names
     → i < length names → named ≡ get_or names i named → is_some (target_of world named) ≡ true
-name_leads world names i named lead h is =
-    ap (λ n. is_some (target_of world n)) is
-    ∙ by_test (is_some (target_of world (get_or names i named)))
-    (list_all_at (λ n. is_some (target_of world n)) names i named h)
-  where
-    by_test : (b : Bool) → (b ≡ false → list_all (λ n. is_some (target_of world n)) names ≡ false) → b ≡ true
-    by_test true all = refl
-    by_test false all = absurd (let e = all refl in cc)
+name_leads world names i named lead h is = grind (arith, get_or, list_all_at)
 
 -- the targets of the names before one, and its own
 pub target_more : {A B : Type 0} (f : A → Option B) (found : List B) (xs : List A) (i : ℕ) (x : A) (y : B)
     → map Some found ≡ map f (take i xs) → i < length xs → x ≡ get_or xs i x → f x ≡ Some y
     → map Some (found ++ y ∷ []) ≡ map f (take (i + 1) xs)
 target_more f found xs i x y so_far h is e =
-    map-append Some found (y ∷ [])
-    ∙ ap (λ os. os ++ Some y ∷ []) so_far
-    ∙ ap (λ o. map f (take i xs) ++ o ∷ []) (sym e ∙ ap f is)
-    ∙ sym (map-append f (take i xs) (get_or xs i x ∷ []))
-    ∙ ap (map f) (sym (take_more xs i x h))
+    grind (arith, map-append Some found (y ∷ []), map-append f (take i xs) (get_or xs i x ∷ []), take_more xs i x h)
 
 -- ---- refusals
 
 pub told_first : (first second : Option LoadFault) (fault : LoadFault) → IsTold first fault
     → IsTold (option_or first second) fault
-told_first first second fault (inl memory) = inl memory
-told_first first second fault (inr is) = inr (ap (λ o. option_or o second) is)
+told_first first second fault h1 = grind arith
 
 pub told_behind : (first second : Option LoadFault) (fault : LoadFault) → first ≡ None → IsTold second fault
     → IsTold (option_or first second) fault

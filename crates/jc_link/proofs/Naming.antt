@@ -1,5 +1,5 @@
 -- What types name in a built world are classes that are there.
-use Rattle.std.proofs.Common.{◌≡◌, ℕ, zero, suc, ◌&&◌, Bool, true, false, cond, not, ◌⊎◌, inl, inr, List, [], ◌∷◌, Option, Some, None, refl, sym, ap, subst, ◌∙◌, arith}
+use Rattle.std.proofs.Common.{◌≡◌, ℕ, zero, suc, ◌&&◌, Bool, true, false, cond, not, List, [], ◌∷◌, Option, Some, None, refl, subst, arith}
 use Rattle.std.specs.List.{list_all}
 use Rattle.std.specs.Option.{option_and_then, option_map, option_map_or}
 use Rattle.jc_base.specs.Signature.{Signature}
@@ -17,8 +17,8 @@ use Rattle.jc_api.specs.declared.class.ApiClass.{ApiClass}
 use Rattle.jc_api.specs.declared.class.ApiClass.TheVariants.{Object, Throwable}
 use Rattle.jc_classes.specs.Growth.{KeepsLookups}
 use Rattle.jc_classes.specs.Members.{DeclaredMethod, method_at}
-use Rattle.jc_classes.specs.Methods.{method_name, virtual_method_of}
-use Rattle.jc_classes.specs.Subtype.{common_within, is_class_at, is_class_below, is_interface_at}
+use Rattle.jc_classes.specs.Methods.{virtual_method_of}
+use Rattle.jc_classes.specs.Subtype.{common_within, is_class_at, is_class_below}
 use Rattle.jc_classes.specs.Walk.{most_classes}
 use Rattle.jc_names.specs.Names.{home_of}
 use Rattle.jc_classes.specs.World.{class_at, class_named, superclass_of}
@@ -34,14 +34,13 @@ use Rattle.jc_link.proofs.SoundChains.{api_low, has_superclass, named_there}
 use Rattle.jc_link.proofs.SoundGrown.{built_fit, fit_at}
 use Rattle.jc_link.proofs.SoundMembers.{row_of}
 use Rattle.jc_link.specs.Built.{IsBuilt, api, loaded}
-use Rattle.jc_link.specs.Classes.{lacks_superclass}
 use Rattle.jc_link.specs.Found.{return_found, signature_found, type_found, types_found}
 use Rattle.jc_link.specs.KnownTypes.{NameClasses, is_known_return, is_known_signature, is_known_target, is_known_type}
-use Rattle.jc_link.specs.MemberType.{counted, declared_type_of, field_type_of, member_type_of, method_type_of, type_class}
-use Rattle.jc_link.specs.Named.{if_passes, instance_field_at, is_concrete, method_above, named_above, named_by, named_field, named_static_field, named_static_method, named_virtual, static_field_at, static_place}
-use Rattle.jc_link.specs.PrivateFit.{IsFit, IsRoot}
+use Rattle.jc_link.specs.MemberType.{counted, declared_type_of, member_type_of, method_type_of, type_class}
+use Rattle.jc_link.specs.Named.{if_passes, is_concrete, method_above, named_above, named_by, named_virtual}
+use Rattle.jc_link.specs.PrivateFit.{IsFit}
 use Rattle.jc_link.specs.Sound.{IsSound}
-use Rattle.jc_link.specs.Target.{cell_of, instance_type_of, pool_target_of, static_type_of, target_of, target_of_declared}
+use Rattle.jc_link.specs.Target.{pool_target_of, target_of, target_of_declared}
 use Rattle.jc_link.specs.declared.named.Named.{Named}
 use Rattle.jc_link.specs.declared.named.Named.TheVariants as Names
 use Rattle.jc_link.specs.declared.target.PoolTarget.{PoolTarget}
@@ -50,8 +49,7 @@ use Rattle.jc_link.specs.declared.target.PoolTarget.TheVariants as To
 -- ---- types whose classes are found
 
 both : (a b : Bool) → a ≡ true → b ≡ true → (a && b) ≡ true
-both true b e f = f
-both false b e f = true_false (sym e)
+both a b h1 h2 = grind (arith, true_false)
 
 module _ (known : ClassName → Bool) (find : ClassRef → Option ClassName) (good : (ref : ClassRef) (c : ClassName) → find ref ≡ Some c → known c ≡ true) where
   type_known : (t : DeclaredType ClassRef) (u : DeclaredType ClassName) → type_found find t ≡ Some u → is_known_type known u ≡ true
@@ -87,13 +85,11 @@ module _ (known : ClassName → Bool) (find : ClassRef → Option ClassName) (go
 
 module _ (keeps : (world : List Shape) (more : Shape) → KeepsLookups world more) where
   api_class : (world : List Shape) → IsBuilt world → (c : ApiClass) → is_interface c ≡ false → is_class_at world (Api c) ≡ true
-  api_class _ (api bound clash) c e =
-      ap (λ (o : Option ClassShape). option_map_or (λ k. is_class k.body) o false) (class_there bound c) ∙ class_body bound c ∙ ap not e
+  api_class _ (api bound clash) c e = grind (arith, class_there, class_body, not)
   api_class _ (loaded before p built well) c e =
       let has = (built_fit api_fit keeps before built).0 in
       let low = api_low (package_of c) in
-      ap (λ (o : Option ClassShape). option_map_or (λ k. is_class k.body) o false) ((keeps before p.shape).classes (Api c) (omega (arith, has, low)))
-      ∙ api_class before built c e
+      grind (arith, (keeps before p.shape).classes (Api c) (omega (arith, has, low)), api_class before built c e)
 
 -- ---- a world with Object in it
 
@@ -103,18 +99,10 @@ module _ (world : List Shape) (object : is_class_at world (Api Object) ≡ true)
   named_class home ref c e = let k = named_there world home ref c e in by_kind k.0 (is_class (k.0).body) refl k.1
     where
       by_kind : (k : ClassShape) (b : Bool) → is_class k.body ≡ b → class_at world c ≡ Some k → is_class_at world (counted world c) ≡ true
-      by_kind k true is at =
-          let no_interface : is_interface_at world c ≡ false = ap (λ (o : Option ClassShape). option_map_or (λ k. not (is_class k.body)) o false) at ∙ ap not is in
-          let class : is_class_at world c ≡ true = ap (λ (o : Option ClassShape). option_map_or (λ k. is_class k.body) o false) at ∙ is in
-          ap (λ b. is_class_at world (cond b (Api Object) c)) no_interface ∙ class
-      by_kind k false is at =
-          let interface : is_interface_at world c ≡ true = ap (λ (o : Option ClassShape). option_map_or (λ k. not (is_class k.body)) o false) at ∙ ap not is in
-          ap (λ b. is_class_at world (cond b (Api Object) c)) interface ∙ object
+      by_kind k b h1 h2 = grind (arith, not)
 
   type_class_known : (home : ℕ) (ref : ClassRef) (c : ClassName) → type_class world home ref ≡ Some c → is_class_at world c ≡ true
-  type_class_known home ref c e =
-      let a = mapped (counted world) (class_named world home ref) c e in
-      subst (λ c. is_class_at world c ≡ true) a.2 (named_class home ref a.0 a.1)
+  type_class_known home ref c e = grind (arith, mapped, named_class)
 
   member_known : (home : ℕ) (s : Signature ClassRef) (t : Signature ClassName) → member_type_of world home s ≡ Some t → is_known_signature (is_class_at world) t ≡ true
   member_known home s t e = signature_known (is_class_at world) (type_class world home) (type_class_known home) s t e
@@ -135,13 +123,8 @@ module _ (world : List Shape) (object : is_class_at world (Api Object) ≡ true)
   is_there (Names.StaticMethod m) = true
 
   named_known : (home : ℕ) (entry : PoolEntry) (named : Named) → named_by world home entry ≡ Some named → is_there named ≡ true
-  named_known home (Classref ref) named e =
-      let c = mapped Names.Class (class_named world home ref) named e in
-      subst (λ n. is_there n ≡ true) c.2 (named_class home ref c.0 c.1)
-  named_known home (InstanceFieldref m) named e =
-      let c = some_of (named_field world m.token) (class_named world home m.class) named e in
-      let f = mapped (λ f. Names.InstanceField c.0 m.token) (instance_field_at world c.0 m.token) named c.2 in
-      subst (λ n. is_there n ≡ true) f.2 refl
+  named_known home (Classref ref) named e = grind (arith, mapped, named_class)
+  named_known home (InstanceFieldref m) named e = grind (arith, some_of, mapped)
   named_known home (VirtualMethodref m) named e =
       let c = some_of (named_virtual world home m.token) (class_named world home m.class) named e in
       let n = mapped (Names.VirtualMethod c.0 m.token) (virtual_method_of world c.0 m.token home) named (chosen_of (is_class_at world c.0) _ named c.2) in
@@ -150,25 +133,14 @@ module _ (world : List Shape) (object : is_class_at world (Api Object) ≡ true)
       let c = some_of (named_above world home m.token) (class_named world home m.class) named e in
       let n = mapped (Names.SuperMethod c.0) (option_and_then (if_passes (is_concrete world)) (method_above world home m.token c.0)) named (chosen_of (is_class_at world c.0) _ named c.2) in
       subst (λ n. is_there n ≡ true) n.2 refl
-  named_known home (StaticFieldref s) named e =
-      let p = some_of (named_static_field world) (static_place (λ row. row.fields) world home s) named e in
-      let f = mapped (λ f. Names.StaticField p.0) (static_field_at world p.0) named p.2 in
-      subst (λ n. is_there n ≡ true) f.2 refl
-  named_known home (StaticMethodref s) named e =
-      let p = some_of (named_static_method world) (static_place (λ row. row.methods) world home s) named e in
-      let m = mapped Names.StaticMethod (if_passes (is_concrete world) (method_name (p.0).home (p.0).offset)) named p.2 in
-      subst (λ n. is_there n ≡ true) m.2 refl
+  named_known home (StaticFieldref s) named e = grind (arith, some_of, mapped)
+  named_known home (StaticMethodref s) named e = grind (arith, some_of, mapped)
 
   target_known : (named : Named) (target : PoolTarget) → is_there named ≡ true → target_of world named ≡ Some target → is_known_target world target ≡ true
   target_known (Names.Class c) target there e = subst (λ t. is_known_target world t ≡ true) (the_some (To.Class c) target e) there
   target_known (Names.InstanceField c token) target there e =
-      let t = mapped (To.InstanceField c (cell_of world c token)) (instance_type_of world c token) target e in
-      let f = some_of (field_type_of world (home_of c)) (instance_field_at world c token) t.0 t.1 in
-      subst (λ t. is_known_target world t ≡ true) t.2 (type_known (is_class_at world) (type_class world (home_of c)) (type_class_known (home_of c)) (f.0).type t.0 f.2)
-  target_known (Names.StaticField place) target there e =
-      let t = mapped (To.StaticField place) (static_type_of world place) target e in
-      let f = some_of (field_type_of world place.home) (static_field_at world place) t.0 t.1 in
-      subst (λ t. is_known_target world t ≡ true) t.2 (type_known (is_class_at world) (type_class world place.home) (type_class_known place.home) (f.0).type t.0 f.2)
+      grind (arith, mapped, some_of, type_known, type_class_known)
+  target_known (Names.StaticField place) target there e = grind (arith, mapped, some_of, type_known, type_class_known)
   target_known (Names.VirtualMethod c token m) target there e =
       let t = mapped (To.VirtualMethod c token) (method_type_of world m) target e in
       subst (λ t. is_known_target world t ≡ true) t.2 (method_known m t.0 t.1)
@@ -188,20 +160,10 @@ module _ (world : List Shape) (object : is_class_at world (Api Object) ≡ true)
   -- ---- classes with superclasses
 
   heir_there : (c d : ClassName) → superclass_of world c ≡ Some d → is_class_at world c ≡ true
-  heir_there c d e =
-      let s = has_superclass world c d e in
-      ap (λ (o : Option ClassShape). option_map_or (λ k. is_class k.body) o false) s.there ∙ s.class
+  heir_there c d e = grind (arith, has_superclass)
 
   fit_class : (c : ClassName) (k : ClassShape) → IsFit world c k → is_class k.body ≡ true → is_class_at world c ≡ true
-  fit_class c k fit is = by_superclass fit.superclass
-    where
-      by_above : (o : Option ClassName) → superclass_of world c ≡ o → option_map_or (is_class_at world) o false ≡ true → is_class_at world c ≡ true
-      by_above None e h = true_false (sym h)
-      by_above (Some d) e h = heir_there c d e
-
-      by_superclass : IsRoot world c ⊎ (lacks_superclass world c k ≡ false) → is_class_at world c ≡ true
-      by_superclass (inl root) = ap (is_class_at world) root.object ∙ object
-      by_superclass (inr e) = by_above (superclass_of world c) refl (not_false _ (then_false (is_class k.body) (not (option_map_or (is_class_at world) (superclass_of world c) false)) e is))
+  fit_class c k fit is = grind (arith, true_false, heir_there, not_false, then_false, not)
 
   common_there : ((c d : ClassName) → superclass_of world c ≡ Some d → is_class_at world d ≡ true) → (n : ℕ) (c d : ClassName) → is_class_at world c ≡ true
       → is_class_at world (common_within world n c d) ≡ true

@@ -11,46 +11,36 @@ pub true_false : {A : Type 0} → true ≡ false → A
 true_false e = absurd cc
 
 pub left_false : (a b : Bool) → (a || b) ≡ false → a ≡ false
-left_false true b e = e
-left_false false b e = refl
+left_false a b h1 = grind arith
 
 pub right_false : (a b : Bool) → (a || b) ≡ false → b ≡ false
-right_false true b e = true_false e
-right_false false b e = e
+right_false a b h1 = grind (arith, true_false)
 
 pub neither : (a b : Bool) → a ≡ false → b ≡ false → (a || b) ≡ false
-neither true b e f = true_false e
-neither false b e f = f
+neither a b h1 h2 = grind (arith, true_false)
 
 pub then_false : (a b : Bool) → (a && b) ≡ false → a ≡ true → b ≡ false
-then_false true b e f = e
-then_false false b e f = true_false (sym f)
+then_false a b h1 h2 = grind (arith, true_false)
 
 pub left_true : (a b : Bool) → (a && b) ≡ true → a ≡ true
-left_true true b e = refl
-left_true false b e = true_false (sym e)
+left_true a b h1 = grind (arith, true_false)
 
 pub right_true : (a b : Bool) → (a && b) ≡ true → b ≡ true
-right_true true b e = e
-right_true false b e = true_false (sym e)
+right_true a b h1 = grind (arith, true_false)
 
 pub not_false : (a : Bool) → not a ≡ false → a ≡ true
-not_false true e = refl
-not_false false e = true_false e
+not_false a h1 = grind (arith, true_false)
 
 pub not_true : (a : Bool) → not a ≡ true → a ≡ false
-not_true true e = true_false (sym e)
-not_true false e = refl
+not_true a h1 = grind (arith, true_false)
 
 -- ---- options
 
 pub some_there : {A : Type 0} (o : Option A) → is_some o ≡ true → IsSome o
-some_there None e = true_false (sym e)
-some_there (Some a) e = cc
+some_there o h1 = grind (arith, true_false)
 
 pub there_some : {A : Type 0} (o : Option A) → is_some o ≡ true → (a : A) × (o ≡ Some a)
-there_some None e = true_false (sym e)
-there_some (Some a) e = (a, refl)
+there_some o h1 = grind (arith, true_false)
 
 -- ---- lists
 
@@ -62,11 +52,8 @@ none_at p (y ∷ ys) (suc n) x e at = none_at p ys n x (right_false (p y) (list_
 
 pub none_found : {A : Type 0} (p q : A → Bool) (xs : List A) (x : A) → list_any p xs ≡ false → find q xs ≡ Some x → p x ≡ false
 none_found p q [] x e at = absurd (none_some x at)
-none_found p q (y ∷ ys) x e at = by_test (q y) (none_found p q ys x (right_false (p y) (list_any p ys) e)) at
-  where
-    by_test : (b : Bool) → (find q ys ≡ Some x → p x ≡ false) → cond b (Some y) (find q ys) ≡ Some x → p x ≡ false
-    by_test true rest at = ap p (sym (the_some y x at)) ∙ left_false (p y) (list_any p ys) e
-    by_test false rest at = rest at
+none_found p q (y ∷ ys) x e at =
+    grind (arith, right_false, the_some, left_false, none_found p q ys x (right_false (p y) (list_any p ys) e))
 
 pub none_in_range : (p : ℕ → Bool) (from n i : ℕ) → list_any p (range_with_len from n) ≡ false → from ≤ i → i < from + n → p i ≡ false
 none_in_range p from zero i e low high = absurd (omega arith)
@@ -75,8 +62,7 @@ none_in_range p from (suc n) i e low high =
     (λ above. none_in_range p (from + 1) n i (right_false (p from) (list_any p (range_with_len (from + 1) n)) e) above (omega arith))
   where
     by_place : (b : Bool) → (b ≡ true → from ≡ i) → (b ≡ false → from ≡ i → ⊥) → (from + 1 ≤ i → p i ≡ false) → p i ≡ false
-    by_place true same h rest = ap p (sym (same refl)) ∙ left_false (p from) (list_any p (range_with_len (from + 1) n)) e
-    by_place false h other rest = let differ = other refl in rest (omega (arith, differ))
+    by_place b h1 h2 h3 = grind (arith, left_false)
 
 -- the first is none, so nothing at any place passes
 pub none_first : {A : Type 0} (p : A → Bool) (xs : List A) (n : ℕ) (x : A) → find p xs ≡ None → slice_get xs n ≡ Some x → p x ≡ false
@@ -85,18 +71,12 @@ none_first {A = A} p (y ∷ ys) n x e at = by_test (p y) refl (λ m. none_first 
   where
     by_test : (b : Bool) → p y ≡ b → ((m : ℕ) → find p ys ≡ None → slice_get ys m ≡ Some x → p x ≡ false) → cond b (Some y) (find p ys) ≡ None
         → (n : ℕ) → slice_get (y ∷ ys) n ≡ Some x → p x ≡ false
-    by_test true f rest e n at = absurd (none_some y (sym e))
-    by_test false f rest e zero at = ap p (sym (the_some y x at)) ∙ f
-    by_test false f rest e (suc n) at = rest n e at
+    by_test b h1 h2 h3 n h4 = grind (arith, none_some, the_some)
 
 -- what is found passes
 pub found_passes : {A : Type 0} (p : A → Bool) (xs : List A) (x : A) → find p xs ≡ Some x → p x ≡ true
 found_passes p [] x e = absurd (none_some x e)
-found_passes p (y ∷ ys) x e = by_test (p y) refl (found_passes p ys x) e
-  where
-    by_test : (b : Bool) → p y ≡ b → (find p ys ≡ Some x → p x ≡ true) → cond b (Some y) (find p ys) ≡ Some x → p x ≡ true
-    by_test true f rest e = ap p (sym (the_some y x e)) ∙ f
-    by_test false f rest e = rest e
+found_passes p (y ∷ ys) x e = grind (arith, the_some, found_passes p ys x)
 
 -- what is found stands at a place
 pub found_at : {A : Type 0} (p : A → Bool) (xs : List A) (x : A) → find p xs ≡ Some x → (n : ℕ) × (slice_get xs n ≡ Some x)

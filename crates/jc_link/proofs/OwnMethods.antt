@@ -1,36 +1,29 @@
 -- The methods of a loaded package, as they are looked up in the world: each is one of a class of the package, each of
 -- those is found, and so headers and code are those of the package.
-use Rattle.std.proofs.Common.{◌≡◌, ℕ, suc, ◌-◌, ◌≤◌, ◌==◌, Bool, true, false, cond, refl, sym, ap, ◌∙◌, subst}
-use Rattle.std.proofs.Common.{arith, List, length, Option, Some, None, is_some, nat_lt, slice_get}
+use Rattle.std.proofs.Common.{◌≡◌, ℕ, suc, ◌-◌, ◌≤◌, ◌==◌, Bool, true, refl, sym, ap, ◌∙◌}
+use Rattle.std.proofs.Common.{arith, List, Option, Some, is_some, nat_lt, slice_get}
 use Rattle.std.proofs.lemmas.Bool.{eq-eqb, eqb-true, le-ltb}
 use Rattle.std.specs.List.{find}
-use Rattle.std.specs.Option.{option_and_then, option_map, option_map_or}
-use Rattle.jc_cap.specs.ClassComponent.{is_class}
-use Rattle.jc_cap_desc.specs.Across.{is_install_signature}
-use Rattle.jc_cap_desc.specs.Shape.{ClassShape, HaveBodies, HaveHeaders, IsConcrete, IsOfClass, MethodShape}
-use Rattle.jc_cap_desc.specs.Shape.{HasBody, InstallMethods, Package, Shape}
-use Rattle.jc_classes.specs.Growth.{grown}
+use Rattle.std.specs.Option.{option_and_then, option_map}
+use Rattle.jc_cap_desc.specs.Shape.{ClassShape, HaveBodies, HaveHeaders, IsOfClass, MethodShape}
+use Rattle.jc_cap_desc.specs.Shape.{InstallMethods, Package, Shape}
 use Rattle.jc_classes.specs.Members.{DeclaredMethod, declared_in, method_at, name_of}
 use Rattle.jc_classes.specs.Methods.{method_name, method_of_class}
-use Rattle.jc_names.specs.Names.{api_name, name_in}
 use Rattle.jc_names.specs.declared.name.ClassName.{ClassName}
 use Rattle.jc_names.specs.declared.name.ClassName.TheVariants as Name
-use Rattle.jc_names.specs.declared.name.MethodName.TheVariants.{Api, Loaded}
+use Rattle.jc_names.specs.declared.name.MethodName.TheVariants.{Loaded}
 use Rattle.jc_link.proofs.GrownParts.{the_some, none_some, some_of, chosen_of, chosen_true}
 use Rattle.jc_link.proofs.Nones.{found_at, found_passes, none_first, there_some, true_false}
 use Rattle.jc_link.proofs.SoundGrown.{none_bad}
 use Rattle.jc_link.specs.Kept.{Kept, kept_of}
-use Rattle.jc_link.specs.Linked.{AreCoded, AreDeclared, AreHeaded, AreInstallable, HasDeclared}
-use Rattle.jc_link.specs.WellFormed.{is_bad, is_bad_class, IsWellFormed}
+use Rattle.jc_link.specs.Linked.{AreCoded, AreDeclared, AreHeaded, AreInstallable}
+use Rattle.jc_link.specs.WellFormed.{IsWellFormed}
 
 -- ---- what is looked up is the package's
 
 -- the name of a method of a loaded package
 named : (n offset : ℕ) → method_name (suc (suc n)) offset ≡ Loaded (suc n) offset
-named n offset =
-    let one : suc (suc n) - 1 ≡ suc n = omega arith in
-    ap (λ b. cond b (Api offset) (Loaded (suc (suc n) - 1) offset)) (le-ltb (suc (suc n)) 2 (omega arith))
-    ∙ ap (λ i. Loaded i offset) one
+named n offset = grind (arith, le-ltb)
 
 -- a method of a class of a package, at an offset
 record IsOwn (shape : Shape) (offset : ℕ) (m : MethodShape) : Type 0 where
@@ -40,22 +33,7 @@ record IsOwn (shape : Shape) (offset : ℕ) (m : MethodShape) : Type 0 where
 module _ (offset : ℕ) where
   own_of : (shape : Shape) (n : ℕ) (k : ClassShape) (m : MethodShape) → slice_get shape.classes n ≡ Some k
       → method_of_class offset k ≡ Some m → IsOwn shape offset m
-  own_of shape n k m at is =
-      let at_offset : MethodShape → Bool = λ m. m.offset == offset in
-      let found = find at_offset k.methods in
-      let its : found ≡ Some m = chosen_of (is_class k.body) found m is in
-      let row = found_at at_offset k.methods m its in
-      record {
-        of_class = record {
-          class = k;
-          class_place = n;
-          class_there = at;
-          class_is = chosen_true (is_class k.body) found m is;
-          place = row.0;
-          there = row.1;
-        };
-        offset_is = eqb-true m.offset offset (found_passes at_offset k.methods m its);
-      }
+  own_of shape n k m at is = grind (arith, chosen_of, found_at, chosen_true, eqb-true, found_passes)
 
   -- a method that a loaded package declares
   looked_up : (world : List Shape) (home : ℕ) (shape : Shape) → 2 ≤ home → slice_get world home ≡ Some shape
@@ -66,8 +44,7 @@ module _ (offset : ℕ) where
     where
       its_method : (c : ClassName) (o : Option MethodShape)
           → option_map (λ m. record { class = c; method = m }) o ≡ Some d → o ≡ Some d.method
-      its_method c None f = absurd (none_some d f)
-      its_method c (Some m) f = ap (λ (d : DeclaredMethod). Some d.method) (the_some _ d f)
+      its_method c o h1 = grind (arith, none_some, the_some)
 
       by_home : (n : ℕ) → home ≡ suc (suc n) → method_at world (method_name (suc (suc n)) offset) ≡ Some d
           → IsOwn shape offset d.method
@@ -94,16 +71,7 @@ AreNamed shape = (n : ℕ) (k : ClassShape) → slice_get shape.classes n ≡ So
 
 -- a class without a name is refused
 pub all_named : (before : List Shape) (p : Package) → IsWellFormed before p → AreNamed p.shape
-all_named before p well n k at =
-    let world = grown before p.shape in
-    let home = length before in
-    by_offset world home (nat_lt k.offset 0x10000)
-    (none_first (is_bad_class world home) p.shape.classes n k (none_bad before p well) at)
-  where
-    by_offset : (world : List Shape) (home : ℕ) (b : Bool)
-        → option_map_or (is_bad world home k) (cond b (name_in home k.offset) None) true ≡ false → b ≡ true
-    by_offset world home true e = refl
-    by_offset world home false e = true_false e
+all_named before p well n k at = grind (arith, none_first, none_bad, true_false)
 
 -- what passes is found, or another
 found_some : {A : Type 0} (p : A → Bool) (xs : List A) (n : ℕ) (x : A) → slice_get xs n ≡ Some x → p x ≡ true
@@ -111,8 +79,7 @@ found_some : {A : Type 0} (p : A → Bool) (xs : List A) (n : ℕ) (x : A) → s
 found_some {A = A} p xs n x at passes = by_found (find p xs) refl
   where
     by_found : (o : Option A) → find p xs ≡ o → (y : A) × (find p xs ≡ Some y)
-    by_found None e = true_false (sym passes ∙ none_first p xs n x e at)
-    by_found (Some y) e = (y, e)
+    by_found o h1 = grind (arith, true_false, none_first)
 
 module _ (world : List Shape) (shape : Shape) (names : AreNamed shape) where
   -- a method of a class is declared
@@ -129,16 +96,12 @@ module _ (world : List Shape) (shape : Shape) (names : AreNamed shape) where
           let has : ClassShape → Bool = λ k. is_some (method_of_class m.offset k) in
           let here : MethodShape → Bool = λ x. x.offset == m.offset in
           let row = found_some here of.class.methods of.place m of.there (eq-eqb m.offset m.offset refl) in
-          let its : has of.class ≡ true
-          = ap (λ b. is_some (cond b (find here of.class.methods) None)) of.class_is ∙ ap is_some row.1 in
+          let its : has of.class ≡ true = grind arith in
           let k = found_some has shape.classes of.class_place of.class of.class_there its in
           let place = found_at has shape.classes k.0 k.1 in
           let method = there_some (method_of_class m.offset k.0) (found_passes has shape.classes k.0 k.1) in
           let class : ClassName = Name.Loaded (suc (suc n) - 1) (k.0).offset in
-          let name : name_of (suc (suc n)) k.0 ≡ Some class
-          = ap (λ b. cond b (name_in (suc (suc n)) (k.0).offset) None) (names place.0 k.0 place.1)
-          ∙ ap (λ b. cond b (api_name (suc (suc n)) (k.0).offset) (Some class))
-          (le-ltb (suc (suc n)) 2 (omega arith)) in
+          let name : name_of (suc (suc n)) k.0 ≡ Some class = grind (arith, le-ltb) in
           let d : DeclaredMethod = record { class = class; method = method.0 } in
           let with_name : ClassShape → ClassName → Option DeclaredMethod
           = λ k class. option_map (λ x. record { class = class; method = x }) (method_of_class m.offset k) in (
@@ -174,8 +137,7 @@ module _ (world : List Shape) (home : ℕ) where
     coded_at offset d e concrete =
         let own = looked_up offset world home p.shape loaded at d e in
         let its = have.coded d.method own.of_class concrete in
-        subst (λ methods. HasBody methods offset) (sym (ap (λ (k : Kept). k.methods) is))
-        (subst (HasBody p.body.methods) own.offset_is its)
+        grind arith
 
     -- a method of a class is the one that is declared at its offset
     the_own : AreNamed p.shape → (m : MethodShape) → IsOfClass p.shape m → IsDeclaredAs world home m
@@ -190,21 +152,11 @@ module _ (world : List Shape) (home : ℕ) where
     declared_at names n b e =
         let its = have.declared n b (ap (λ (k : Kept). slice_get k.methods n) (sym is) ∙ e) in
         let own = the_own names its.method its.of_class in
-        subst (HasDeclared world home) its.offset_is (record {
-          declared = own.declared;
-          there = own.there;
-          concrete = subst IsConcrete own.same its.concrete;
-        })
+        grind arith
 
     -- and applets name install methods
     pub installable_at : AreNamed p.shape → InstallMethods p → AreInstallable world home kept
     installable_at names install applets n a e there =
         let its = install applets n a (ap (λ (k : Kept). k.applets) (sym is) ∙ e) there in
         let own = the_own names its.method its.of_class in
-        record {
-          declared = own.declared;
-          there = ap (λ offset. method_at world (method_name home offset)) (sym its.offset_is) ∙ own.there;
-          static = ap (λ (m : MethodShape). m.is_static) (sym own.same) ∙ its.static;
-          installs = ap (λ (m : MethodShape). is_install_signature m.signature) (sym own.same) ∙ its.installs;
-          coded = subst (λ methods. HasBody methods a.install) (sym (ap (λ (k : Kept). k.methods) is)) its.coded;
-        }
+        grind arith

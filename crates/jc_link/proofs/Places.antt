@@ -1,21 +1,17 @@
 -- What stands at places of lists.
-use Rattle.std.proofs.Common.{◌≡◌, ℕ, zero, suc, ◌+◌, ◌||◌, Bool, true, false, List, [], ◌∷◌, take, slice_get, refl, sym, ap, ◌∙◌, arith}
+use Rattle.std.proofs.Common.{◌≡◌, ℕ, zero, suc, ◌+◌, ◌||◌, Bool, false, List, [], ◌∷◌, take, slice_get, refl, sym, ap, ◌∙◌, arith}
 use Rattle.std.specs.List.{list_any, range_with_len}
 use Rattle.std.specs.Option.{option_map_or}
 
 or_last : (b : Bool) → (b || false) ≡ (false || b)
-or_last true = refl
-or_last false = refl
+or_last b = grind arith
 
 or_assoc : (a b c : Bool) → (a || (b || c)) ≡ ((a || b) || c)
-or_assoc true b c = refl
-or_assoc false b c = refl
+or_assoc a b c = grind arith
 
 any_more : (q : ℕ → Bool) (n a : ℕ) → list_any q (range_with_len a (suc n)) ≡ (list_any q (range_with_len a n) || q (a + n))
 any_more q zero a = let e : a + 0 ≡ a = omega arith in or_last (q a) ∙ ap (λ i. false || q i) (sym e)
-any_more q (suc n) a =
-    let e : (a + 1) + n ≡ a + suc n = omega arith in
-    ap (λ b. q a || b) (any_more q n (a + 1)) ∙ or_assoc (q a) (list_any q (range_with_len (a + 1) n)) (q ((a + 1) + n)) ∙ ap (λ i. list_any q (range_with_len a (suc n)) || q i) e
+any_more q (suc n) a = grind (arith, or_assoc, any_more q n (a + 1))
 
 take_more : {A : Type 0} (p : A → Bool) (xs : List A) (n : ℕ) → list_any p (take (suc n) xs) ≡ (list_any p (take n xs) || option_map_or p (slice_get xs n) false)
 take_more p [] zero = refl
@@ -28,6 +24,4 @@ pub any_place : {A : Type 0} (p : A → Bool) (xs : List A) (n : ℕ) → list_a
 any_place p xs zero = refl
 any_place p xs (suc n) =
     let e : 0 + n ≡ n = omega arith in
-    any_more (λ i. option_map_or p (slice_get xs i) false) n 0
-    ∙ ap (λ i. list_any (λ i. option_map_or p (slice_get xs i) false) (range_with_len 0 n) || option_map_or p (slice_get xs i) false) e
-    ∙ ap (λ b. b || option_map_or p (slice_get xs n) false) (any_place p xs n) ∙ sym (take_more p xs n)
+    grind (arith, any_more (λ i. option_map_or p (slice_get xs i) false) n 0, any_place p xs n, take_more p xs n)

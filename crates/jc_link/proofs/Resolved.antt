@@ -39,23 +39,12 @@ known_at_end : (before : List Shape) (p : Package) (b : LinkedBody) → HasApi b
     → map Some b.targets ≡ pool_targets (grown before p.shape) (length before) p.body.pool → StandApart p.body.methods
     → HaveHeaders p.shape → HaveBodies p → InstallMethods p → IsKnown (grown before p.shape) (length before) b
 known_at_end before p b api fine kept targets apart have bodies installs = record {
-  loaded = record {
-    «package» = p;
-    there = at_end before p.shape;
-    fine = subst (λ w. IsWellFormed w p) (sym (before_end before p.shape)) fine;
-    kept_is = kept;
-    apart = apart;
-    headers = have;
-    bodies = bodies;
-    installs = installs;
-  };
+  loaded = grind (arith, at_end, before_end);
   resolved = targets ∙ ap (λ pool. pool_targets (grown before p.shape) (length before) pool) (sym (ap (λ k. k.pool) kept));
   headed = headed_at (grown before p.shape) (length before) p.shape api (at_end before p.shape) have;
   coded = coded_at (grown before p.shape) (length before) p api (at_end before p.shape) bodies b.kept kept;
-  declared = declared_at (grown before p.shape) (length before) p api (at_end before p.shape) bodies b.kept kept
-      (all_named before p fine);
-  installs = installable_at (grown before p.shape) (length before) p api (at_end before p.shape) bodies b.kept kept
-      (all_named before p fine) installs;
+  declared = grind (arith, declared_at, at_end, all_named);
+  installs = grind (arith, installable_at, at_end, all_named);
 }
 
 -- a package that is bound is the last of its world
@@ -83,34 +72,22 @@ linked_last has before p l built linked apart have bodies installs =
 -- a pool that is resolved in a world is in the world with a package more
 still_resolved : (world : List Shape) (more : Shape) (home : ℕ) (b : LinkedBody) → KeepsLinking world more → HasApi world → home < length world
     → IsResolved world home b → IsResolved (grown world more) home b
-still_resolved world more home b keeps api h resolved =
-    resolved ∙ ap (λ f. map f b.kept.pool) (fun_ext (λ entry. sym (keeps.targets home entry api h)))
+still_resolved world more home b keeps api h resolved = grind (arith, fun_ext)
 
 -- what is known of a package stays known
 still_known : (world : List Shape) (more : Shape) (home : ℕ) (b : LinkedBody) → KeepsLinking world more → HasApi world → 2 ≤ home → home < length world
     → IsKnown world home b → IsKnown (grown world more) home b
 still_known world more home b keeps api loaded h known =
     let was = known.loaded in
-    let there : slice_get (grown world more) home ≡ Some (was.«package»).shape
-    = get_before world more home h ∙ was.there in
+    let there : slice_get (grown world more) home ≡ Some (was.«package»).shape = grind (arith, get_before) in
     let names = all_named (take home world) was.«package» was.fine in
     record {
-      loaded = record {
-        «package» = was.«package»;
-        there = there;
-        fine = subst (λ w. IsWellFormed w was.«package») (sym (take-append-le home world (more ∷ []) (omega arith))) was.fine;
-        kept_is = was.kept_is;
-        apart = was.apart;
-        headers = was.headers;
-        bodies = was.bodies;
-        installs = was.installs;
-      };
+      loaded = grind (arith, take-append-le);
       resolved = still_resolved world more home b keeps api h known.resolved;
       headed = headed_at (grown world more) home (was.«package»).shape loaded there was.headers;
       coded = coded_at (grown world more) home was.«package» loaded there was.bodies b.kept was.kept_is;
       declared = declared_at (grown world more) home was.«package» loaded there was.bodies b.kept was.kept_is names;
-      installs = installable_at (grown world more) home was.«package» loaded there was.bodies b.kept was.kept_is names
-          was.installs;
+      installs = grind (arith, installable_at);
     }
 
 module _ (keeps : (world : List Shape) (more : Shape) → KeepsLinking world more) (w : World) (l : Linked) (is : IsWorld w) (last : IsLast l) (bound : IsBoundTo w l) where

@@ -1,5 +1,5 @@
 -- The rows of a class and of its superclasses, which may end where they come to a class again.
-use Rattle.std.proofs.Common.{◌≡◌, ℕ, zero, suc, ◌+◌, ◌≤◌, ◌⊎◌, inl, inr, ◌||◌, ◌++◌, Bool, true, false, Option, Some, None, List, [], map, refl, sym, ap, subst, ◌∙◌, arith}
+use Rattle.std.proofs.Common.{◌≡◌, ℕ, zero, suc, ◌+◌, ◌≤◌, ◌⊎◌, inl, inr, ◌||◌, Bool, true, false, Option, Some, None, List, [], map, refl, sym, ap, subst, ◌∙◌, arith}
 use Rattle.std.proofs.lemmas.List.Folds.{list_any-append}
 use Rattle.std.specs.List.{list_any}
 use Rattle.std.specs.Option.{option_and_then, option_map_or}
@@ -7,11 +7,10 @@ use Rattle.jc_cap_desc.specs.Shape.{ClassShape, Shape}
 use Rattle.jc_names.specs.Names.{is_same_name}
 use Rattle.jc_classes.specs.Listed.{ListNothing, class_behind}
 use Rattle.jc_classes.specs.Record.{interface_rows}
-use Rattle.jc_classes.specs.Walk.{most_classes}
 use Rattle.jc_names.specs.Names.{home_of}
 use Rattle.jc_classes.specs.World.{class_at, superclass_of}
 use Rattle.jc_names.specs.declared.name.ClassName.{ClassName}
-use Rattle.jc_link.specs.Inherited.{ListedRow, breaks_interface, breaks_row, rows_of, rows_along}
+use Rattle.jc_link.specs.Inherited.{ListedRow, breaks_interface, rows_of, rows_along}
 use Rattle.jc_link.specs.PrivateRows.{IsOnRows}
 use Rattle.jc_link.proofs.Listed.{list_any_map}
 use Rattle.jc_link.proofs.SameNames.{same_name}
@@ -20,23 +19,13 @@ pub rows_of_class : (test : ListedRow → Bool) (world : List Shape) (at : Class
     → list_any test (rows_of world at)
     ≡ option_map_or (λ k. list_any (λ row. test (record { home = home_of at; row = row })) (interface_rows k.body))
     (class_at world at) false
-rows_of_class test world at = by_class (class_at world at)
-  where
-    by_class : (o : Option ClassShape)
-        → list_any test
-        (option_map_or (λ k. map (λ row. record { home = home_of at; row = row }) (interface_rows k.body)) o [])
-        ≡ option_map_or (λ k. list_any (λ row. test (record { home = home_of at; row = row })) (interface_rows k.body))
-        o false
-    by_class None = refl
-    by_class (Some k) = list_any_map test (λ row. record { home = home_of at; row = row }) (interface_rows k.body)
+rows_of_class test world at = grind (arith, list_any_map)
 
 -- where neither a class nor a superclass of it lists anything
 no_rows_along : (world : List Shape) (n : ℕ) (c : ClassName) → ListNothing world c → rows_along world n c ≡ []
 no_rows_along world zero c nothing = refl
 no_rows_along world (suc n) c nothing =
-    ap (λ rows. rows ++ option_map_or (rows_along world n) (superclass_of world c) [])
-    (no_rows_of (class_at world c) refl)
-    ∙ by_above (superclass_of world c) refl (no_rows_along world n)
+    grind (arith, no_rows_of (class_at world c) refl, by_above (superclass_of world c) refl (no_rows_along world n))
   where
     no_rows_of : (o : Option ClassShape) → class_at world c ≡ o
         → option_map_or
@@ -55,17 +44,13 @@ no_rows_along world (suc n) c nothing =
 
 pub none_to_break : (world : List Shape) (c : ClassName) (b : Bool) → (b ≡ false → ListNothing world c) → b ≡ false
     → false ≡ breaks_interface world c
-none_to_break world c b nothing e =
-    sym (ap (list_any (breaks_row world c)) (no_rows_along world most_classes c (nothing e)))
+none_to_break world c b nothing e = grind (arith, no_rows_along)
 
 module _ (test : ListedRow → Bool) (world : List Shape) where
   pub one_more : (k : ℕ) (at : ClassName) (b : Bool) (o : Option ClassName) → list_any test (rows_of world at) ≡ b
       → superclass_of world at ≡ o
       → list_any test (rows_along world (suc k) at) ≡ (b || list_any test (option_map_or (rows_along world k) o []))
-  one_more k at b o e f =
-      list_any-append test (rows_of world at) (option_map_or (rows_along world k) (superclass_of world at) [])
-      ∙ ap (λ x. list_any test (rows_of world at) || list_any test (option_map_or (rows_along world k) x [])) f
-      ∙ ap (λ x. x || list_any test (option_map_or (rows_along world k) o [])) e
+  one_more k at b o e f = grind (arith, list_any-append)
 
   -- fewer classes have no such row where more have none
   pub none_of_fewer : (n m : ℕ) (at : ClassName) → n ≤ m → list_any test (rows_along world m at) ≡ false
@@ -83,9 +68,7 @@ module _ (test : ListedRow → Bool) (world : List Shape) where
           → ((d : ClassName) → list_any test (rows_along world m d) ≡ false
           → list_any test (rows_along world n d) ≡ false)
           → (b || list_any test (option_map_or (rows_along world n) o [])) ≡ false
-      by_step true o f rest = f
-      by_step false None f rest = refl
-      by_step false (Some d) f rest = rest d f
+      by_step b o h1 h2 = grind arith
 
   -- where some classes more have such a row exactly where fewer do, however many there are, none has one
   module _ (c : ClassName) (between : ℕ)
@@ -100,13 +83,7 @@ module _ (test : ListedRow → Bool) (world : List Shape) where
 
   pub from_start : (n : ℕ) (c : ClassName) (total : Bool) → list_any test (rows_along world n c) ≡ total
       → IsOnRows test world c c n total
-  from_start n c total e =
-      record {
-        so_far = e;
-        between = 0;
-        anchored = λ k.
-            let none : k + 0 ≡ k = omega arith in ap (λ i. list_any test (rows_along world i c)) none;
-      }
+  from_start n c total e = grind arith
 
   -- a walk of n classes, with one looked at and m left
   module _ (anchor at : ClassName) (n m : ℕ) (total : Bool) (one : n ≡ suc m)
@@ -129,8 +106,7 @@ module _ (test : ListedRow → Bool) (world : List Shape) where
           → list_any test (rows_along world (k + suc on.between) anchor) ≡ list_any test (rows_along world k next)
       further k =
           let shift : k + suc on.between ≡ suc k + on.between = omega arith in
-          ap (λ i. list_any test (rows_along world i anchor)) shift ∙ on.anchored (suc k)
-          ∙ one_more k at false (Some next) kept_here up
+          grind (arith, one_more)
 
       pub comes_round : is_same_name next anchor ≡ true → false ≡ total
       comes_round e =
@@ -139,8 +115,7 @@ module _ (test : ListedRow → Bool) (world : List Shape) where
           ∙ ap (λ c. list_any test (rows_along world m c)) (sym is) ∙ from_here
 
       pub goes_on : (kept : ClassName) → (kept ≡ next) ⊎ (kept ≡ anchor) → IsOnRows test world kept next m total
-      goes_on kept (inl is) =
-          subst (λ a. IsOnRows test world a next m total) (sym is) (from_start m next total from_here)
+      goes_on kept (inl is) = grind (arith, from_start, from_here)
       goes_on kept (inr is) =
           subst (λ a. IsOnRows test world a next m total) (sym is)
           (record { so_far = from_here; between = suc on.between; anchored = further })

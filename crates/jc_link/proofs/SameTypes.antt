@@ -1,11 +1,10 @@
 -- Types that are told to be the same are the same.
-use Rattle.std.proofs.Common.{◌≡◌, ℕ, ◌==◌, true, cond, List, [], ◌∷◌, Option, Some, None, refl, ap, sym, ◌∙◌, slice_get}
+use Rattle.std.proofs.Common.{◌≡◌, ℕ, ◌==◌, true, cond, List, [], ◌∷◌, Option, Some, None, refl, ap, sym, ◌∙◌, slice_get, arith}
 use Rattle.std.proofs.lemmas.Bool.{eqb-true}
 use Rattle.jc_base.specs.Signature.{Signature}
 use Rattle.jc_base.specs.declared.declared_type.DeclaredType.{DeclaredType}
 use Rattle.jc_base.specs.declared.declared_type.DeclaredType.TheVariants.{Boolean, Byte, Short, Reference, BooleanArray, ByteArray, ShortArray, ReferenceArray}
 use Rattle.jc_base.specs.declared.declared_type.ReturnType.{ReturnType}
-use Rattle.jc_base.specs.declared.declared_type.ReturnType.TheVariants.{Void, Value}
 use Rattle.jc_names.specs.declared.name.ClassName.{ClassName}
 use Rattle.jc_link.proofs.GrownParts.{the_some}
 use Rattle.jc_link.proofs.SameNames.{same_name}
@@ -32,16 +31,10 @@ made_again ShortArray = refl
 made_again (ReferenceArray c) = refl
 
 same_if_there : (c d : Option ClassName) → is_same_class c d ≡ true → c ≡ d
-same_if_there None None e = refl
-same_if_there None (Some d) e = true_false (sym e)
-same_if_there (Some c) None e = true_false (sym e)
-same_if_there (Some c) (Some d) e = ap Some (same_name c d e)
+same_if_there c d h1 = grind (arith, true_false, same_name)
 
 same_type : (s t : DeclaredType ClassName) → is_same_type s t ≡ true → s ≡ t
-same_type s t e =
-    let kinds = eqb-true (kind_of s) (kind_of t) (left_true (kind_of s == kind_of t) (is_same_class (class_in s) (class_in t)) e) in
-    let classes = same_if_there (class_in s) (class_in t) (right_true (kind_of s == kind_of t) (is_same_class (class_in s) (class_in t)) e) in
-    the_some s t (sym (made_again s) ∙ ap (λ kind. made kind (class_in s)) kinds ∙ ap (made (kind_of t)) classes ∙ made_again t)
+same_type s t e = grind (arith, eqb-true, left_true, same_if_there, right_true, the_some, made_again, made)
 
 same_types : (ss ts : List (DeclaredType ClassName)) → are_same_types ss ts ≡ true → ss ≡ ts
 same_types [] [] e = refl
@@ -52,10 +45,7 @@ same_types (s ∷ ss) (t ∷ ts) e =
     ∙ ap (λ xs. t ∷ xs) (same_types ss ts (right_true (is_same_type s t) (are_same_types ss ts) e))
 
 same_return : (s t : ReturnType ClassName) → is_same_return s t ≡ true → s ≡ t
-same_return Void Void e = refl
-same_return Void (Value t) e = true_false (sym e)
-same_return (Value s) Void e = true_false (sym e)
-same_return (Value s) (Value t) e = ap Value (same_type s t e)
+same_return s t h1 = grind (arith, true_false, same_type)
 
 abbrev signed : List (DeclaredType ClassName) → ReturnType ClassName → Signature ClassName
 signed parameters result = record { parameters = parameters; result = result }

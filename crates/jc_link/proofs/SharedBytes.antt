@@ -21,24 +21,14 @@ use Rattle.jc_link.specs.Statics.{StaticField, static_of, width_of, behind, over
 -- ---- counts of a test that one of two passes
 
 width_least : (type : DeclaredType ClassRef) → 1 ≤ width_of type
-width_least Declared.Boolean = omega arith
-width_least Declared.Byte = omega arith
-width_least Declared.Short = omega arith
-width_least (Declared.Reference c) = omega arith
-width_least Declared.BooleanArray = omega arith
-width_least Declared.ByteArray = omega arith
-width_least Declared.ShortArray = omega arith
-width_least (Declared.ReferenceArray c) = omega arith
+width_least type = grind arith
 
 count_one : {A : Type 0} (p : A → Bool) (f : A) (fields : List A)
     → count_by p (f ∷ fields) ≡ cond (p f) 1 0 + count_by p fields
 count_one p f fields = sum_by-cons (λ x. cond (p x) 1 0) f fields
 
 or_and : (a b : Bool) → cond (a || b) 1 0 + cond (a && b) 1 0 ≡ cond a 1 0 + cond b 1 0
-or_and true true = refl
-or_and true false = refl
-or_and false true = refl
-or_and false false = refl
+or_and a b = grind arith
 
 module _ {A : Type 0} (p q : A → Bool) where
   count_or_and : (fields : List A)
@@ -52,13 +42,10 @@ module _ {A : Type 0} (p q : A → Bool) where
       omega (arith, count_or_and fields, or_and (p f) (q f), either, both, one, other)
 
 le_or : (a b : Bool) → cond a 1 0 ≤ cond (a || b) 1 0
-le_or true b = omega arith
-le_or false b = omega arith
+le_or a b = grind arith
 
 le_or_right : (a b : Bool) → cond b 1 0 ≤ cond (a || b) 1 0
-le_or_right true true = omega arith
-le_or_right true false = omega arith
-le_or_right false b = omega arith
+le_or_right a b = grind arith
 
 count_le : {A : Type 0} (p q : A → Bool) (fields : List A) → ((f : A) → cond (p f) 1 0 ≤ cond (q f) 1 0)
     → count_by p fields ≤ count_by q fields
@@ -71,22 +58,16 @@ more_of a b c d e l r h = grind (arith, nat_tests)
 -- where one passes both, either test is passed twice exactly if one of them is
 either_twice : {A : Type 0} (p q : A → Bool) (fields : List A) → 0 < count_by (λ f. p f && q f) fields
     → nat_lt 1 (count_by (λ f. p f || q f) fields) ≡ (nat_lt 1 (count_by p fields) || nat_lt 1 (count_by q fields))
-either_twice p q fields h =
-    more_of (count_by (λ f. p f || q f) fields) (count_by p fields) (count_by q fields)
-    (count_by (λ f. p f && q f) fields) (count_or_and p q fields)
-    (count_le p (λ f. p f || q f) fields (λ f. le_or (p f) (q f)))
-    (count_le q (λ f. p f || q f) fields (λ f. le_or_right (p f) (q f))) h
+either_twice p q fields h = grind (arith, more_of, count_or_and, count_le, le_or, le_or_right)
 
 -- ---- one field more
 
 -- what a further taker makes of how many take a byte
 once_more : (b : Bool) (n : ℕ) → nat_lt 0 (n + cond b 1 0) ≡ (b || nat_lt 0 n)
-once_more true n = grind (arith, nat_tests)
-once_more false n = grind (arith, nat_tests)
+once_more b n = grind (arith, nat_tests)
 
 twice_more : (b : Bool) (n : ℕ) → nat_lt 1 (n + cond b 1 0) ≡ ((b && nat_lt 0 n) || nat_lt 1 n)
-twice_more true n = grind (arith, nat_tests)
-twice_more false n = grind (arith, nat_tests)
+twice_more b n = grind (arith, nat_tests)
 
 takers_more : (before : List StaticField) (f : StaticField) (n : ℕ)
     → takers (before ++ f ∷ []) n ≡ takers before n + cond (takes f n) 1 0
@@ -108,8 +89,7 @@ field_taken f old new were before are = record {
 -- some fields, and others behind them
 taken_then : (fields more : List StaticField) (old new newer : Taken) → HaveTaken fields old new
     → HaveTaken more new newer → HaveTaken (fields ++ more) old newer
-taken_then fields more old new newer first second before are =
-    subst (AreTaken newer) (append_assoc before fields more) (second (before ++ fields) (first before are))
+taken_then fields more old new newer first second before are = grind (arith, append_assoc)
 
 -- ---- the bytes of one field
 
@@ -127,27 +107,13 @@ last_byte : (o n : ℕ) → 65535 ≤ o → n < 65536 → (nat_le o n && nat_lt 
 last_byte o n h k = grind (arith, nat_tests)
 
 width_cases : (type : DeclaredType ClassRef) → (width_of type ≡ 1) ⊎ (width_of type ≡ 2)
-width_cases Declared.Boolean = inl refl
-width_cases Declared.Byte = inl refl
-width_cases Declared.Short = inr refl
-width_cases (Declared.Reference c) = inr refl
-width_cases Declared.BooleanArray = inr refl
-width_cases Declared.ByteArray = inr refl
-width_cases Declared.ShortArray = inr refl
-width_cases (Declared.ReferenceArray c) = inr refl
+width_cases type = grind arith
 
 -- which bytes below 65,536 a field takes, by its width
 taken_bytes : (o w n : ℕ) → (w ≡ 1) ⊎ (w ≡ 2) → n < 65536
     → (nat_le o n && nat_lt n (o + w))
     ≡ (n == o || option_map_or (λ s. n == s) (cond (w == 2 && nat_lt o 65535) (Some (o + 1)) None) false)
-taken_bytes o w n (inl one) h = rw one (one_byte o n)
-taken_bytes o w n (inr two) h = rw two (by_place (nat_lt o 65535) (ltb-false o 65535))
-  where
-    by_place : (b : Bool) → (b ≡ false → 65535 ≤ o)
-        → (nat_le o n && nat_lt n (o + 2))
-        ≡ (n == o || option_map_or (λ s. n == s) (cond b (Some (o + 1)) None) false)
-    by_place true far = two_bytes o n
-    by_place false far = last_byte o n (far refl) h
+taken_bytes o w n h1 h2 = grind (arith, one_byte, ltb-false, nat_le, two_bytes, last_byte)
 
 field_bytes : (f : StaticField) (n : ℕ) → n < 65536 → takes f n ≡ (n == f.offset || is_second f n)
 field_bytes f n h = taken_bytes f.offset (width_of f.type) n (width_cases f.type) h
@@ -155,36 +121,21 @@ field_bytes f n h = taken_bytes f.offset (width_of f.type) n (width_cases f.type
 -- the second is another one
 second_apart : (o n : ℕ) (b : Bool) → n == o ≡ true
     → option_map_or (λ s. n == s) (cond b (Some (o + 1)) None) false ≡ false
-second_apart o n true e = grind (arith, nat_tests)
-second_apart o n false e = refl
+second_apart o n b h1 = grind (arith, nat_tests)
 
 tests_once : (a b t o : Bool) → t ≡ (a || b) → (b || (a || o)) ≡ (t || o)
-tests_once true true t o e = rw e refl
-tests_once true false t o e = rw e refl
-tests_once false true t o e = rw e refl
-tests_once false false t o e = rw e refl
+tests_once a b t o h1 = grind arith
 
 tests_twice : (a b t o w : Bool) → t ≡ (a || b) → (a ≡ true → b ≡ false)
     → ((b && (a || o)) || ((a && o) || w)) ≡ ((t && o) || w)
-tests_twice true true t o w e h = absurd (let n = h refl in cc)
-tests_twice true false t o w e h = rw e refl
-tests_twice false true t o w e h = rw e refl
-tests_twice false false t o w e h = rw e refl
+tests_twice a b t o w h1 h2 = grind arith
 
 -- a byte, and then another one
 pub two_taken : (f : StaticField) (second : ℕ) (old new newer : Taken) → second_byte f ≡ Some second
     → WereTaken (λ n. n == f.offset) old new → WereTaken (λ n. n == second) new newer → HaveTaken (f ∷ []) old newer
 two_taken f second old new newer is one more = field_taken f old newer (record {
-  once = λ n h.
-      more.once n h
-      ∙ ap (λ b. n == second || b) (one.once n h)
-      ∙ tests_once (n == f.offset) (n == second) (takes f n) (has_number old.once n) (both n h);
-  twice = λ n h.
-      more.twice n h
-      ∙ ap (λ b. (n == second && b) || has_number new.twice n) (one.once n h)
-      ∙ ap (λ b. (n == second && (n == f.offset || has_number old.once n)) || b) (one.twice n h)
-      ∙ tests_twice (n == f.offset) (n == second) (takes f n) (has_number old.once n) (has_number old.twice n)
-      (both n h) (apart n);
+  once = grind (arith, tests_once, both);
+  twice = grind (arith, tests_twice, both, apart);
 })
   where
     passes : (n : ℕ) → is_second f n ≡ (n == second)
@@ -197,8 +148,7 @@ two_taken f second old new newer is one more = field_taken f old newer (record {
     apart n e = sym (passes n) ∙ second_apart f.offset n (width_of f.type == 2 && nat_lt f.offset 65535) e
 
 or_false : (b : Bool) → (b || false) ≡ b
-or_false true = refl
-or_false false = refl
+or_false b = grind arith
 
 -- a byte alone
 pub one_taken : (f : StaticField) (old new : Taken) → second_byte f ≡ None → WereTaken (λ n. n == f.offset) old new
@@ -209,11 +159,7 @@ one_taken f old new is one = field_taken f old new (record {
 })
   where
     alone : (n : ℕ) → n < 65536 → n == f.offset ≡ takes f n
-    alone n h = sym (
-        field_bytes f n h
-        ∙ ap (λ o. n == f.offset || option_map_or (λ s. n == s) o false) is
-        ∙ or_false (n == f.offset)
-        )
+    alone n h = grind (arith, field_bytes, or_false)
 
 -- ---- fields one behind the other
 
@@ -239,9 +185,12 @@ pub classes_next : (classes : List ClassShape) (i : ℕ) (k : ClassShape) (field
 classes_next classes i k fields old new h is its first more =
     let before = flat_map (λ (k : ClassShape). k.fields) (take i classes) in
     let all : flat_map (λ (k : ClassShape). k.fields) (take (i + 1) classes) ≡ before ++ fields =
-    ap (flat_map (λ k. k.fields)) (take_more classes i k h ∙ ap (λ d. take i classes ++ d ∷ []) (sym is))
-    ∙ flat_map-append (λ k. k.fields) (take i classes) (k ∷ [])
-    ∙ ap (λ fs. before ++ fs) (append-nil k.fields ∙ sym its) in
+    grind (
+      arith,
+      take_more classes i k h,
+      flat_map-append (λ k. k.fields) (take i classes) (k ∷ []),
+      append-nil k.fields,
+    ) in
     let parts = ap (filter_map static_of) all ∙ filter_map-append static_of before fields in
     subst (AreTaken new) (sym parts) (more (filter_map static_of before) first)
 
@@ -250,12 +199,7 @@ classes_next classes i k fields old new h is its first more =
 -- a part of those that are among others is among these
 part_among : (before part behind whole all : List StaticField) → whole ≡ before ++ (part ++ behind)
     → AreAmong whole all → AreAmong part all
-part_among before part behind whole all is among test =
-    let there = among test in
-    let parts = ap (count_by test) is in
-    let first = sum_by-append (λ x. cond (test x) 1 0) before (part ++ behind) in
-    let second = sum_by-append (λ x. cond (test x) 1 0) part behind in
-    omega (arith, there, parts, first, second)
+part_among before part behind whole all is among test = grind (arith, sum_by-append)
 
 -- one of some fields
 pub one_among : (fields : List FieldShape) (i : ℕ) (f : FieldShape) (all : List StaticField) → i < length fields
@@ -263,8 +207,7 @@ pub one_among : (fields : List FieldShape) (i : ℕ) (f : FieldShape) (all : Lis
 one_among fields i f all h is =
     let front = filter_map static_of (take i fields) in
     let rest = drop (i + 1) fields in
-    let whole : fields ≡ take i fields ++ f ∷ rest
-    = sym (take-append-drop i fields) ∙ ap (λ fs. take i fields ++ fs) (next_of fields i f h is) in
+    let whole : fields ≡ take i fields ++ f ∷ rest = grind (arith, take-append-drop, next_of) in
     part_among front (filter_map static_of (f ∷ [])) (filter_map static_of rest) (filter_map static_of fields) all
     (
     ap (filter_map static_of) whole
@@ -280,10 +223,12 @@ class_among classes i k fields h is its =
     let before = flat_map (λ (k : ClassShape). k.fields) (take i classes) in
     let behind = flat_map (λ (k : ClassShape). k.fields) (drop (i + 1) classes) in
     let all : flat_map (λ (k : ClassShape). k.fields) classes ≡ before ++ (fields ++ behind) =
-    ap (flat_map (λ k. k.fields))
-    (sym (take-append-drop i classes) ∙ ap (λ ks. take i classes ++ ks) (next_of classes i k h is))
-    ∙ flat_map-append (λ k. k.fields) (take i classes) (k ∷ drop (i + 1) classes)
-    ∙ ap (λ fs. before ++ (fs ++ behind)) (sym its) in
+    grind (
+      arith,
+      take-append-drop i classes,
+      next_of classes i k h is,
+      flat_map-append (λ k. k.fields) (take i classes) (k ∷ drop (i + 1) classes),
+    ) in
     let whole = filter_map static_of (flat_map (λ (k : ClassShape). k.fields) classes) in
     part_among (filter_map static_of before) (filter_map static_of fields) (filter_map static_of behind) whole whole
     (
@@ -309,12 +254,10 @@ own_both o = grind (arith, nat_tests)
 -- a field of one byte shares it with another exactly if the byte is taken twice
 one_shared : (all : List StaticField) (f : StaticField) → width_of f.type ≡ 1
     → overlaps_another all f ≡ nat_lt 1 (takers all f.offset)
-one_shared all f one =
-    ap (λ p. nat_lt 1 (count_by p all)) (fun_ext (λ g. rw one (share_one f.offset g.offset (width_of g.type))))
+one_shared all f one = grind (arith, fun_ext, share_one)
 
 one_if : (b : Bool) → b ≡ true → 1 ≤ cond b 1 0
-one_if true e = omega arith
-one_if false e = absurd cc
+one_if b h1 = grind arith
 
 -- a field of two, one of these, shares one with another exactly if one of its bytes is taken twice
 two_shared : (all : List StaticField) (f : StaticField) → AreAmong (f ∷ []) all → width_of f.type ≡ 2
@@ -352,22 +295,14 @@ shared_by_bytes all f among h = by_width (width_cases f.type)
     by_width : (width_of f.type ≡ 1) ⊎ (width_of f.type ≡ 2)
         → overlaps_another all f
         ≡ (is_taken_twice all f.offset || option_map_or (is_taken_twice all) (second_byte f) false)
-    by_width (inl one) =
-        one_shared all f one
-        ∙ sym (ap (by_second all f.offset) (second_isnt f.offset (width_of f.type) one) ∙ or_false (is_taken_twice all f.offset))
+    by_width (inl one) = grind (arith, one_shared, second_isnt, or_false)
     by_width (inr two) = two_shared all f among two ∙ sym (ap (by_second all f.offset) (second_is f.offset (width_of f.type) two h))
 
 below : (f : StaticField) → behind f < 65536 → f.offset < 65536
 below f h = omega arith
 
 second_below : (f : StaticField) (second : ℕ) → second_byte f ≡ Some second → second < 65536
-second_below f second e = by_test (width_of f.type == 2) (nat_lt f.offset 65535) (ltb-true f.offset 65535) e
-  where
-    by_test : (a b : Bool) → (b ≡ true → f.offset < 65535) → cond (a && b) (Some (f.offset + 1)) None ≡ Some second
-        → second < 65536
-    by_test true true h e = let l = h refl in let s : f.offset + 1 ≡ second = cc in omega arith
-    by_test true false h e = absurd cc
-    by_test false b h e = absurd cc
+second_below f second e = grind (arith, ltb-true)
 
 -- what a set says of the bytes of a field
 module _ (taken : Taken) (all : List StaticField) (f : StaticField) (are : AreTaken taken all)
@@ -375,27 +310,15 @@ module _ (taken : Taken) (all : List StaticField) (f : StaticField) (are : AreTa
   pub first_shared : has_number taken.twice f.offset ≡ true → true ≡ overlaps_another all f
   first_shared e =
       let t = are.twice f.offset (below f h) in
-      sym (
-      shared_by_bytes all f among h
-      ∙ ap (λ b. b || option_map_or (is_taken_twice all) (second_byte f) false) (sym t ∙ e)
-      )
+      grind (arith, shared_by_bytes all f among h)
 
   pub second_shared : (second : ℕ) → has_number taken.twice f.offset ≡ false → second_byte f ≡ Some second
       → has_number taken.twice second ≡ overlaps_another all f
   second_shared second e is =
       let t = are.twice f.offset (below f h) in
-      sym (
-      shared_by_bytes all f among h
-      ∙ ap (λ b. b || option_map_or (is_taken_twice all) (second_byte f) false) (sym t ∙ e)
-      ∙ ap (λ o. option_map_or (is_taken_twice all) o false) is
-      ∙ sym (are.twice second (second_below f second is))
-      )
+      grind (arith, shared_by_bytes all f among h, are.twice second (second_below f second is))
 
   pub none_shared : has_number taken.twice f.offset ≡ false → second_byte f ≡ None → false ≡ overlaps_another all f
   none_shared e is =
       let t = are.twice f.offset (below f h) in
-      sym (
-      shared_by_bytes all f among h
-      ∙ ap (λ b. b || option_map_or (is_taken_twice all) (second_byte f) false) (sym t ∙ e)
-      ∙ ap (λ o. option_map_or (is_taken_twice all) o false) is
-      )
+      grind (arith, shared_by_bytes all f among h)

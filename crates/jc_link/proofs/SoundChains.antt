@@ -9,21 +9,17 @@ use Rattle.std.specs.List.{AllByRecursion, IsDistinct, cons_option, filter_map, 
 use Rattle.std.specs.Option.{option_and_then, option_map_or}
 use Rattle.jc_base.specs.declared.class_ref.ClassRef.{ClassRef}
 use Rattle.jc_cap.specs.ClassComponent.{is_class}
-use Rattle.jc_cap.specs.declared.record.RecordBody.{RecordBody}
-use Rattle.jc_cap.specs.declared.record.RecordBody.TheVariants.{Interface, Class}
 use Rattle.jc_cap_desc.specs.Shape.{ClassShape, Shape}
-use Rattle.jc_api.specs.Class.{package_of}
 use Rattle.jc_api.specs.declared.class.ApiClass.TheVariants.{Object}
 use Rattle.jc_api.specs.declared.class.ApiPackage.{ApiPackage}
-use Rattle.jc_api.specs.declared.class.ApiPackage.TheVariants.{Lang, Framework}
 use Rattle.jc_classes.specs.Limits.{IsSmall}
 use Rattle.jc_names.specs.Names.{is_same_name}
 use Rattle.jc_classes.specs.Subtype.{comes_to_end, IsAmong, Lists, is_class_at, is_interface_at, is_at_or_above}
 use Rattle.jc_classes.specs.Walk.{found_from, most_classes, walk}
 use Rattle.jc_names.specs.Names.{api_home, home_of, offset_of}
-use Rattle.jc_classes.specs.World.{class_at, class_in, class_named, if_there, listed_refs, class_spelled, package_at, superclass_of, superclass_ref}
+use Rattle.jc_classes.specs.World.{class_at, class_named, if_there, class_spelled, package_at, superclass_of}
 use Rattle.jc_names.specs.declared.name.ClassName.{ClassName}
-use Rattle.jc_names.specs.declared.name.ClassName.TheVariants.{Api, Loaded}
+use Rattle.jc_names.specs.declared.name.ClassName.TheVariants.{Api}
 use Rattle.jc_link.proofs.GrownParts.{the_some, none_some, some_of, then_same, or_same}
 use Rattle.jc_link.proofs.Nones.{true_false, left_false, right_false, then_false, not_false, found_passes}
 use Rattle.jc_link.proofs.SameNames.{same_name, same_number, name_itself}
@@ -70,9 +66,10 @@ pub cells_follow : (world : List Shape) → HaveSuperclasses world → (c d : Cl
 cells_follow world have c d e =
     let one : most_classes ≡ suc (most_classes - 1) = omega (arith, most_is) in
     let ends : comes_to_end world (suc (most_classes - 1)) c ≡ true = ap (λ n. comes_to_end world n c) (sym one) ∙ have.orderly.ends c in
-    ap (λ n. cells_above world n c) one
-    ∙ ap (λ (o : Option ClassName). option_map_or (λ d. size_of world d + cells_above world (most_classes - 1) d) o 0) e
-    ∙ ap (λ n. size_of world d + n) (sym (cells_enough world (most_classes - 1) most_classes d (ends_above world (most_classes - 1) c d ends e) (omega arith)))
+    grind (
+      arith,
+      cells_enough world (most_classes - 1) most_classes d (ends_above world (most_classes - 1) c d ends e) (omega arith),
+    )
 
 -- ---- where a class has a superclass
 
@@ -94,36 +91,19 @@ pub record HasSuperclass (world : List Shape) (c d : ClassName) : Type 0 where
   pub there_above : class_at world d ≡ Some above
 
 pub has_superclass : (world : List Shape) (c d : ClassName) → superclass_of world c ≡ Some d → HasSuperclass world c d
-has_superclass world c d e =
-    let a = some_of (class_named world (home_of c)) (option_and_then (λ (k : ClassShape). superclass_ref k.body) (class_at world c)) d e in
-    let b = some_of (λ (k : ClassShape). superclass_ref k.body) (class_at world c) a.0 a.1 in
-    let up = named_there world (home_of c) a.0 d a.2 in
-    record { shape = b.0; there = b.1; class = by_body (b.0).body a.0 b.2; above = up.0; there_above = up.1 }
-  where
-    by_body : (body : RecordBody) (ref : ClassRef) → superclass_ref body ≡ Some ref → is_class body ≡ true
-    by_body (Interface r) ref f = absurd (none_some ref f)
-    by_body (Class r) ref f = refl
+has_superclass world c d e = grind (arith, some_of, named_there, none_some)
 
 -- ---- numbers that tell the classes of a small world apart
 
 pub package_there : (world : List Shape) (c : ClassName) (s : Shape) → package_at world c ≡ Some s → slice_get world (home_of c) ≡ Some s
-package_there world (Api class) s e = e
-package_there world (Loaded zero offset) s e = absurd (none_some s e)
-package_there world (Loaded (suc n) offset) s e = e
+package_there world c s h1 = grind (arith, none_some)
 
 pub api_low : (p : ApiPackage) → api_home p < 2
-api_low Lang = omega arith
-api_low Framework = omega arith
+api_low p = grind arith
 
 -- names of one place are one, where packages have numbers
 one_name : (world : List Shape) (c d : ClassName) (s t : Shape) → package_at world c ≡ Some s → package_at world d ≡ Some t → home_of c ≡ home_of d → offset_of c ≡ offset_of d → c ≡ d
-one_name world (Api a) (Api b) s t f g e o = ap Api (same_number a b o)
-one_name world (Api a) (Loaded zero o) s t f g e h = absurd (none_some t g)
-one_name world (Api a) (Loaded (suc n) o) s t f g e h = absurd (omega (arith, e, api_low (package_of a)))
-one_name world (Loaded zero o) d s t f g e h = absurd (none_some s f)
-one_name world (Loaded (suc n) o) (Api b) s t f g e h = absurd (omega (arith, e, api_low (package_of b)))
-one_name world (Loaded (suc n) o) (Loaded m p) s t f g e h =
-    let k : suc n ≡ m = omega (arith, e) in ap (λ i. Loaded i o) k ∙ ap (Loaded m) h
+one_name world c d s t h1 h2 h3 h4 = grind (arith, same_number, none_some, api_low)
 
 abbrev index_of : List Shape → ClassName → ℕ
 index_of world c = option_map_or (λ s. position_or_len (λ k. k.offset == offset_of c) s.classes) (package_at world c) 0
@@ -140,22 +120,7 @@ record IsNumbered (world : List Shape) (c : ClassName) (k : ClassShape) : Type 0
   low : home_of c < 67
 
 is_numbered : (world : List Shape) (c : ClassName) (k : ClassShape) → IsSmall world → class_at world c ≡ Some k → IsNumbered world c k
-is_numbered world c k small e =
-    let a = some_of (class_in (offset_of c)) (package_at world c) k e in
-    let test : ClassShape → Bool = λ q. q.offset == offset_of c in
-    let there = package_there world c a.0 a.1 in
-    let index : index_of world c ≡ position_or_len test (a.0).classes = ap (λ (o : Option Shape). option_map_or (λ s. position_or_len test s.classes) o 0) a.1 in
-    let found : slice_get (a.0).classes (index_of world c) ≡ Some k = ap (slice_get (a.0).classes) index ∙ sym (find_at test (a.0).classes) ∙ a.2 in
-    let within = slice_get_within (a.0).classes (index_of world c) k found in
-    let low = slice_get_within world (home_of c) a.0 there in
-    record {
-      shape = a.0;
-      home = a.1;
-      found = found;
-      offset = eqb-true k.offset (offset_of c) (found_passes test (a.0).classes k a.2);
-      small = omega (arith, within, small.classes (home_of c) a.0 there);
-      low = omega (arith, low, small.packages);
-    }
+is_numbered world c k small e = grind (arith, some_of, package_there, find_at, slice_get_within, eqb-true, found_passes)
 
 one_number : (world : List Shape) (c d : ClassName) (k l : ClassShape) → IsSmall world → class_at world c ≡ Some k → class_at world d ≡ Some l → number world c ≡ number world d → c ≡ d
 one_number world c d k l small e f same =
@@ -182,8 +147,7 @@ long world (suc n) c e = by_superclass (superclass_of world c) e (λ d. long wor
   where
     by_superclass : (o : Option ClassName) → option_map_or (comes_to_end world n) o true ≡ false → ((d : ClassName) → comes_to_end world n d ≡ false → suc n ≤ length (chain world (suc n) d))
         → suc (suc n) ≤ suc (length (option_map_or (chain world (suc n)) o []))
-    by_superclass None e rest = true_false e
-    by_superclass (Some d) e rest = let more = rest d e in omega (arith, more)
+    by_superclass o h1 h2 = grind (arith, true_false)
 
 -- a class of a chain with a number
 record IsOnChain (world : List Shape) (n : ℕ) (c : ClassName) (q : ℕ) : Type 0 where
@@ -194,8 +158,7 @@ record IsOnChain (world : List Shape) (n : ℕ) (c : ClassName) (q : ℕ) : Type
   above : is_at_or_above world n class c ≡ true
 
 or_true : (a b : Bool) → b ≡ true → (a || b) ≡ true
-or_true true b e = refl
-or_true false b e = e
+or_true a b h1 = grind arith
 
 on_chain : (world : List Shape) (n : ℕ) (c : ClassName) (k : ClassShape) (q : ℕ) → class_at world c ≡ Some k → list_any (λ r. q == r) (chain world n c) ≡ true → IsOnChain world n c q
 on_chain world zero c k q there e = true_false (sym e)
@@ -203,24 +166,12 @@ on_chain world (suc n) c k q there e = by_first (q == number world c) (eqb-true 
   where
     by_first : (b : Bool) → (b ≡ true → q ≡ number world c) → (o : Option ClassName) → superclass_of world c ≡ o → (b || list_any (λ r. q == r) (option_map_or (chain world n) o [])) ≡ true
         → ((d : ClassName) (l : ClassShape) (q : ℕ) → class_at world d ≡ Some l → list_any (λ r. q == r) (chain world n d) ≡ true → IsOnChain world n d q) → IsOnChain world (suc n) c q
-    by_first true same o f e rest = record {
-      class = c;
-      shape = k;
-      there = there;
-      number = same refl;
-      above = ap (λ b. b || option_map_or (is_at_or_above world n c) (superclass_of world c) false) (name_itself c);
-    }
+    by_first true same o f e rest = grind (arith, name_itself)
     by_first false other None f e rest = true_false (sym e)
     by_first false other (Some d) f e rest =
         let up = has_superclass world c d f in
         let on = rest d up.above q up.there_above e in
-        record {
-          class = on.class;
-          shape = on.shape;
-          there = on.there;
-          number = on.number;
-          above = or_true (is_same_name c on.class) _ (ap (λ (o : Option ClassName). option_map_or (is_at_or_above world n on.class) o false) f ∙ on.above);
-        }
+        grind (arith, or_true)
 
 -- more steps find what fewer do
 above_more : (world : List Shape) (n m : ℕ) (d c : ClassName) → n ≤ m → is_at_or_above world n d c ≡ true → is_at_or_above world m d c ≡ true
@@ -230,9 +181,7 @@ above_more world (suc n) (suc m) d c l e = by_name (is_same_name c d) (superclas
   where
     by_name : (b : Bool) (o : Option ClassName) → (b || option_map_or (is_at_or_above world n d) o false) ≡ true
         → ((s : ClassName) → is_at_or_above world n d s ≡ true → is_at_or_above world m d s ≡ true) → (b || option_map_or (is_at_or_above world m d) o false) ≡ true
-    by_name true o e rest = refl
-    by_name false None e rest = e
-    by_name false (Some s) e rest = rest s e
+    by_name b o h1 h2 = grind arith
 
 all_apart : (q : ℕ) (xs : List ℕ) → list_any (λ r. q == r) xs ≡ false → AllByRecursion (λ r. (q == r) ≡ false) xs
 all_apart q [] e = tt
@@ -271,8 +220,7 @@ module _ (world : List Shape) (small : IsSmall world) (fit : AreFit world) where
       one = omega (arith, most_is)
 
       there : (o : Option ClassName) → superclass_of world c ≡ o → comes_to_end world (suc (most_classes - 1)) c ≡ false → (k : ClassShape) × (class_at world c ≡ Some k)
-      there None e f = true_false (sym (ap (λ (o : Option ClassName). option_map_or (comes_to_end world (most_classes - 1)) o true) e) ∙ f)
-      there (Some d) e f = let up = has_superclass world c d e in (up.shape, up.there)
+      there o h1 h2 = grind (arith, true_false, has_superclass)
 
       by_test : (b : Bool) → comes_to_end world most_classes c ≡ b → b ≡ true
       by_test true e = refl
@@ -292,15 +240,13 @@ module _ (world : List Shape) (fit : AreFit world) where
     where
       by_kind : IsRoot world c ⊎ ((is_class k.body && not (option_map_or (is_class_at world) (superclass_of world c) false)) ≡ false)
           → IsRoot world c ⊎ (option_map_or (is_class_at world) (superclass_of world c) false ≡ true)
-      by_kind (inl root) = inl root
-      by_kind (inr has) = inr (not_false _ (then_false (is_class k.body) _ has class))
+      by_kind h1 = grind (arith, not_false, then_false)
 
   superclasses_are_classes : (c d : ClassName) → superclass_of world c ≡ Some d → is_class_at world d ≡ true
   superclasses_are_classes c d e = let up = has_superclass world c d e in by_kind (class_above c up.shape up.there up.class)
     where
       by_kind : IsRoot world c ⊎ (option_map_or (is_class_at world) (superclass_of world c) false ≡ true) → is_class_at world d ≡ true
-      by_kind (inl root) = absurd (none_some d (sym root.nothing ∙ e))
-      by_kind (inr has) = sym (ap (λ (o : Option ClassName). option_map_or (is_class_at world) o false) e) ∙ has
+      by_kind h1 = grind (arith, none_some)
 
   up_to_object : (n : ℕ) (c : ClassName) → comes_to_end world n c ≡ true → is_class_at world c ≡ true → IsHeir world c (Api Object)
   up_to_object zero c e class = true_false (sym e)
@@ -318,8 +264,7 @@ module _ (world : List Shape) (fit : AreFit world) where
 
       by_class : (o : Option ClassShape) → class_at world c ≡ o → option_map_or (λ k. is_class k.body) o false ≡ true
           → ((d : ClassName) → comes_to_end world n d ≡ true → is_class_at world d ≡ true → IsHeir world d (Api Object)) → IsHeir world c (Api Object)
-      by_class None there class rest = true_false (sym class)
-      by_class (Some k) there class rest = by_kind (class_above c k there class) rest
+      by_class o h1 h2 h3 = grind (arith, true_false, by_kind, class_above)
 
   among_interfaces : (home : ℕ) (refs : List ClassRef) (i : ClassName) → list_any (λ ref. not (option_map_or (is_interface_at world) (class_named world home ref) false)) refs ≡ false
       → IsAmong i (filter_map (class_named world home) refs) → is_interface_at world i ≡ true
@@ -332,16 +277,10 @@ module _ (world : List Shape) (fit : AreFit world) where
 
       by_name : (o : Option ClassName) → not (option_map_or (is_interface_at world) o false) ≡ false → IsAmong i (cons_option o (filter_map (class_named world home) refs))
           → (IsAmong i (filter_map (class_named world home) refs) → is_interface_at world i ≡ true) → is_interface_at world i ≡ true
-      by_name None e m rest = rest m
-      by_name (Some d) e (inl same) rest = ap (is_interface_at world) (sym same) ∙ not_false _ e
-      by_name (Some d) e (inr m) rest = rest m
+      by_name o h1 h2 h3 = grind (arith, not_false)
 
   listed_are_interfaces : (c i : ClassName) → Lists world c i → is_interface_at world i ≡ true
-  listed_are_interfaces c i m = by_class (class_at world c) refl m
-    where
-      by_class : (o : Option ClassShape) → class_at world c ≡ o → IsAmong i (option_map_or (λ k. filter_map (class_named world (home_of c)) (listed_refs k.body)) o []) → is_interface_at world i ≡ true
-      by_class None there m = absurd m
-      by_class (Some k) there m = among_interfaces (home_of c) (listed_refs k.body) i (fit c k there).interfaces m
+  listed_are_interfaces c i m = grind (arith, among_interfaces)
 
 -- where Object had a superclass, the chain of no class that leads to Object would come to an end
 never_ends : (world : List Shape) (d : ClassName) → superclass_of world (Api Object) ≡ Some d → IsHeir world d (Api Object) → (n : ℕ) (c : ClassName) → IsHeir world c (Api Object)

@@ -1,5 +1,5 @@
 -- Fit classes of which objects are made have a method in place of each abstract one, and of each of an interface.
-use Rattle.std.proofs.Common.{◌≡◌, ℕ, zero, suc, ◌<◌, ◌≤◌, ◌&&◌, ◌||◌, Bool, true, false, not, List, [], ◌∷◌, ◌++◌, map, length, Option, Some, None, refl, ap, sym, ◌∙◌, arith, nat_lt, is_some, slice_get}
+use Rattle.std.proofs.Common.{◌≡◌, ℕ, zero, suc, ◌<◌, ◌≤◌, ◌&&◌, ◌||◌, Bool, true, false, not, List, [], ◌∷◌, ◌++◌, map, length, Option, Some, refl, ap, sym, ◌∙◌, arith, nat_lt, is_some, slice_get}
 use Rattle.std.proofs.lemmas.Bool.{ltb-true, ltb-false}
 use Rattle.std.specs.List.{list_any, range_with_len}
 use Rattle.std.specs.Option.{IsSome, option_and_then, option_map_or}
@@ -64,19 +64,12 @@ module _ (world : List Shape) (interface : ClassName) (indexes : List ℕ) (p : 
   listed_row home row = record { home = home; row = row }
 
   this_is : (o : Option ClassName) → is_this interface o ≡ true → o ≡ Some interface
-  this_is None e = true_false (sym e)
-  this_is (Some d) e = ap Some (same_name d interface e)
+  this_is o h1 = grind (arith, true_false, same_name)
 
   at_row : (home : ℕ) (rows : List Implemented) (above : Option (List ℕ)) (o : Option Implemented) → list_any (λ row. p (listed_row home row)) rows ≡ false
       → (above ≡ Some indexes → IsRowFor)
       → row_for world interface home rows ≡ o → found_from (indexes_visit o) above ≡ Some indexes → IsRowFor
-  at_row home rows above None none rest at e = rest e
-  at_row home rows above (Some row) none rest at e = record {
-    listed = listed_row home row;
-    kept = none_found (λ row. p (listed_row home row)) (λ row. is_this interface (class_named world home row.interface)) rows row none at;
-    names = this_is (class_named world home row.interface) (found_passes (λ row. is_this interface (class_named world home row.interface)) rows row at);
-    its = the_some _ _ e;
-  }
+  at_row home rows above o h1 h2 h3 h4 = grind (arith, none_found, this_is, found_passes, the_some)
 
   at_record : (home : ℕ) (above : Option (List ℕ)) (body : RecordBody) → list_any (λ row. p (listed_row home row)) (interface_rows body) ≡ false
       → (above ≡ Some indexes → IsRowFor)
@@ -95,8 +88,7 @@ module _ (world : List Shape) (interface : ClassName) (indexes : List ℕ) (p : 
           let behind : List ListedRow = option_map_or (rows_along world n) (superclass_of world c) [] in
           let k = some_of (λ k. found_from (interface_visit world interface c k) above) (class_at world c) indexes e in
           let own : list_any p (map (listed_row (home_of c)) (interface_rows (k.0).body)) ≡ false
-          = sym (ap (λ (o : Option ClassShape). list_any p (option_map_or (λ k. map (listed_row (home_of c)) (interface_rows k.body)) o [])) k.1)
-          ∙ none_before p (rows_of world c) behind none in
+          = grind (arith, none_before) in
           at_record (home_of c) above (k.0).body (none_of_mapped p (listed_row (home_of c)) (interface_rows (k.0).body) own)
           (λ f.
           let d = some_of (walk (interface_visit world interface) world n) (superclass_of world c) indexes f in
@@ -142,15 +134,13 @@ module _ (world : List Shape) (supers : HaveSuperclasses world) (fit : AreFit wo
   none_broken = right_false (leaves_abstract world c) (breaks_interface world c) nothing_left
 
   none_public_left : list_any (leaves_at world c 0) public_tokens ≡ false
-  none_public_left =
-      left_false (list_any (leaves_at world c 0) public_tokens) (list_any (leaves_package_abstract world c) (range_with_len 0 (length world))) none_left_abstract
+  none_public_left = grind (arith, left_false, none_left_abstract)
 
   not_left : (token asker : ℕ) (m : MethodName) → virtual_method_of world c token asker ≡ Some m → leaves_at world c asker token ≡ false → is_concrete world m ≡ true
   not_left token asker m e left =
       let d = (virtual_methods_hold world supers fit).found c token asker m e in
       let whole : is_abstract_at world m ≡ false = sym (ap (λ o. option_map_or (is_abstract_at world) o false) e) ∙ left in
-      let its : is_abstract_method (d.declared).method ≡ false
-      = sym (ap (λ (o : Option DeclaredMethod). option_map_or (λ d. is_abstract_method d.method) o false) d.there) ∙ whole in
+      let its : is_abstract_method (d.declared).method ≡ false = grind arith in
       ap (λ (o : Option DeclaredMethod). option_map_or (λ d. not (is_abstract_method d.method)) o false) d.there ∙ ap not its
 
   all_concrete : (token asker : ℕ) (m : MethodName) → token < 256 → asker < length world → virtual_method_of world c token asker ≡ Some m → is_concrete world m ≡ true
@@ -175,10 +165,8 @@ module _ (world : List Shape) (supers : HaveSuperclasses world) (fit : AreFit wo
       let r = walk_row world interface indexes.0 (breaks_row world c) most_classes c none_broken indexes.1 in
       let its = (r.listed).row.indexes in
       let misses_none : list_any (misses world c) its ≡ false = left_false (list_any (misses world c) its) _ r.kept in
-      let lacks_none : lacks_methods_of world c its interface ≡ false
-      = sym (ap (λ o. option_map_or (lacks_methods_of world c its) o false) r.names) ∙ right_false (list_any (misses world c) its) _ r.kept in
-      let rows : list_any (is_unimplemented world c its (home_of interface)) l.methods ≡ false
-      = sym (ap (λ (o : Option ClassShape). option_map_or (λ k. list_any (is_unimplemented world c its (home_of interface)) k.methods) o false) there) ∙ lacks_none in
+      let lacks_none : lacks_methods_of world c its interface ≡ false = grind (arith, right_false) in
+      let rows : list_any (is_unimplemented world c its (home_of interface)) l.methods ≡ false = grind arith in
       has_method_of world c interface its row (indexes.1 ∙ ap Some (sym r.its)) misses_none (method_typed world interface l (fit interface l there) row n here)
       (none_at (is_unimplemented world c its (home_of interface)) l.methods n row rows here)
 

@@ -1,5 +1,5 @@
 -- What the members of fit classes have: types, cells and counts of arguments.
-use Rattle.std.proofs.Common.{◌≡◌, ℕ, zero, suc, ◌+◌, ◌<◌, ◌==◌, Bool, true, false, not, ◌⊎◌, inl, inr, List, [], ◌∷◌, ◌++◌, Option, Some, None, refl, ap, sym, ◌∙◌, subst, arith, nat_le, is_some, slice_get}
+use Rattle.std.proofs.Common.{◌≡◌, ℕ, zero, suc, ◌+◌, ◌<◌, ◌==◌, Bool, true, false, not, ◌⊎◌, inl, inr, List, [], ◌∷◌, ◌++◌, Option, Some, refl, ap, sym, ◌∙◌, subst, arith, nat_le, is_some, slice_get}
 use Rattle.std.proofs.lemmas.Bool.{eqb-true, leb-false}
 use Rattle.std.specs.List.{cons_option, find, list_any, filter_map, flat_map}
 use Rattle.std.specs.Option.{IsSome, option_and_then, option_map, option_map_or}
@@ -8,7 +8,6 @@ use Rattle.jc_base.specs.declared.declared_type.DeclaredType.{DeclaredType}
 use Rattle.jc_cap.specs.ClassComponent.{is_class}
 use Rattle.jc_cap_desc.specs.Shape.{ClassShape, FieldShape, MethodShape, Shape}
 use Rattle.jc_cap_desc.specs.declared.class_row.FieldPlace.{FieldPlace}
-use Rattle.jc_cap_desc.specs.declared.class_row.FieldPlace.TheVariants.{Static, Instance}
 use Rattle.jc_cap.specs.declared.method_header.MethodHeader.{MethodHeader}
 use Rattle.jc_names.specs.Names.{method_home, method_offset}
 use Rattle.jc_classes.specs.Members.{DeclaredMethod, declared_in, method_at, name_of}
@@ -46,11 +45,7 @@ module _ (world : List Shape) (c : ClassName) (k : ClassShape) (fit : IsFit worl
   method_typed m n e = some_there _ (not_false _ (none_at no_method k.methods n m (right_false (list_any no_field k.fields) (list_any no_method k.methods) fit.types) e))
 
   pub method_words : (m : MethodShape) (n : ℕ) (h : MethodHeader) → slice_get k.methods n ≡ Some m → m.header ≡ Some h → h.nargs ≡ words_of m
-  method_words m n h e at =
-      let right : option_map_or (λ (header : MethodHeader). not (header.nargs == words_of m)) m.header false ≡ false
-      = none_at (λ m. option_map_or (λ (header : MethodHeader). not (header.nargs == words_of m)) m.header false) k.methods n m fit.words e in
-      let same : not (h.nargs == words_of m) ≡ false = sym (ap (λ (o : Option MethodHeader). option_map_or (λ header. not (header.nargs == words_of m)) o false) at) ∙ right in
-      eqb-true h.nargs (words_of m) (not_false _ same)
+  method_words m n h e at = grind (arith, not, none_at, eqb-true, not_false)
 
 -- ---- cells
 
@@ -61,15 +56,11 @@ none_mapped p g [] n x y e at is = absurd (none_some x at)
 none_mapped {B = B} p g (z ∷ zs) n x y e at is = by_first (g z) refl (λ m none there. none_mapped p g zs m x y none there is) e n at
   where
     by_first : (o : Option B) → g z ≡ o → ((m : ℕ) → list_any p (filter_map g zs) ≡ false → slice_get zs m ≡ Some x → p y ≡ false) → list_any p (cons_option o (filter_map g zs)) ≡ false → (n : ℕ) → slice_get (z ∷ zs) n ≡ Some x → p y ≡ false
-    by_first None first rest none zero at = absurd (none_some y (sym first ∙ ap g (the_some z x at) ∙ is))
-    by_first None first rest none (suc n) at = rest n none at
-    by_first (Some w) first rest none zero at = ap p (the_some y w (sym is ∙ ap g (sym (the_some z x at)) ∙ first)) ∙ left_false (p w) (list_any p (filter_map g zs)) none
-    by_first (Some w) first rest none (suc n) at = rest n (right_false (p w) (list_any p (filter_map g zs)) none) at
+    by_first o h1 h2 h3 n h4 = grind (arith, none_some, the_some, left_false, right_false)
 
 token_in_place : (token : ℕ) (p : FieldPlace) (type : DeclaredType ClassRef) → is_instance_field token p ≡ true
     → instance_token (record { place = p; type = type }) ≡ Some token
-token_in_place token (Static offset) type e = true_false (sym e)
-token_in_place token (Instance class found) type e = ap Some (eqb-true found token e)
+token_in_place token p type h1 = grind (arith, true_false, eqb-true)
 
 -- ---- fields
 
@@ -122,8 +113,7 @@ module _ (world : List Shape) (fit : AreFit world) (all : AreAllFit world) where
       let one = in_one (λ (k : ClassShape). k.fields) (shape.0).classes at.0 f at.1 in
       let is = all place.home one.place shape.0 one.element shape.1 one.there in
       let typed = field_typed world is.class one.element is.fit f one.inner one.its in
-      subst (λ o. IsSome (option_and_then (field_type_of world place.home) o)) (sym e)
-      (subst (λ home. IsSome (field_type_of world home f)) (class_home place.home one.element is.class is.named) typed)
+      grind (arith, class_home)
 
   pub fields_hold : ((c d : ClassName) → superclass_of world c ≡ Some d → cells_above world most_classes c ≡ size_of world d + cells_above world most_classes d) → HaveFields world
   fields_hold above = record { types = field_types; cells = field_cells; above = above; statics = static_types }
@@ -141,8 +131,7 @@ module _ (world : List Shape) (fit : AreFit world) (all : AreAllFit world) where
   -- the method of a class that was made a declared one
   of_class : (home offset : ℕ) (k : ClassShape) (c : ClassName) (o : Option MethodShape) (d : DeclaredMethod) → method_of_class offset k ≡ o
       → option_map (λ m. record { class = c; method = m }) o ≡ Some d → (c ≡ d.class) × (o ≡ Some d.method)
-  of_class home offset k c None d at e = absurd (none_some d e)
-  of_class home offset k c (Some m) d at e = let same = the_some _ _ e in (ap (λ (d : DeclaredMethod). d.class) same, ap (λ (d : DeclaredMethod). Some d.method) same)
+  of_class home offset k c o d h1 h2 = grind (arith, none_some, the_some)
 
   pub row_of : (m : MethodName) (d : DeclaredMethod) → method_at world m ≡ Some d → IsRow d
   row_of m d e =

@@ -1,30 +1,27 @@
 -- What a class finds at virtual tokens is a method of objects, and keeps what is found above it.
-use Rattle.std.proofs.Common.{◌≡◌, ℕ, zero, suc, ◌-◌, ◌<◌, ◌==◌, ◌&&◌, Bool, true, false, cond, not, List, Option, Some, None, refl, ap, sym, subst, ◌∙◌, arith, nat_lt, is_some, slice_get}
+use Rattle.std.proofs.Common.{◌≡◌, ℕ, zero, suc, ◌-◌, ◌<◌, ◌==◌, ◌&&◌, Bool, true, false, cond, not, List, Option, Some, refl, ap, subst, ◌∙◌, arith, nat_lt, is_some, slice_get}
 use Rattle.std.proofs.Math.Path.{fun_ext}
 use Rattle.std.proofs.lemmas.Bool.{eqb-true}
 use Rattle.std.specs.List.{list_any}
 use Rattle.std.specs.Option.{option_and_then, option_map_or}
 use Rattle.jc_cap.specs.declared.record.RecordBody.{RecordBody}
-use Rattle.jc_cap.specs.declared.record.RecordBody.TheVariants.{Interface, Class}
 use Rattle.jc_cap_desc.specs.Shape.{ClassShape, Shape}
 use Rattle.jc_base.specs.declared.class_ref.ClassRef.{ClassRef}
-use Rattle.jc_classes.specs.Members.{method_at}
 use Rattle.jc_classes.specs.Methods.{method_name, declared_above, package_visible, record_visit, virtual_visit, virtual_method_of}
 use Rattle.jc_classes.specs.Record.{public_entries, package_entries}
-use Rattle.jc_classes.specs.Subtype.{comes_to_end, is_at_or_above}
+use Rattle.jc_classes.specs.Subtype.{comes_to_end}
 use Rattle.jc_classes.specs.Walk.{found_from, walk, most_classes}
 use Rattle.jc_names.specs.Names.{home_of}
 use Rattle.jc_classes.specs.World.{class_at, class_named, superclass_of, superclass_ref}
 use Rattle.jc_names.specs.declared.name.ClassName.{ClassName}
 use Rattle.jc_names.specs.declared.name.MethodName.{MethodName}
-use Rattle.jc_names.specs.declared.name.MethodName.TheVariants.{Api, Loaded}
 use Rattle.jc_link.proofs.GrownParts.{some_of, none_some}
 use Rattle.jc_link.proofs.GrownWithin.{at_record, by_other}
 use Rattle.jc_link.proofs.Nones.{true_false, left_false, right_false, then_false, left_true, right_true, not_false, not_true, there_some, none_at, none_in_range}
 use Rattle.jc_link.proofs.SoundChains.{heir_of_walk, walk_enough}
 use Rattle.jc_link.proofs.SameTypes.{same_when_agree}
 use Rattle.jc_link.proofs.Superclasses.{most_is}
-use Rattle.jc_link.specs.Classes.{is_inherited, is_bad_entry}
+use Rattle.jc_link.specs.Classes.{is_bad_entry}
 use Rattle.jc_link.specs.Inherited.{virtual_tokens, loses_at, is_same_method, is_other_type, retypes_at}
 use Rattle.jc_link.specs.MemberType.{have_same_type, method_type_of}
 use Rattle.jc_link.specs.Named.{method_above}
@@ -35,8 +32,7 @@ use Rattle.jc_link.specs.Sound.{IsHeir, itself, behind, HaveSuperclasses, IsInst
 
 -- what is told of an option is told of what is there
 pub told_of : {A : Type 0} (p : A → Bool) (o : Option A) → option_map_or p o false ≡ true → (a : A) × (o ≡ Some a) × (p a ≡ true)
-told_of p None e = true_false (sym e)
-told_of p (Some a) e = (a, refl, e)
+told_of p o h1 = grind (arith, true_false)
 
 -- ---- superclasses
 
@@ -61,21 +57,12 @@ module _ (world : List Shape) (c : ClassName) where
 
   entry_is : (offset : ℕ) → is_bad_entry world (home_of c) c offset ≡ false → (offset == declared_above) ≡ false → IsInstanceMethod world c (method_name (home_of c) offset)
   entry_is offset fine other =
-      let o = method_at world (method_name (home_of c) offset) in
-      let is = not_false _ (then_false (not (offset == declared_above)) (not (option_map_or (is_inherited world c) o false)) fine (ap not other)) in
-      let d = told_of (is_inherited world c) o is in
-      record {
-        declared = d.0;
-        there = d.1;
-        instance = not_true _ (left_true (not (d.0).method.is_static) (is_at_or_above world most_classes (d.0).class c) d.2);
-        heir = heir_of_walk world most_classes (d.0).class c (right_true (not (d.0).method.is_static) (is_at_or_above world most_classes (d.0).class c) d.2);
-      }
+      grind (arith, not_false, then_false, not, told_of, not_true, left_true, heir_of_walk, right_true)
 
   own_entry : (m : MethodName) (entries : List ℕ) (n : ℕ) → list_any is_bad entries ≡ false → (offset : ℕ)
       → slice_get entries n ≡ Some offset → (offset == declared_above) ≡ false → method_name (home_of c) offset ≡ m
       → IsInstanceMethod world c m
-  own_entry m entries n fine offset at other same =
-      subst (IsInstanceMethod world c) same (entry_is offset (none_at is_bad entries n offset fine at) other)
+  own_entry m entries n fine offset at other same = grind (arith, entry_is, none_at)
 
 module _ (world : List Shape) (fit : AreFit world) (asker token : ℕ) (m : MethodName) where
   walk_finds : (steps : ℕ) (c : ClassName) → walk (virtual_visit world asker token) world steps c ≡ Some m → IsInstanceMethod world c m
@@ -109,15 +96,10 @@ module _ (world : List Shape) (fit : AreFit world) (asker token : ℕ) (m : Meth
 -- ---- below 128 each asks alike
 
 taken : {V : Type 0} (b : Bool) (x y z : V) → b ≡ true → cond b x y ≡ cond b x z
-taken true x y z e = refl
-taken false x y z e = true_false (sym e)
+taken b x y z h1 = grind (arith, true_false)
 
 same_visit : (world : List Shape) (a b token : ℕ) → nat_lt token package_visible ≡ true → virtual_visit world a token ≡ virtual_visit world b token
-same_visit world a b token low = fun_ext (λ c. fun_ext (λ (k : ClassShape). by_body (home_of c) k.body))
-  where
-    by_body : (home : ℕ) (body : RecordBody) → record_visit world a token home body ≡ record_visit world b token home body
-    by_body home (Interface r) = refl
-    by_body home (Class r) = taken (nat_lt token package_visible) _ _ _ low
+same_visit world a b token low = grind (arith, fun_ext, taken)
 
 pub asked_alike : (world : List Shape) (a b token : ℕ) (c : ClassName) → nat_lt token package_visible ≡ true
     → virtual_method_of world c token a ≡ virtual_method_of world c token b
@@ -126,19 +108,14 @@ asked_alike world a b token c low = ap (λ visit. walk visit world most_classes 
 -- ---- a method in place of another one
 
 same_method : (m n : MethodName) → is_same_method m n ≡ true → m ≡ n
-same_method (Api a) (Api b) e = ap Api (eqb-true a b e)
-same_method (Loaded p m) (Loaded q n) e =
-    ap (λ i. Loaded i m) (eqb-true p q (left_true (p == q) (m == n) e)) ∙ ap (Loaded q) (eqb-true m n (right_true (p == q) (m == n) e))
-same_method (Api a) (Loaded q n) e = true_false (sym e)
-same_method (Loaded p m) (Api b) e = true_false (sym e)
+same_method m n h1 = grind (arith, eqb-true, left_true, right_true, true_false)
 
 same_kept : (world : List Shape) (m above : MethodName) → is_other_type world m above ≡ false → method_type_of world m ≡ method_type_of world above
 same_kept world m above e = by_name (is_same_method m above) (same_method m above) e
   where
     by_name : (b : Bool) → (b ≡ true → m ≡ above) → (not b && not (have_same_type (method_type_of world m) (method_type_of world above))) ≡ false
         → method_type_of world m ≡ method_type_of world above
-    by_name true same e = ap (method_type_of world) (same refl)
-    by_name false same e = same_when_agree (method_type_of world m) (method_type_of world above) (not_false _ e)
+    by_name b h1 h2 = grind (arith, same_when_agree, not_false)
 
 at_token : (p : ℕ → Bool) (token : ℕ) → token < 256 → list_any p virtual_tokens ≡ false → p token ≡ false
 unfolding virtual_tokens
@@ -153,18 +130,14 @@ module _ (world : List Shape) (c d : ClassName) (s : superclass_of world c ≡ S
       let own = virtual_method_of world c token (home_of c) in
       let m = there_some own (not_false _ (then_false (is_some (method_above world (home_of c) token c)) (not (is_some own)) kept (ap is_some up))) in
       let types = at_token (retypes_at world (home_of c) c) token less fit.types_kept in
-      let same : is_other_type world m.0 above ≡ false
-      = sym (ap (λ o. option_map_or (λ m. option_map_or (is_other_type world m) (method_above world (home_of c) token c) false) o false) m.1
-      ∙ ap (λ o. option_map_or (is_other_type world m.0) o false) up) ∙ types in
+      let same : is_other_type world m.0 above ≡ false = grind arith in
       record { method = m.0; found = m.1; type = same_kept world m.0 above same }
 
   module _ (asker : ℕ) where
     passes : (body : RecordBody) (ref : ClassRef) (above : Option MethodName) → superclass_ref body ≡ Some ref → nat_lt token package_visible ≡ false
         → (home_of c == asker) ≡ false
         → found_from (record_visit world asker token (home_of c) body) above ≡ above
-    passes (Interface r) ref above e high other = absurd (none_some ref e)
-    passes (Class r) ref above e high other =
-        by_other (λ v. found_from v above ≡ above) (nat_lt token package_visible) _ _ high (by_other (λ v. found_from v above ≡ above) (home_of c == asker) _ _ other refl)
+    passes body ref above h1 h2 h3 = grind (arith, none_some, by_other)
 
     passed : HaveSuperclasses world → nat_lt token package_visible ≡ false → (home_of c == asker) ≡ false
         → virtual_method_of world c token asker ≡ virtual_method_of world d token asker
@@ -173,13 +146,13 @@ module _ (world : List Shape) (c d : ClassName) (s : superclass_of world c ≡ S
         let n = most_classes - 1 in
         let one : most_classes ≡ suc n = omega (arith, most_is) in
         let behind = option_and_then (walk (virtual_visit world asker token) world n) (superclass_of world c) in
-        let end : comes_to_end world n d ≡ true
-        = sym (ap (λ o. option_map_or (comes_to_end world n) o true) s) ∙ sym (ap (λ i. comes_to_end world i c) one) ∙ supers.orderly.ends c in
-        ap (λ i. walk (virtual_visit world asker token) world i c) one
-        ∙ ap (option_and_then (λ k. found_from (virtual_visit world asker token c k) behind)) is.there
-        ∙ passes (is.body).body is.ref behind is.names high other
-        ∙ ap (option_and_then (walk (virtual_visit world asker token) world n)) s
-        ∙ sym (walk_enough (virtual_visit world asker token) world n most_classes d end (omega (arith, one)))
+        let end : comes_to_end world n d ≡ true = grind (arith, supers.orderly.ends c) in
+        grind (
+          arith,
+          is.there,
+          passes (is.body).body is.ref behind is.names high other,
+          walk_enough (virtual_visit world asker token) world n most_classes d end (omega (arith, one)),
+        )
 
     kept_one : HaveSuperclasses world → AreFit world → token < 256 → virtual_method_of world d token asker ≡ Some above → HasInPlace world c token asker above
     kept_one supers fit less e =
@@ -188,11 +161,8 @@ module _ (world : List Shape) (c d : ClassName) (s : superclass_of world c ≡ S
       where
         by_asker : (low own : Bool) → nat_lt token package_visible ≡ low → (home_of c == asker) ≡ own
             → (virtual_method_of world d token (home_of c) ≡ Some above → HasInPlace world c token (home_of c) above) → HasInPlace world c token asker above
-        by_asker true own is same home =
-            let h = home (asked_alike world (home_of c) asker token d is ∙ e) in
-            record { method = h.method; found = asked_alike world asker (home_of c) token c is ∙ h.found; type = h.type }
-        by_asker false true is same home =
-            subst (λ a. virtual_method_of world d token a ≡ Some above → HasInPlace world c token a above) (eqb-true (home_of c) asker same) home e
+        by_asker true own is same home = grind (arith, asked_alike)
+        by_asker false true is same home = grind (arith, eqb-true)
         by_asker false false is same home = record { method = above; found = passed supers is same ∙ e; type = refl }
 
 -- ---- all of it

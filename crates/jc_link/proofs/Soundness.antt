@@ -1,5 +1,5 @@
 -- Whatever a machine relies on holds in every world that is built of well-formed packages.
-use Rattle.std.proofs.Common.{List}
+use Rattle.std.proofs.Common.{List, arith}
 use Rattle.jc_cap_desc.specs.Shape.{Shape}
 use Rattle.jc_classes.specs.Growth.{KeepsLookups}
 use Rattle.jc_classes.specs.Limits.{IsSmall}
@@ -18,14 +18,7 @@ fit_is_sound : (world : List Shape) → IsSmall world → AreAllFit world → Is
 fit_is_sound world small all =
     let fit = fit_at world all in
     let superclasses = superclasses_hold world small fit in
-    record {
-      superclasses = superclasses;
-      fields = fields_hold world fit all (cells_follow world superclasses);
-      methods = methods_hold world fit all;
-      virtual_methods = virtual_methods_hold world superclasses fit;
-      finished = finished_hold world superclasses fit;
-      same_types = same_signature;
-    }
+    grind (arith, fields_hold, cells_follow, methods_hold, virtual_methods_hold, finished_hold, same_signature)
 
 pub built_is_sound : ((world : List Shape) (more : Shape) → KeepsLookups world more) → (world : List Shape) → IsSmall world → IsBuilt world → IsSound world
 built_is_sound keeps world small built = fit_is_sound world small (built_fit api_fit keeps world built).1

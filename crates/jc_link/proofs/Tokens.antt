@@ -1,11 +1,10 @@
 -- Loops over tokens, up to the first that passes a test.
-use Rattle.std.proofs.Common.{◌≡◌, ℕ, zero, suc, ◌+◌, ◌-◌, ◌<◌, ◌≤◌, ◌||◌, Bool, true, false, List, None, refl, sym, ap, ◌∙◌, arith}
+use Rattle.std.proofs.Common.{◌≡◌, ℕ, zero, suc, ◌+◌, ◌-◌, ◌<◌, ◌≤◌, ◌||◌, Bool, true, false, List, None, refl, ap, ◌∙◌, arith}
 use Rattle.std.specs.List.{list_any, range_with_len}
-use Rattle.std.specs.Option.{option_map_or}
 use Rattle.jc_cap_desc.specs.Shape.{Shape}
 use Rattle.jc_classes.specs.Methods.{virtual_method_of}
 use Rattle.jc_names.specs.declared.name.ClassName.{ClassName}
-use Rattle.jc_link.specs.Inherited.{is_abstract_at, leaves_at, package_tokens, virtual_tokens}
+use Rattle.jc_link.specs.Inherited.{leaves_at, package_tokens, virtual_tokens}
 
 -- the tokens from one on up to an end
 module _ (test : ℕ → Bool) (total : Bool) (token end : ℕ)
@@ -14,8 +13,7 @@ module _ (test : ℕ → Bool) (total : Bool) (token end : ℕ)
       → (b || list_any test (range_with_len (token + 1) (end - (token + 1)))) ≡ total
   step less b e =
       let one : suc (end - (token + 1)) ≡ end - token = omega arith in
-      ap (λ x. x || list_any test (range_with_len (token + 1) (end - (token + 1)))) (sym e)
-      ∙ ap (λ n. list_any test (range_with_len token n)) one ∙ so_far
+      grind arith
 
   pub passes : token < end → test token ≡ true → true ≡ total
   passes less e = step less true e
@@ -24,8 +22,7 @@ module _ (test : ℕ → Bool) (total : Bool) (token end : ℕ)
   fails less e = step less false e
 
   pub none_passes : end ≤ token → false ≡ total
-  none_passes more =
-      let none : end - token ≡ 0 = omega arith in sym (ap (λ n. list_any test (range_with_len token n)) none) ∙ so_far
+  none_passes more = grind arith
 
 -- where none of the rest passes
 none_in : (test : ℕ → Bool) (n from : ℕ) → ((m : ℕ) → from ≤ m → m < from + n → test m ≡ false)
@@ -38,8 +35,7 @@ none_in test (suc n) from none =
 pub rest_fails : (test : ℕ → Bool) (total : Bool) (token end : ℕ)
     → list_any test (range_with_len token (end - token)) ≡ total
     → ((m : ℕ) → token ≤ m → m < end → test m ≡ false) → false ≡ total
-rest_fails test total token end so_far none =
-    sym (none_in test (end - token) token (λ m least less. none m least (omega (arith, least, less)))) ∙ so_far
+rest_fails test total token end so_far none = grind (arith, none_in)
 
 -- a package-visible token behind those that may lead to a method
 pub leaves_none : (world : List Shape) (c : ClassName) (asker count : ℕ)
@@ -47,9 +43,7 @@ pub leaves_none : (world : List Shape) (c : ClassName) (asker count : ℕ)
     → (m : ℕ) → 128 + count ≤ m → m < 256 → leaves_at world c asker m ≡ false
 leaves_none world c asker count none m least less =
     let same : m ≡ 128 + (m - 128) = omega (arith, least) in
-    ap (leaves_at world c asker) same
-    ∙ ap (λ o. option_map_or (is_abstract_at world) o false)
-    (none (m - 128) (omega (arith, least)) (omega (arith, least, less)))
+    grind arith
 
 -- all of them
 pub all_virtual : range_with_len 0 (256 - 0) ≡ virtual_tokens

@@ -1,10 +1,9 @@
 -- Lists joined point by point, as a loop does.
-use Rattle.std.proofs.Common.{◌≡◌, ℕ, zero, suc, ◌+◌, ◌<◌, ◌≤◌, List, [], ◌∷◌, ◌++◌, length, take, drop, set, get_or, reverse, refl, sym, ap, ◌∙◌, arith}
+use Rattle.std.proofs.Common.{◌≡◌, ℕ, zero, suc, ◌+◌, ◌≤◌, List, [], ◌∷◌, ◌++◌, length, take, drop, reverse, refl, sym, ap, ◌∙◌, arith}
 use Rattle.std.proofs.lemmas.List.{take_at, take_all, length-take-le, length-reverse}
 use Rattle.jc_names.specs.declared.name.ClassName.{ClassName}
 use Rattle.jc_types.proofs.Turned.{joined_reversed}
 use Rattle.jc_types.specs.declared.ty.Ty.{Ty}
-use Rattle.jc_types.specs.declared.ty.Ty.TheVariants.{Top}
 use Rattle.jc_types.specs.Ty.{join_of}
 use Rattle.jc_types.specs.State.{joined_all}
 
@@ -14,8 +13,7 @@ module _ (common : ClassName → ClassName → ClassName) where
   joined_from i ts us = take i ts ++ joined_all common (drop i ts) (drop i us)
 
   nothing_with : (us : List Ty) → joined_all common [] us ≡ []
-  nothing_with [] = refl
-  nothing_with (b ∷ us) = refl
+  nothing_with us = grind arith
 
   with_nothing : (ts : List Ty) → joined_all common ts [] ≡ []
   with_nothing [] = refl
@@ -28,9 +26,7 @@ module _ (common : ClassName → ClassName → ClassName) where
   none_left (a ∷ ts) (b ∷ us) = ap (λ (rest : List Ty). a ∷ rest) (none_left ts us)
 
   pub all_joined : (ts us : List Ty) (i : ℕ) (total : List Ty) → length us ≤ i → i ≤ length us → joined_from i ts us ≡ total → take (length us) ts ≡ total
-  all_joined ts us i total le ge so_far =
-      let all : i ≡ length us = omega (arith, le, ge) in
-      sym (none_left ts us) ∙ ap (λ n. joined_from n ts us) (sym all) ∙ so_far
+  all_joined ts us i total le ge so_far = grind (arith, none_left)
 
   -- what stands past the shorter list isn't joined
   joined_within : (ts us : List Ty) (n : ℕ) → length us ≤ n → joined_all common ts us ≡ joined_all common (take n ts) us

@@ -1,5 +1,5 @@
 -- Joins of types that name known classes, and what methods begin with.
-use Rattle.std.proofs.Common.{◌≡◌, ℕ, zero, suc, ◌&&◌, Bool, true, false, cond, List, [], ◌∷◌, replicate, refl, ◌∙◌}
+use Rattle.std.proofs.Common.{◌≡◌, ℕ, zero, suc, ◌&&◌, Bool, true, cond, List, [], ◌∷◌, replicate, refl, arith}
 use Rattle.std.proofs.lemmas.List.Folds.{list_all-append}
 use Rattle.std.specs.List.{list_all}
 use Rattle.jc_api.specs.declared.class.ApiClass.TheVariants.{Object}
@@ -7,72 +7,26 @@ use Rattle.jc_names.specs.declared.name.ClassName.{ClassName}
 use Rattle.jc_names.specs.declared.name.ClassName.TheVariants.{Api}
 use Rattle.jc_types.specs.Known.{AreKnown, is_known}
 use Rattle.jc_types.specs.State.{Types, entry_types, joined_all, joined_types}
-use Rattle.jc_types.specs.Ty.{is_reference, is_word, join_of}
+use Rattle.jc_types.specs.Ty.{join_of}
 use Rattle.jc_types.specs.declared.ty.Ty.{Ty}
-use Rattle.jc_types.specs.declared.ty.Ty.TheVariants.{Top, Word, Null, Class, BooleanArray, ByteArray, ShortArray, ReferenceArray}
+use Rattle.jc_types.specs.declared.ty.Ty.TheVariants.{Top, Word}
 
 both : (a b : Bool) → a ≡ true → b ≡ true → (a && b) ≡ true
-both true b e f = f
-both false b e f = absurd cc
+both a b h1 h2 = grind arith
 
 each : (a b : Bool) → (a && b) ≡ true → (a ≡ true) × (b ≡ true)
-each true b e = (refl, e)
-each false b e = absurd cc
+each a b h1 = grind arith
 
 module _ (known : ClassName → Bool) where
   word_or : (b : Bool) → is_known known (cond b Word Top) ≡ true
-  word_or true = refl
-  word_or false = refl
+  word_or b = grind arith
 
   it_or : (b : Bool) (u : Ty) → is_known known u ≡ true → is_known known (cond b u Top) ≡ true
-  it_or true u h = h
-  it_or false u h = refl
+  it_or b u h1 = grind arith
 
   module _ (common : ClassName → ClassName → ClassName) (object : known (Api Object) ≡ true) (nearest : (c d : ClassName) → known c ≡ true → known (common c d) ≡ true) where
     join_known : (t u : Ty) → is_known known t ≡ true → is_known known u ≡ true → is_known known (join_of common t u) ≡ true
-    join_known Top u h k = refl
-    join_known Word u h k = word_or (is_word u)
-    join_known Null u h k = it_or (is_reference u) u k
-    join_known (Class c) Top h k = refl
-    join_known (Class c) Word h k = refl
-    join_known (Class c) Null h k = h
-    join_known (Class c) (Class d) h k = nearest c d h
-    join_known (Class c) BooleanArray h k = object
-    join_known (Class c) ByteArray h k = object
-    join_known (Class c) ShortArray h k = object
-    join_known (Class c) (ReferenceArray d) h k = object
-    join_known BooleanArray Top h k = refl
-    join_known BooleanArray Word h k = refl
-    join_known BooleanArray Null h k = refl
-    join_known BooleanArray (Class d) h k = object
-    join_known BooleanArray BooleanArray h k = refl
-    join_known BooleanArray ByteArray h k = object
-    join_known BooleanArray ShortArray h k = object
-    join_known BooleanArray (ReferenceArray d) h k = object
-    join_known ByteArray Top h k = refl
-    join_known ByteArray Word h k = refl
-    join_known ByteArray Null h k = refl
-    join_known ByteArray (Class d) h k = object
-    join_known ByteArray BooleanArray h k = object
-    join_known ByteArray ByteArray h k = refl
-    join_known ByteArray ShortArray h k = object
-    join_known ByteArray (ReferenceArray d) h k = object
-    join_known ShortArray Top h k = refl
-    join_known ShortArray Word h k = refl
-    join_known ShortArray Null h k = refl
-    join_known ShortArray (Class d) h k = object
-    join_known ShortArray BooleanArray h k = object
-    join_known ShortArray ByteArray h k = object
-    join_known ShortArray ShortArray h k = refl
-    join_known ShortArray (ReferenceArray d) h k = object
-    join_known (ReferenceArray c) Top h k = refl
-    join_known (ReferenceArray c) Word h k = refl
-    join_known (ReferenceArray c) Null h k = h
-    join_known (ReferenceArray c) (Class d) h k = object
-    join_known (ReferenceArray c) BooleanArray h k = object
-    join_known (ReferenceArray c) ByteArray h k = object
-    join_known (ReferenceArray c) ShortArray h k = object
-    join_known (ReferenceArray c) (ReferenceArray d) h k = nearest c d h
+    join_known t u h1 h2 = grind (arith, word_or, it_or)
 
     all_joined : (ts us : List Ty) → list_all (is_known known) ts ≡ true → list_all (is_known known) us ≡ true → list_all (is_known known) (joined_all common ts us) ≡ true
     all_joined [] [] h k = refl
@@ -91,8 +45,4 @@ module _ (known : ClassName → Bool) where
   tops (suc n) = tops n
 
   pub entry_known : (arguments : List Ty) (n : ℕ) → list_all (is_known known) arguments ≡ true → AreKnown known (entry_types arguments n)
-  entry_known arguments n h = record {
-    locals = list_all-append (is_known known) arguments (replicate n Top)
-        ∙ both (list_all (is_known known) arguments) (list_all (is_known known) (replicate n Top)) h (tops n);
-    operands = refl;
-  }
+  entry_known arguments n h = grind (arith, list_all-append, replicate, both, tops)

@@ -1,5 +1,5 @@
 -- The order where there are no classes.
-use Rattle.std.proofs.Common.{◌≡◌, ℕ, zero, suc, ◌||◌, Bool, true, false, List, [], None, refl, ap, ◌∙◌}
+use Rattle.std.proofs.Common.{◌≡◌, ℕ, suc, ◌||◌, Bool, false, List, [], None, refl, ap, ◌∙◌, arith}
 use Rattle.std.specs.Option.{option_map_or}
 use Rattle.jc_cap_desc.specs.Shape.{Shape}
 use Rattle.jc_api.specs.declared.class.ApiClass.TheVariants.{Object}
@@ -8,7 +8,7 @@ use Rattle.jc_classes.specs.Subtype.{is_at_or_above, is_class_below}
 use Rattle.jc_classes.specs.Walk.{most_classes}
 use Rattle.jc_classes.specs.World.{superclass_of}
 use Rattle.jc_names.specs.declared.name.ClassName.{ClassName}
-use Rattle.jc_names.specs.declared.name.ClassName.TheVariants.{Api, Loaded}
+use Rattle.jc_names.specs.declared.name.ClassName.TheVariants.{Api}
 
 pub most_is : most_classes ≡ suc 17_084
 unfolding most_classes
@@ -19,13 +19,10 @@ abbrev nothing : List Shape
 nothing = []
 
 no_superclass : (c : ClassName) → superclass_of nothing c ≡ None
-no_superclass (Api a) = refl
-no_superclass (Loaded zero o) = refl
-no_superclass (Loaded (suc n) o) = refl
+no_superclass c = grind arith
 
 or_false : (b : Bool) → (b || false) ≡ b
-or_false true = refl
-or_false false = refl
+or_false b = grind arith
 
 one_class : (n : ℕ) (d c : ClassName) → is_at_or_above nothing (suc n) d c ≡ is_same_name c d
 one_class n d c = ap (λ o. is_same_name c d || option_map_or (is_at_or_above nothing n d) o false) (no_superclass c) ∙ or_false (is_same_name c d)

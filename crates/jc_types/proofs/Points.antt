@@ -1,5 +1,5 @@
 -- Lists compared point by point, as a loop does.
-use Rattle.std.proofs.Common.{◌≡◌, ℕ, zero, suc, ◌+◌, ◌<◌, ◌≤◌, List, [], ◌∷◌, length, drop, get_or, Bool, true, false, ◌&&◌, refl, sym, ap, ◌∙◌, arith}
+use Rattle.std.proofs.Common.{◌≡◌, ℕ, zero, suc, ◌+◌, ◌<◌, ◌≤◌, List, [], ◌∷◌, length, drop, get_or, Bool, true, false, ◌&&◌, refl, sym, ◌∙◌, arith}
 use Rattle.jc_names.specs.declared.name.ClassName.{ClassName}
 use Rattle.jc_types.specs.declared.ty.Ty.{Ty}
 use Rattle.jc_types.specs.declared.ty.Ty.TheVariants.{Top}
@@ -11,11 +11,7 @@ module _ (below : ClassName → ClassName → Bool) where
   other_lengths [] [] ne = absurd (ne refl)
   other_lengths [] (y ∷ ys) ne = refl
   other_lengths (x ∷ xs) [] ne = refl
-  other_lengths (x ∷ xs) (y ∷ ys) ne = rw (other_lengths xs ys (λ e. ne (omega arith))) (no (is_below below x y))
-    where
-      no : (b : Bool) → b && false ≡ false
-      no true = refl
-      no false = refl
+  other_lengths (x ∷ xs) (y ∷ ys) ne = search (arith, no, other_lengths xs ys (λ e. ne (omega arith)))
 
   -- the points from one on
   one_point : (a b : List Ty) (i : ℕ) → i < length a → length a ≡ length b → all_below below (drop i a) (drop i b) ≡ is_below below (get_or a i Top) (get_or b i Top) && all_below below (drop (i + 1) a) (drop (i + 1) b)
@@ -25,21 +21,16 @@ module _ (below : ClassName → ClassName → Bool) where
   one_point (x ∷ xs) (y ∷ ys) (suc i) lt e = let k : suc i + 1 ≡ suc (i + 1) = omega arith in rw k (one_point xs ys i (omega arith) (omega arith))
 
   pub goes_on : (a b : List Ty) (i : ℕ) (total : Bool) → i < length a → length a ≡ length b → is_below below (get_or a i Top) (get_or b i Top) ≡ true → all_below below (drop i a) (drop i b) ≡ total → all_below below (drop (i + 1) a) (drop (i + 1) b) ≡ total
-  goes_on a b i total lt e h so_far =
-      let one : all_below below (drop i a) (drop i b) ≡ all_below below (drop (i + 1) a) (drop (i + 1) b) = one_point a b i lt e ∙ ap (λ (t : Bool). t && all_below below (drop (i + 1) a) (drop (i + 1) b)) h in
-      sym one ∙ so_far
+  goes_on a b i total lt e h so_far = grind (arith, one_point)
 
   pub stops : (a b : List Ty) (i : ℕ) (total : Bool) → i < length a → length a ≡ length b → is_below below (get_or a i Top) (get_or b i Top) ≡ false → all_below below (drop i a) (drop i b) ≡ total → false ≡ total
-  stops a b i total lt e h so_far =
-      let one : all_below below (drop i a) (drop i b) ≡ false = one_point a b i lt e ∙ ap (λ (t : Bool). t && all_below below (drop (i + 1) a) (drop (i + 1) b)) h in
-      sym one ∙ so_far
+  stops a b i total lt e h so_far = grind (arith, one_point)
 
   nothing_left : (a b : List Ty) (i : ℕ) → length a ≡ length b → length a ≤ i → all_below below (drop i a) (drop i b) ≡ true
   nothing_left [] [] i e le = none i
     where
       none : (i : ℕ) → all_below below (drop i []) (drop i []) ≡ true
-      none zero = refl
-      none (suc i) = refl
+      none i = grind arith
   nothing_left [] (y ∷ ys) i e le = absurd (omega arith)
   nothing_left (x ∷ xs) [] i e le = absurd (omega arith)
   nothing_left (x ∷ xs) (y ∷ ys) zero e le = absurd (omega arith)

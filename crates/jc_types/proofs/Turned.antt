@@ -12,18 +12,13 @@ reverse-cons : (x : Ty) (xs : List Ty) → reverse (x ∷ xs) ≡ reverse xs ++ 
 reverse-cons x xs = reverse-append (x ∷ []) xs
 
 and_assoc : (a b c : Bool) → (a && b) && c ≡ a && (b && c)
-and_assoc true b c = refl
-and_assoc false b c = refl
+and_assoc a b c = grind arith
 
 and_comm : (a b : Bool) → a && b ≡ b && a
-and_comm true true = refl
-and_comm true false = refl
-and_comm false true = refl
-and_comm false false = refl
+and_comm a b = grind arith
 
 and_false : (a : Bool) → a && false ≡ false
-and_false true = refl
-and_false false = refl
+and_false a = grind arith
 
 module _ (below : ClassName → ClassName → Bool) where
   none_above : (xs : List Ty) (a : Ty) → all_below below (xs ++ a ∷ []) [] ≡ false
@@ -49,10 +44,7 @@ module _ (below : ClassName → ClassName → Bool) where
 
 pub sum_reversed : (f : Ty → ℕ) (xs : List Ty) → sum_by f (reverse xs) ≡ sum_by f xs
 sum_reversed f [] = refl
-sum_reversed f (x ∷ xs) =
-    let turned : sum_by f (reverse (x ∷ xs)) ≡ sum_by f (reverse xs) + sum_by f (x ∷ []) = ap (sum_by f) (reverse-cons x xs) ∙ sum_by-append f (reverse xs) (x ∷ []) in
-    let one : sum_by f (x ∷ []) ≡ f x + 0 = sum_by-cons f x [] in
-    omega (arith, turned, one, sum_reversed f xs, sum_by-cons f x xs)
+sum_reversed f (x ∷ xs) = search (arith, reverse, reverse-cons, sum_by-append, sum_by-cons, sum_reversed f xs)
 
 module _ (common : ClassName → ClassName → ClassName) where
   joined_at_end : (xs ys : List Ty) (a b : Ty) → length xs ≡ length ys → joined_all common (xs ++ a ∷ []) (ys ++ b ∷ []) ≡ joined_all common xs ys ++ join_of common a b ∷ []

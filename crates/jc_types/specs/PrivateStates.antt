@@ -2,7 +2,7 @@
 -- fall upward, beside a lattice of classes: the laws that the impl of `Lattice` carries. They stand here since an impl
 -- cites nothing else of its crate.
 use Rattle.std.proofs.Common.{◌≡◌, ℕ, suc, ◌<◌, ◌≤◌, ◌==◌, ◌⊎◌, inl, inr, Bool, true, false, ◌&&◌, List, [], ◌∷◌}
-use Rattle.std.proofs.Common.{length, refl, sym, ap, ◌∙◌, arith}
+use Rattle.std.proofs.Common.{length, refl, ap, ◌∙◌, arith}
 use Rattle.std.proofs.lemmas.Bool.{eqb-true, eq-eqb}
 use Rattle.std.proofs.lemmas.List.Sums.{sum_by-cons}
 use Rattle.std.specs.List.{sum_by}
@@ -11,24 +11,20 @@ use Rattle.jc_names.specs.declared.name.ClassName.{ClassName}
 use Rattle.jc_types.specs.declared.ty.Ty.{Ty}
 use Rattle.jc_types.specs.Ty.{is_below, join_of, height_of}
 use Rattle.jc_types.specs.PrivateOrder.{below_self, below_both, below_through}
-use Rattle.jc_types.specs.PrivateJoin.{above_one, above_other}
 use Rattle.jc_types.specs.PrivateLeast.{least}
 use Rattle.jc_types.specs.PrivateHeight.{height_falls, height_no_more}
 use Rattle.jc_types.specs.State.{Types, all_below, types_below, has_shape_of, joined_all, joined_types, IsJoin}
 use Rattle.jc_types.specs.State.{height_of_types}
 
 both_true : (a b : Bool) → (a && b) ≡ true → (a ≡ true) × (b ≡ true)
-both_true true b e = (refl, e)
-both_true false b e = absurd cc
+both_true a b h1 = grind arith
 
 both : (a b : Bool) → a ≡ true → b ≡ true → (a && b) ≡ true
-both true b e f = f
-both false b e f = absurd cc
+both a b h1 h2 = grind arith
 
 -- one of two tests fails
 one_false : (a b : Bool) → (a && b) ≡ false → (a ≡ false) ⊎ (b ≡ false)
-one_false true b e = inr e
-one_false false b e = inl refl
+one_false a b h1 = grind arith
 
 -- ---- the order
 
@@ -96,8 +92,7 @@ same_lengths below (a ∷ ts) (b ∷ us) h =
 -- two lists below one have one length
 one_length : (below : ClassName → ClassName → Bool) (ts us vs : List Ty) → all_below below ts vs ≡ true
     → all_below below us vs ≡ true → (length ts == length us) ≡ true
-one_length below ts us vs h k =
-    eq-eqb (length ts) (length us) (same_lengths below ts vs h ∙ sym (same_lengths below us vs k))
+one_length below ts us vs h k = grind (arith, eq-eqb, same_lengths)
 
 pub one_shape : (below : ClassName → ClassName → Bool) (s t u : Types) → types_below below s u ≡ true
     → types_below below t u ≡ true → has_shape_of s t ≡ true
@@ -121,17 +116,13 @@ module _ (below : ClassName → ClassName → Bool) (common : ClassName → Clas
   all_above_one [] [] e = refl
   all_above_one [] (b ∷ us) e = absurd (omega (arith, e))
   all_above_one (a ∷ ts) [] e = absurd (omega (arith, e))
-  all_above_one (a ∷ ts) (b ∷ us) e =
-      both (is_below below a (join_of common a b)) (all_below below ts (joined_all common ts us))
-      (above_one below common above most lattice a b) (all_above_one ts us (omega (arith, e)))
+  all_above_one (a ∷ ts) (b ∷ us) e = search (arith, both, all_above_one ts us (omega (arith, e)))
 
   all_above_other : (ts us : List Ty) → length ts ≡ length us → all_below below us (joined_all common ts us) ≡ true
   all_above_other [] [] e = refl
   all_above_other [] (b ∷ us) e = absurd (omega (arith, e))
   all_above_other (a ∷ ts) [] e = absurd (omega (arith, e))
-  all_above_other (a ∷ ts) (b ∷ us) e =
-      both (is_below below b (join_of common a b)) (all_below below us (joined_all common ts us))
-      (above_other below common above most lattice a b) (all_above_other ts us (omega (arith, e)))
+  all_above_other (a ∷ ts) (b ∷ us) e = search (arith, both, all_above_other ts us (omega (arith, e)))
 
   all_least : (ts us vs : List Ty) → all_below below ts vs ≡ true → all_below below us vs ≡ true
       → all_below below (joined_all common ts us) vs ≡ true
@@ -148,18 +139,10 @@ module _ (below : ClassName → ClassName → Bool) (common : ClassName → Clas
       (least below common above most lattice a b c p.0 q.0) (all_least ts us vs p.1 q.1)
 
   pub types_above_one : (s t : Types) → has_shape_of s t ≡ true → types_below below s (joined_types common s t) ≡ true
-  types_above_one s t h =
-      let e = lengths_of s t h in
-      both (all_below below s.locals (joined_all common s.locals t.locals))
-      (all_below below s.operands (joined_all common s.operands t.operands))
-      (all_above_one s.locals t.locals e.0) (all_above_one s.operands t.operands e.1)
+  types_above_one s t h = grind (arith, lengths_of, both, all_above_one)
 
   pub types_above_other : (s t : Types) → has_shape_of s t ≡ true → types_below below t (joined_types common s t) ≡ true
-  types_above_other s t h =
-      let e = lengths_of s t h in
-      both (all_below below t.locals (joined_all common s.locals t.locals))
-      (all_below below t.operands (joined_all common s.operands t.operands))
-      (all_above_other s.locals t.locals e.0) (all_above_other s.operands t.operands e.1)
+  types_above_other s t h = grind (arith, lengths_of, both, all_above_other)
 
   pub types_least : (s t u : Types) → types_below below s u ≡ true → types_below below t u ≡ true
       → types_below below (joined_types common s t) u ≡ true
@@ -229,5 +212,4 @@ module _ (below : ClassName → ClassName → Bool) (common : ClassName → Clas
 
       by_case : (all_below below t.locals s.locals ≡ false) ⊎ (all_below below t.operands s.operands ≡ false)
           → height_of_types above most t < height_of_types above most s
-      by_case (inl e) = omega (arith, all_fall s.locals t.locals p.0 e, all_no_more s.operands t.operands p.1)
-      by_case (inr e) = omega (arith, all_no_more s.locals t.locals p.0, all_fall s.operands t.operands p.1 e)
+      by_case h1 = grind (arith, all_fall, p, all_no_more)

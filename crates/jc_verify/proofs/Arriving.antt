@@ -1,5 +1,5 @@
 -- What is held once a state has flowed in at a place.
-use Rattle.std.proofs.Common.{◌≡◌, ◌⊎◌, inl, inr, ℕ, zero, suc, ◌+◌, ◌<◌, ◌≤◌, Bool, true, false, ◌&&◌, List, [], ◌∷◌, length, Option, Some, None, slice_get, slice_set, refl, sym, ap, subst, ◌∙◌, arith}
+use Rattle.std.proofs.Common.{◌≡◌, ◌⊎◌, inl, inr, ℕ, zero, suc, ◌<◌, ◌≤◌, Bool, true, ◌&&◌, List, [], ◌∷◌, length, Option, Some, slice_get, slice_set, refl, sym, ap, subst, ◌∙◌, arith}
 use Rattle.std.specs.Option.{option_and_then, option_map}
 use Rattle.std.proofs.Math.Nat.{mul-le-mul_right}
 use Rattle.std.proofs.lemmas.Bool.{cases_eq}
@@ -27,16 +27,13 @@ set_same (y ∷ ys) zero x h = refl
 set_same (y ∷ ys) (suc n) x h = set_same ys n x (omega (arith, h))
 
 pub set_other : {A : Type 0} (xs : List A) (n k : ℕ) (x : A) → (k ≡ n → ⊥) → slice_get (slice_set xs n x) k ≡ slice_get xs k
-set_other [] n k x other = refl
 set_other (y ∷ ys) zero zero x other = absurd (other refl)
-set_other (y ∷ ys) zero (suc k) x other = refl
-set_other (y ∷ ys) (suc n) zero x other = refl
 set_other (y ∷ ys) (suc n) (suc k) x other = set_other ys n k x (λ e. other (ap suc e))
+set_other t n k x other = refl
 
 pub set_length : {A : Type 0} (xs : List A) (n : ℕ) (x : A) → length (slice_set xs n x) ≡ length xs
-set_length [] n x = refl
-set_length (y ∷ ys) zero x = refl
 set_length (y ∷ ys) (suc n) x = ap suc (set_length ys n x)
+set_length t n x = refl
 
 -- a pc that has a number is within the table
 pub number_within : (numbers : List (Option ℕ)) (pc n : ℕ) → number_at numbers pc ≡ Some n → pc < length numbers
@@ -48,21 +45,18 @@ number_within (x ∷ numbers) (suc pc) n e = let k = number_within numbers pc n 
 
 all_below_length : (below : ClassName → ClassName → Bool) (xs ys : List Ty) → all_below below xs ys ≡ true → length xs ≡ length ys
 all_below_length below [] [] h = refl
-all_below_length below [] (b ∷ ys) h = absurd cc
-all_below_length below (a ∷ xs) [] h = absurd cc
 all_below_length below (a ∷ xs) (b ∷ ys) h = ap suc (all_below_length below xs ys (second (is_below below a b) _ h))
   where
     second : (p q : Bool) → p && q ≡ true → q ≡ true
-    second true q e = e
-    second false q e = absurd cc
+    second p q h1 = grind arith
+all_below_length below t u h = absurd cc
 
 -- types below others are as many
 pub below_lengths : (below : ClassName → ClassName → Bool) (s t : Types) → types_below below s t ≡ true → (length s.locals ≡ length t.locals) × (length s.operands ≡ length t.operands)
 below_lengths below s t h = let parts = both (all_below below s.locals t.locals) (all_below below s.operands t.operands) h in (all_below_length below s.locals t.locals parts.0, all_below_length below s.operands t.operands parts.1)
   where
     both : (p q : Bool) → p && q ≡ true → (p ≡ true) × (q ≡ true)
-    both true q e = (refl, e)
-    both false q e = absurd cc
+    both p q h1 = grind arith
 
 pub shape_above : (below : ClassName → ClassName → Bool) (m : Method) (s t : Types) → types_below below s t ≡ true → HasShape m s → HasShape m t
 shape_above below m s t h shape =
@@ -72,18 +66,14 @@ shape_above below m s t h shape =
     record { locals = omega (arith, locals, shape.locals); operands = omega (arith, operands, shape.operands) }
   where
     both : (p q : Bool) → p && q ≡ true → (p ≡ true) × (q ≡ true)
-    both true q e = (refl, e)
-    both false q e = absurd cc
+    both p q h1 = grind arith
 
 -- a state to work on is in the shape of its method
 pub in_room : (m : Method) (s : StateWithRoom) → HasRoom m s → length s.types.operands ≤ s.room → HasShape m s.types
 in_room m s room h = record { locals = room.locals; operands = omega (arith, room.room, h) }
 
 pub low_enough : (l : Linked) → HasLaws l → (m : Method) (t : Types) → HasShape m t → height_of_types (classes_above l.world) most_classes t ≤ most_height m
-low_enough l laws m t shape =
-    let few : length t.locals + length t.operands ≤ length m.arguments + m.max_locals + m.max_stack = omega (arith, shape.locals, shape.operands) in
-    let k = mul-le-mul_right (3 + most_classes) few in
-    omega (arith, laws.bound t, k)
+low_enough l laws m t shape = grind (arith, mul-le-mul_right)
 
 -- ---- a place that took in a state
 
@@ -105,16 +95,13 @@ module _ (l : Linked) (laws : HasLaws l) (m : Method) (numbers : List (Option �
   held_by places pc t h = by_number (number_at numbers pc) refl h
     where
       by_held : (n : ℕ) (p : Place StateWithRoom) (o : Option StateWithRoom) → number_at numbers pc ≡ Some n → slice_get places n ≡ Some p → p.held ≡ o → option_map (λ s. s.types) o ≡ Some t → IsHeldBy places pc t
-      by_held n p None e f g h = absurd (none-some t h)
-      by_held n p (Some s) e f g h = record { number = n; place = p; state = s; numbered = e; stands = f; held = g; types = same_Some s.types t h }
+      by_held n p o h1 h2 h3 h4 = grind (arith, none-some, same_Some)
 
       by_place : (n : ℕ) (o : Option (Place StateWithRoom)) → number_at numbers pc ≡ Some n → slice_get places n ≡ o → option_and_then types_held o ≡ Some t → IsHeldBy places pc t
-      by_place n None e f h = absurd (none-some t h)
-      by_place n (Some p) e f h = by_held n p p.held e f refl h
+      by_place n o h1 h2 h3 = grind (arith, none-some, by_held)
 
       by_number : (o : Option ℕ) → number_at numbers pc ≡ o → option_and_then types_held (option_and_then (slice_get places) o) ≡ Some t → IsHeldBy places pc t
-      by_number None e h = absurd (none-some t h)
-      by_number (Some n) e h = by_place n (slice_get places n) e refl h
+      by_number o h1 h2 = grind (arith, none-some, by_place)
 
   module _ (places : Places) (number : ℕ) (p q : Place StateWithRoom) (value : StateWithRoom) (at : slice_get places number ≡ Some p)
       (step : IsStep (below_in l.world) (height_in l.world) (most_height m) p q) (holds : HoldsAbove (below_in l.world) q value) (shape : HasShape m value.types) where
@@ -128,25 +115,16 @@ module _ (l : Linked) (laws : HasLaws l) (m : Method) (numbers : List (Option �
     same_pc = by_step step
       where
         by_step : IsStep (below_in l.world) (height_in l.world) (most_height m) p q → q.pc ≡ p.pc
-        by_step (inl e) = ap (λ (x : Place StateWithRoom). x.pc) e
-        by_step (inr h) = h.same
+        by_step h1 = grind arith
 
     each_step : (n : ℕ) (x y : Place StateWithRoom) → slice_get places n ≡ Some x → slice_get new n ≡ Some y → IsStep (below_in l.world) (height_in l.world) (most_height m) x y
     each_step n x y e f = by_number (cases_eq n number)
       where
         by_number : (n ≡ number) ⊎ (n ≡ number → ⊥) → IsStep (below_in l.world) (height_in l.world) (most_height m) x y
-        by_number (inl is) =
-            let is_p : p ≡ x = same_Some p x (sym at ∙ ap (slice_get places) (sym is) ∙ e) in
-            let is_q : q ≡ y = same_Some q y (sym here ∙ ap (slice_get new) (sym is) ∙ f) in
-            subst (λ z. IsStep (below_in l.world) (height_in l.world) (most_height m) z y) is_p (subst (λ z. IsStep (below_in l.world) (height_in l.world) (most_height m) p z) is_q step)
-        by_number (inr other) = inl (same_Some y x (sym f ∙ set_other places number n q other ∙ e))
+        by_number h1 = grind (arith, same_Some, here, set_other)
 
     leads_here : (pc : ℕ) → number_at numbers pc ≡ Some number → Leads (package_rules l) (held_at numbers new) value.types pc
-    leads_here pc e = record {
-      state = holds.value.types;
-      typed = at_number new pc number q e here ∙ ap (option_map (λ (s : StateWithRoom). s.types)) holds.held;
-      below = holds.above;
-    }
+    leads_here pc e = grind (arith, at_number, here)
 
     rises : (pc : ℕ) (t : Types) → held_at numbers places pc ≡ Some t → Leads (package_rules l) (held_at numbers new) t pc
     rises pc t e = by_number (cases_eq by.number number)
@@ -201,21 +179,10 @@ module _ (l : Linked) (laws : HasLaws l) (m : Method) (numbers : List (Option �
     shaped h n r s f e = by_number (cases_eq n number)
       where
         by_number : (n ≡ number) ⊎ (n ≡ number → ⊥) → HasShape m s.types
-        by_number (inl is) =
-            let to_r : q ≡ r = same_Some q r (sym here ∙ ap (slice_get new) (sym is) ∙ f) in
-            let to_s : holds.value ≡ s = same_Some holds.value s (sym holds.held ∙ ap (λ (x : Place StateWithRoom). x.held) to_r ∙ e) in
-            subst (λ (x : StateWithRoom). HasShape m x.types) to_s (shape_above (is_class_below l.world) m value.types holds.value.types holds.above shape)
-        by_number (inr other) = h n r s (sym (set_other places number n q other) ∙ f) e
+        by_number h1 = grind (arith, same_Some, here, shape_above, set_other)
 
     pub arrived : Grown l m numbers places new
-    arrived = record {
-      risen = record {
-        rises = rises;
-        numbered = λ h. record { within = λ pc n e. let k = h.within pc n e in omega (arith, k, set_length places number q); known = known h; found = found h };
-        shaped = shaped;
-      };
-      steps = record { len = set_length places number q; each = each_step };
-    }
+    arrived = grind (arith, rises, set_length, known, found, shaped, each_step)
 
     pub leads_in : (final : Places) → Risen l m numbers new final → (pc : ℕ) → number_at numbers pc ≡ Some number → Leads (package_rules l) (held_at numbers final) value.types pc
     leads_in final g pc e = leads_on l laws m numbers new final g value.types pc (leads_here pc e)

@@ -44,9 +44,7 @@ types_count class_of (s ∷ stated) types e = by_first (type_claimed class_of s)
   where
     by_first : (a : Option Ty) (o : Option (List Ty)) → ((us : List Ty) → o ≡ Some us → length us ≡ length stated) → option_and_then (λ one. option_map (λ more. one ∷ more) o) a ≡ Some types
         → length types ≡ suc (length stated)
-    by_first None o on h = absurd (none-some types h)
-    by_first (Some one) None on h = absurd (none-some types h)
-    by_first (Some one) (Some us) on h = sym (ap (λ (ts : List Ty). length ts) (same_Some (one ∷ us) types h)) ∙ ap suc (on us refl)
+    by_first a o h1 h2 = grind (arith, none-some, same_Some)
 
 -- a claim stands at the pc of what is stated, with as many operands
 pub record IsClaimOf (c : Stated) (claim : Claim) : Type 0 where
@@ -123,9 +121,7 @@ module _ (rules : Rules) (m : Method) (states : List Stated) (k : Carries rules 
       record { state = a.state; stated = a.stated }
 
   pub entered_stated : {pc : ℕ} → IsEntered m k.listing pc → (t : Types) × IsStatedAt m k.listing states pc t
-  entered_stated {pc} entered =
-      let c : IsClaimedAt pc = entered_claimed entered in
-      (c.state, stated_here rules m k.listing states k.claims k.found k.fitting pc c.state c.stated)
+  entered_stated {pc} entered = grind (arith, entered_claimed, stated_here)
 
 -- ---- the typing of a certificate that carries a method, where control flow reaches it
 
@@ -145,15 +141,13 @@ module _ (l : Linked) (laws : HasLaws l) (m : Method) (numbers : List (Option �
   of_live pc t e = by_live (has_number live pc) refl e
     where
       by_live : (b : Bool) → has_number live pc ≡ b → cond b (k.typing pc) None ≡ Some t → IsLive m k.listing pc × (k.typing pc ≡ Some t)
-      by_live true f h = (only pc f, h)
-      by_live false f h = absurd (none-some t h)
+      by_live b h1 h2 = grind (arith, none-some)
 
   goes_leads : (pc : ℕ) (t : Types) → IsLive m k.listing pc → GoesOn rules (state_at k.claims pc) (k.typing pc) t → Leads rules live_typing t pc
   goes_leads pc t is h = by_claim (state_at k.claims pc) refl h
     where
       by_claim : (o : Option Types) → state_at k.claims pc ≡ o → GoesOn rules o (k.typing pc) t → Leads rules live_typing t pc
-      by_claim None e h = record { state = t; typed = typed_live pc t is h; below = laws.itself t }
-      by_claim (Some c) e h = record { state = c; typed = typed_live pc c is (k.stated pc c e); below = h }
+      by_claim o h1 h2 = grind (arith, typed_live, is)
 
   module _ (pc : ℕ) (t : Types) (instr : Instr) (e : live_typing pc ≡ Some t) (decoded : rules.decoder m.code pc ≡ Ok instr) where
     is_live : IsLive m k.listing pc
@@ -199,8 +193,7 @@ module _ (l : Linked) (laws : HasLaws l) (m : Method) (numbers : List (Option �
       omega (arith, few, count, s.depth)
     where
       second : (p q : Bool) → p && q ≡ true → q ≡ true
-      second true q e = e
-      second false q e = absurd cc
+      second p q h1 = grind arith
 
   pub carrier : IsCarrier l m numbers live_typing
   carrier = record {
@@ -220,9 +213,7 @@ denied l laws m numbers places entries numbered of at_entries has_place (inl nev
     (carrier l laws m numbers can.states k found.live.0 found.live.1.all found.live.1.reached (there k found) (is_entered k found)))
   where
     there : {cs : List Stated} (k : Carries (package_rules l) m cs) → HasFound m k.listing entries → (pc : ℕ) → IsEntered m k.listing pc → HasPlace numbers pc
-    there k found pc e =
-        let f : has_number entries pc ≡ true = found.are.all pc e in
-        has_place pc (none_past laws.listing m.code k.listing pc k.whole (found.are.entered pc f).begin) f
+    there k found pc e = grind (arith, none_past)
 
     blank : Place StateWithRoom
     blank = record { pc = 0; held = None; changed = false }

@@ -11,11 +11,11 @@ use Rattle.jc_cert.specs.Cert.{Stated}
 use Rattle.jc_cert.specs.declared.stated_type.SpelledClass.{SpelledClass}
 use Rattle.jc_names.specs.declared.name.ClassName.{ClassName}
 use Rattle.jc_code.specs.Listing.{IsListing, PlacedInstr, StandBetween, begins}
-use Rattle.jc_code.specs.Targets.{falls_of, targets_of}
+use Rattle.jc_code.specs.Targets.{falls_of}
 use Rattle.jc_check.specs.Carried.{Carries, HandlerStands, has_shape, state_at, types_of}
 use Rattle.jc_check.specs.Claim.{Claim, claim_of}
 use Rattle.jc_check.specs.FirstFault.{IsFirstFault, empty, undecoded, found, all_arrive, all_handle, arrives, catches_at, falls_if, falls_to, findings_of, flow_findings_of, handlers_stand, handles, meets, state_stands, states_stand, visit, visit_live, visit_on, walk}
-use Rattle.jc_check.specs.Method.{Handler, Method, caught_types, covers, entry_of}
+use Rattle.jc_check.specs.Method.{Handler, Method, covers, entry_of}
 use Rattle.jc_check.specs.Package.{class_of_name, package_rules}
 use Rattle.jc_check.specs.declared.fault.Fault.{Fault}
 use Rattle.jc_check.specs.Rules.{Rules}
@@ -94,8 +94,7 @@ module _ (l : Linked) (laws : HasLaws l) (m : Method) (numbers : List (Option �
           claimed_none places pc (λ k q f is. of_types q.held (sym (at_number l laws m numbers places pc k q (ap (number_at numbers) (sym is) ∙ numbered.known k q f) f) ∙ e)) ∙ sym e
         where
           of_types : (o : Option StateWithRoom) → option_map (λ s. s.types) o ≡ None → o ≡ None
-          of_types None h = refl
-          of_types (Some s) h = absurd (none-some s.types (sym h))
+          of_types o h1 = grind (arith, none-some)
       by_held (Some t) e =
           let by : IsHeldBy l laws m numbers places pc t = held_by l laws m numbers places pc t e in
           claimed_one places by.number pc by.place by.state by.stands (numbered.found pc by.number by.place by.numbered by.stands) by.held
@@ -112,9 +111,7 @@ module _ (l : Linked) (laws : HasLaws l) (m : Method) (numbers : List (Option �
     claims = claims_of places
 
     begins_held : (pc : ℕ) (t : Types) → held_at numbers places pc ≡ Some t → begins listing pc ≡ true
-    begins_held pc t e =
-        let by : IsHeldBy l laws m numbers places pc t = held_by l laws m numbers places pc t e in
-        ap (begins listing) (sym (numbered.found pc by.number by.place by.numbered by.stands)) ∙ starts by.number by.place by.stands
+    begins_held pc t e = grind (arith, held_by)
 
     met : (t : Types) (pc : ℕ) → Leads rules (held_at numbers places) t pc → meets rules t (state_at claims pc) ≡ Ok tt
     met t pc h = rw (claimed pc ∙ h.typed, h.below) refl
@@ -132,8 +129,7 @@ module _ (l : Linked) (laws : HasLaws l) (m : Method) (numbers : List (Option �
     handled pc t h leads = by_cover (covers h pc) refl
       where
         by_cover : (b : Bool) → covers h pc ≡ b → cond b (catches_at rules claims t h.goes_on h.caught) (Ok tt) ≡ Ok tt
-        by_cover false e = refl
-        by_cover true e = let k = leads e in rw k.catches (met (caught_types k.class t) h.goes_on k.leads)
+        by_cover b h1 = grind (arith, met)
 
     all_handled : (pc : ℕ) (t : Types) (hs : List Handler) → AllByRecursion (HandlerLeads rules (held_at numbers places) pc t) hs → all_handle rules claims pc t hs ≡ Ok tt
     all_handled pc t [] leads = refl
@@ -158,31 +154,22 @@ module _ (l : Linked) (laws : HasLaws l) (m : Method) (numbers : List (Option �
     falls_closed t pc lt none closed = record { flow = Some t; is = rw (lt-ltb pc (length m.code) lt, none_claimed pc none) refl; fine = (none, closed) }
 
     within : (t : Types) (pc : ℕ) → held_at numbers places pc ≡ Some t → pc < length m.code
-    within t pc e =
-        let by : IsHeldBy l laws m numbers places pc t = held_by l laws m numbers places pc t e in
-        let k = number_within numbers pc by.number by.numbered in
-        omega (arith, k, sized)
+    within t pc e = grind (arith, held_by, number_within)
 
     falls_met : (t : Types) (pc : ℕ) → Leads rules (held_at numbers places) t pc → Goes (falls_to rules m claims t pc) pc
     unfolding falls_to
     falls_met t pc h = record { flow = None; is = rw (lt-ltb pc (length m.code) (within h.state pc h.typed), claimed pc ∙ h.typed, h.below) refl; fine = tt }
 
     falls_if_met : (falls : Bool) (t : Types) (pc : ℕ) → Leads rules (held_at numbers places) t pc → Goes (falls_if rules m claims falls t pc) pc
-    falls_if_met false t pc h = record { flow = None; is = refl; fine = tt }
-    falls_if_met true t pc h = falls_met t pc h
+    falls_if_met falls t pc h1 = grind (arith, falls_met)
 
     falls_if_closed : (falls : Bool) (t : Types) (pc : ℕ) → pc < length m.code → number_at numbers pc ≡ None → IsClosed rules m numbers (held_at numbers places) pc t → Goes (falls_if rules m claims falls t pc) pc
-    falls_if_closed false t pc lt none closed = record { flow = None; is = refl; fine = tt }
-    falls_if_closed true t pc lt none closed = falls_closed t pc lt none closed
+    falls_if_closed falls t pc h1 h2 h3 = grind (arith, falls_closed)
 
     -- an instruction that was visited
     visited : (x : PlacedInstr) (s after : Types) (pc : ℕ) → IsVisited rules m (held_at numbers places) x s after → Goes (falls_if rules m claims (falls_of x.instr.operation) after x.instr.next_pc) pc → Goes (visit_live rules m listing claims x s) pc
     unfolding visit_live
-    visited x s after pc v g = record {
-      flow = g.flow;
-      is = rw (all_handled x.pc s m.handlers v.handled, v.effect, all_arrived after (targets_of x.pc x.instr.operation) v.branches) g.is;
-      fine = g.fine;
-    }
+    visited x s after pc v g = grind (arith, all_handled, handled, all_arrived)
 
     same_place : (x y : PlacedInstr) → y.pc ≡ x.pc → rules.decoder m.code y.pc ≡ Ok y.instr → rules.decoder m.code x.pc ≡ Ok x.instr → y ≡ x
     same_place x y at decoded is = ap (λ pc. flow.placed pc y.instr) at ∙ ap (flow.placed x.pc) (the_ok y.instr x.instr (sym decoded ∙ ap (rules.decoder m.code) at ∙ is))
@@ -205,12 +192,7 @@ module _ (l : Linked) (laws : HasLaws l) (m : Method) (numbers : List (Option �
       visit_fine x flow_in is fine = by_claim (state_at claims x.pc) refl flow_in fine
         where
           by_claim : (o : Option Types) → state_at claims x.pc ≡ o → (f : Option Types) → IsFlow f x.pc → Goes (visit_on rules m listing claims x o f) x.instr.next_pc
-          by_claim (Some t) e f fine =
-              let by : IsHeldBy l laws m numbers places x.pc t = held_by l laws m numbers places x.pc t (sym (claimed x.pc) ∙ e) in
-              let at : by.place.pc ≡ x.pc = numbered.found x.pc by.number by.place by.numbered by.stands in
-              visit_closed by.place.pc t x (closed by.number by.place t by.stands (ap (option_map (λ (s : StateWithRoom). s.types)) by.held ∙ ap Some by.types)) at is
-          by_claim None e (Some t) fine = visit_closed x.pc t x fine.1 refl is
-          by_claim None e None fine = record { flow = None; is = refl; fine = tt }
+          by_claim o h1 f h2 = grind (arith, held_by, claimed, visit_closed)
 
       walked : (flow_in : Option Types) (pc : ℕ) (xs : List PlacedInstr) → StandBetween rules.decoder m.code pc xs (length m.code) → IsFlow flow_in pc → walk rules m listing claims flow_in xs ≡ Ok tt
       unfolding walk
@@ -227,8 +209,7 @@ module _ (l : Linked) (laws : HasLaws l) (m : Method) (numbers : List (Option �
           of_goes g = rw g.is (walked g.flow 0 listing whole g.fine)
 
           by_on : (on : Bool) → flow.FallsIf on rules m numbers (held_at numbers places) 0 (entry_of m) → flow.ClosedIf on rules m numbers (held_at numbers places) 0 (entry_of m) → flow_findings_of rules m listing claims ≡ Ok tt
-          by_on true falls c = of_goes (falls_closed (entry_of m) 0 falls.0 falls.1 c)
-          by_on false falls c = of_goes (falls_met (entry_of m) 0 falls)
+          by_on on h1 h2 = grind (arith, of_goes, falls_closed, falls_met)
 
 -- ---- handlers and states stand
 
@@ -259,8 +240,7 @@ module _ (l : Linked) (m : Method) (listing : List PlacedInstr) where
     where
       by_held : (o : Option StateWithRoom) → p.held ≡ o → ((ds : List Stated) → AreStateRows (class_of_name l.world) places ds → states_stand (package_rules l) m listing ds ≡ Ok (claims_of places))
           → RowIf (class_of_name l.world) p.pc o (AreStateRows (class_of_name l.world) places) cs → states_stand (package_rules l) m listing cs ≡ Ok (claim_if p.pc o (claims_of places))
-      by_held None e rest are = rest cs are
-      by_held (Some s) e rest are = rw (are.are, row_stands p.pc s.types are.row are.states fit.0.0 (fit.0.1 s e), rest are.rest are.behind) refl
+      by_held o h1 h2 h3 = grind (arith, row_stands)
 
 -- each of a list, by where it stands
 pub all_by_place : {A : Type 0} (P : A → Type 0) (xs : List A) → ((n : ℕ) (x : A) → slice_get xs n ≡ Some x → P x) → AllByRecursion P xs
@@ -285,9 +265,7 @@ carried l laws m listing cs whole some fine (inr (fault, h)) = absurd (no_fault 
     no_fault : (fault : Fault) → IsFirstFault (package_rules l) m cs fault → ⊥
     no_fault fault (empty e) = some e
     no_fault fault (undecoded pc why stops) = laws.listing.never_both m.code listing pc why whole stops
-    no_fault fault (found other f is_listing apart e) =
-        let same : other ≡ listing = laws.listing.one_listing m.code other listing is_listing whole in
-        ok_err tt f (sym fine ∙ ap (λ xs. findings_of (package_rules l) m xs cs) (sym same) ∙ e)
+    no_fault fault (found other f is_listing apart e) = search (arith, ok_err)
 
 -- places that are numbered alike stand at the same pcs
 pub held_kept : (P : ℕ → Type 0) (numbers : List (Option ℕ)) (before after : Places) → IsNumbered numbers before → IsNumbered numbers after

@@ -1,5 +1,5 @@
 -- Rows that carry a package's methods are a certificate that carries the package, in whatever order.
-use Rattle.std.proofs.Common.{◌≡◌, ◌⊎◌, inl, inr, ℕ, zero, suc, ◌==◌, ◌||◌, not, Bool, true, false, cond, List, [], ◌∷◌, length, Option, Some, None, slice_get, refl, sym, ap, subst, ◌∙◌}
+use Rattle.std.proofs.Common.{◌≡◌, ◌⊎◌, inl, inr, ℕ, zero, suc, ◌==◌, ◌||◌, not, Bool, true, false, cond, List, [], ◌∷◌, length, Option, Some, None, slice_get, refl, sym, ap, subst, ◌∙◌, arith}
 use Rattle.std.specs.Prelude.{Contains}
 use Rattle.std.specs.List.{find, list_any}
 use Rattle.std.specs.List.Sorted.{IsPermutation}
@@ -36,9 +36,7 @@ found_none test [] e k x at h = none-some x at
 found_none test (y ∷ xs) e k x at h = by_test (test y) refl (λ n f i. found_none test xs n f x i h) e k at
   where
     by_test : (b : Bool) → test y ≡ b → (find test xs ≡ None → (j : ℕ) → slice_get xs j ≡ Some x → ⊥) → cond b (Some y) (find test xs) ≡ None → (k : ℕ) → slice_get (y ∷ xs) k ≡ Some x → ⊥
-    by_test true t later n k at = none-some y (sym n)
-    by_test false t later n zero at = let u : true ≡ false = sym h ∙ ap test (sym (same_Some y x at)) ∙ t in absurd cc
-    by_test false t later n (suc k) at = later n k at
+    by_test b h1 h2 h3 k h4 = grind (arith, none-some, same_Some)
 
 any_at : {A : Type 0} (test : A → Bool) (xs : List A) (k : ℕ) (x : A) → slice_get xs k ≡ Some x → test x ≡ true → list_any test xs ≡ true
 any_at test [] k x at h = absurd (none-some x at)
@@ -46,8 +44,7 @@ any_at test (y ∷ xs) zero x at h = ap (λ b. b || list_any test xs) (ap test (
 any_at test (y ∷ xs) (suc k) x at h = ap (λ b. test y || b) (any_at test xs k x at h) ∙ or_true (test y)
   where
     or_true : (b : Bool) → b || true ≡ true
-    or_true true = refl
-    or_true false = refl
+    or_true b = grind arith
 
 -- what stands in one list stands in the other one in another order
 pub moved : {A : Type 0} (xs ys : List A) → IsPermutation xs ys → (k : ℕ) (x : A) → slice_get xs k ≡ Some x → (j : ℕ) × (slice_get ys j ≡ Some x)

@@ -1,5 +1,5 @@
 -- The rows of a package's methods, sorted by offset, are a certificate where counts are small.
-use Rattle.std.proofs.Common.{◌≡◌, ◌⊎◌, inl, inr, ℕ, suc, zero, ◌+◌, ◌<◌, ◌≤◌, ◌^◌, ◌==◌, true, false, List, [], ◌∷◌, length, Some, get_or, slice_get, refl, sym, ap, ◌∙◌, arith}
+use Rattle.std.proofs.Common.{◌≡◌, ◌⊎◌, ℕ, suc, zero, ◌+◌, ◌<◌, ◌≤◌, ◌^◌, ◌==◌, false, List, [], ◌∷◌, length, Some, get_or, slice_get, refl, sym, ap, ◌∙◌, arith}
 use Rattle.std.specs.List.{AllByRecursion, IsDistinct}
 use Rattle.std.specs.List.Sorted.{IsNonDecreasingBy, IsPermutation}
 use Rattle.std.proofs.lemmas.Bool.{cases_eq, eq-eqb, ne_eqb}
@@ -10,7 +10,6 @@ use Rattle.jc_cert.specs.Cert.{IsCert, IsRow, IsStated, OffsetsAscend, Row, Stat
 use Rattle.jc_cert.specs.declared.cert.MethodRow.{MethodRow}
 use Rattle.jc_link.specs.Linked.{Linked}
 use Rattle.jc_check.specs.Method.{Method}
-use Rattle.jc_check.specs.Package.{method_of}
 use Rattle.jc_verify.specs.PrivateGathered.{AreGathered, IsInShape, IsRowOf}
 use Rattle.jc_verify.specs.PrivateRefused.{HasFitMethods}
 use Rattle.jc_verify.proofs.Carrying.{all_by_place}
@@ -25,19 +24,10 @@ offsets_ascend (c ∷ cs) least from up =
 
 all_stated : (m : Method) → length m.arguments + m.max_locals < 2 ^ 16 → (cs : List Stated) → AllByRecursion (IsInShape m) cs → AllByRecursion IsStated cs
 all_stated m few [] h = tt
-all_stated m few (c ∷ cs) h =
-    (record { pc = h.0.pc; locals = omega (arith, h.0.locals, few); depth = h.0.depth; each_local = h.0.each_local; each_operand = h.0.each_operand }, all_stated m few cs h.1)
+all_stated m few (c ∷ cs) h = search (arith, all_stated m few cs h.1)
 
 is_row : (l : Linked) → HasFitMethods l → (n : ℕ) (r : Row) → IsRowOf l n r → IsRow r
-is_row l fit n r h =
-    let order = h.inferred.order in
-    record {
-      offset = h.small;
-      some = h.some;
-      count = order.few;
-      each = all_stated (method_of l h.method) (fit.locals h.place h.method h.stands.is) r.states order.each;
-      ascend = order.ascend;
-    }
+is_row l fit n r h = grind (arith, all_stated)
 
 -- what stands at a place among the rows of rows
 row_of : (ms : List MethodRow) (n : ℕ) (r : Row) → slice_get (rows ms) n ≡ Some r → (x : MethodRow) × (slice_get ms n ≡ Some x) × (row x ≡ r)
@@ -61,8 +51,7 @@ module _ (l : Linked) (of : List Row) (put : List MethodRow) (gathered : AreGath
       flips a b = by (cases_eq a b)
         where
           by : (a ≡ b) ⊎ (a ≡ b → ⊥) → a == b ≡ b == a
-          by (inl is) = eq-eqb a b is ∙ sym (eq-eqb b a (sym is))
-          by (inr apart) = ne_eqb a b apart ∙ sym (ne_eqb b a (λ e. apart (sym e)))
+          by h1 = grind (arith, eq-eqb, ne_eqb)
 
   lower : (j k : ℕ) (r s : Row) → slice_get (rows put) j ≡ Some r → slice_get (rows put) k ≡ Some s → j < k → r.offset < s.offset
   lower j k r s e f lt =
@@ -85,8 +74,7 @@ module _ (l : Linked) (of : List Row) (put : List MethodRow) (gathered : AreGath
       below a b le apart = by (cases_eq a b)
         where
           by : (a ≡ b) ⊎ (a ≡ b → ⊥) → a < b
-          by (inl is) = let t : true ≡ false = sym (eq-eqb a b is) ∙ apart in absurd cc
-          by (inr other) = omega (arith, le, other)
+          by h1 = grind (arith, eq-eqb)
 
   pub is_cert : IsCert (rows put)
   is_cert = record {

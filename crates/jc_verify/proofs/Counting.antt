@@ -14,10 +14,9 @@ use Rattle.jc_verify.proofs.Lists.{get_either, length_more}
 -- ---- one more at the end
 
 number_past : (ns : List (Option ℕ)) (pc : ℕ) → length ns ≤ pc → number_at ns pc ≡ None
-number_past [] zero h = refl
-number_past [] (suc pc) h = refl
 number_past (n ∷ ns) zero h = absurd (omega (arith, h))
 number_past (n ∷ ns) (suc pc) h = number_past ns pc (omega (arith, h))
+number_past t u h = refl
 
 number_before : (ns : List (Option ℕ)) (x : Option ℕ) (pc : ℕ) → pc < length ns → number_at (ns ++ x ∷ []) pc ≡ number_at ns pc
 number_before [] x pc h = absurd (omega (arith, h))
@@ -36,8 +35,7 @@ number_either (y ∷ ns) x zero n e = inl e
 number_either (y ∷ ns) x (suc pc) n e = by_rest (number_either ns x pc n e)
   where
     by_rest : (number_at ns pc ≡ Some n) ⊎ ((pc ≡ length ns) × (x ≡ Some n)) → (number_at (y ∷ ns) (suc pc) ≡ Some n) ⊎ ((suc pc ≡ suc (length ns)) × (x ≡ Some n))
-    by_rest (inl h) = inl h
-    by_rest (inr (h, k)) = inr (ap suc h, k)
+    by_rest h1 = grind arith
 
 module _ (entries : List ℕ) (pc : ℕ) (numbers : List (Option ℕ)) (places : Places) (so_far : AreNumbered entries pc numbers places) where
   -- a number stays where it is
@@ -63,21 +61,16 @@ module _ (entries : List ℕ) (pc : ℕ) (numbers : List (Option ℕ)) (places :
   }
     where
       ascend : (pc at j k : ℕ) → (number_at numbers pc ≡ Some j) ⊎ ((pc ≡ length numbers) × (None ≡ Some j)) → (number_at numbers at ≡ Some k) ⊎ ((at ≡ length numbers) × (None ≡ Some k)) → j < k → pc < at
-      ascend pc at j k (inl e) (inl f) lt = so_far.ascend pc at j k e f lt
-      ascend pc at j k (inl e) (inr (h, f)) lt = absurd (none-some k f)
-      ascend pc at j k (inr (h, e)) f lt = absurd (none-some j e)
+      ascend pc at j k h1 h2 h3 = grind (arith, none-some)
 
       all : (at : ℕ) → at < pc + 1 → has_number entries at ≡ true → (at ≡ pc) ⊎ (at ≡ pc → ⊥) → HasPlace (numbers ++ None ∷ []) at
-      all at lt is (inl same) = let t : true ≡ false = sym is ∙ ap (has_number entries) same ∙ none in absurd cc
-      all at lt is (inr apart) = kept None at (so_far.all at (omega (arith, lt, apart)) is)
+      all at h1 h2 h3 = grind (arith, kept)
 
       within : (at n : ℕ) → (number_at numbers at ≡ Some n) ⊎ ((at ≡ length numbers) × (None ≡ Some n)) → n < length places
-      within at n (inl e) = so_far.numbered.within at n e
-      within at n (inr (h, e)) = absurd (none-some n e)
+      within at n h1 = grind (arith, none-some)
 
       found : (at n : ℕ) (p : Place StateWithRoom) → slice_get places n ≡ Some p → (number_at numbers at ≡ Some n) ⊎ ((at ≡ length numbers) × (None ≡ Some n)) → p.pc ≡ at
-      found at n p f (inl e) = so_far.numbered.found at n p e f
-      found at n p f (inr (h, e)) = absurd (none-some n e)
+      found at n p h1 h2 = grind (arith, none-some)
 
   -- a place without anything
   abbrev pub blank : Place StateWithRoom
@@ -110,8 +103,7 @@ module _ (entries : List ℕ) (pc : ℕ) (numbers : List (Option ℕ)) (places :
       all at lt e (inr apart) = kept (Some (length places)) at (so_far.all at (omega (arith, lt, apart)) e)
 
       within : (at n : ℕ) → (number_at numbers at ≡ Some n) ⊎ ((at ≡ length numbers) × (Some (length places) ≡ Some n)) → n < length (places ++ blank ∷ [])
-      within at n (inl e) = let k = so_far.numbered.within at n e in omega (arith, k, length_more places blank)
-      within at n (inr (h, e)) = let k = same_Some (length places) n e in omega (arith, k, length_more places blank)
+      within at n h1 = grind (arith, length_more, same_Some)
 
       known : (n : ℕ) (p : Place StateWithRoom) → (slice_get places n ≡ Some p) ⊎ ((n ≡ length places) × (blank ≡ p)) → number_at (numbers ++ Some (length places) ∷ []) p.pc ≡ Some n
       known n p (inl e) = let k = so_far.numbered.known n p e in number_before numbers (Some (length places)) p.pc (number_within numbers p.pc n k) ∙ k
@@ -120,18 +112,13 @@ module _ (entries : List ℕ) (pc : ℕ) (numbers : List (Option ℕ)) (places :
           ∙ number_last numbers (Some (length places)) ∙ ap Some (sym h)
 
       found : (at n : ℕ) (p : Place StateWithRoom) → (number_at numbers at ≡ Some n) ⊎ ((at ≡ length numbers) × (Some (length places) ≡ Some n)) → (slice_get places n ≡ Some p) ⊎ ((n ≡ length places) × (blank ≡ p)) → p.pc ≡ at
-      found at n p (inl e) (inl f) = so_far.numbered.found at n p e f
-      found at n p (inl e) (inr (h, f)) = let k = so_far.numbered.within at n e in absurd (omega (arith, k, h))
-      found at n p (inr (h, e)) (inl f) = let k = slice_get_within places n p f in let i = same_Some (length places) n e in absurd (omega (arith, k, i))
-      found at n p (inr (h, e)) (inr (i, f)) = ap (λ (x : Place StateWithRoom). x.pc) (sym f) ∙ sym so_far.sized ∙ sym h
+      found at n p h1 h2 = grind (arith, within, slice_get_within, same_Some)
 
       empty : (k : ℕ) (p : Place StateWithRoom) → (slice_get places k ≡ Some p) ⊎ ((k ≡ length places) × (blank ≡ p)) → p.held ≡ None
-      empty k p (inl e) = so_far.empty k p e
-      empty k p (inr (h, e)) = ap (λ (x : Place StateWithRoom). x.held) (sym e)
+      empty k p h1 = grind arith
 
       entered : (k : ℕ) (p : Place StateWithRoom) → (slice_get places k ≡ Some p) ⊎ ((k ≡ length places) × (blank ≡ p)) → has_number entries p.pc ≡ true
-      entered k p (inl e) = so_far.entered k p e
-      entered k p (inr (h, e)) = ap (λ (x : Place StateWithRoom). has_number entries x.pc) (sym e) ∙ is
+      entered k p h1 = grind arith
 
 pub none_numbered : (entries : List ℕ) → AreNumbered entries 0 [] []
 none_numbered entries = record {

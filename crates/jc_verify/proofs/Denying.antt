@@ -1,5 +1,5 @@
 -- Where control flow is refused to go on, nothing that lies above what is held carries the method.
-use Rattle.std.proofs.Common.{◌≡◌, ℕ, List, length, Bool, true, false, Option, None, sym, subst, ◌∙◌, arith}
+use Rattle.std.proofs.Common.{◌≡◌, ℕ, List, length, Bool, Option, None, sym, subst, ◌∙◌, arith}
 use Rattle.std.proofs.lemmas.Option.{none-some}
 use Rattle.jc_base.specs.declared.reason.Reason.{Reason}
 use Rattle.jc_classes.specs.Subtype.{is_class_below}
@@ -21,8 +21,7 @@ use Rattle.jc_verify.specs.declared.stop.Stop.TheVariants.{Refused, Memory}
 use Rattle.jc_verify.proofs.Arriving.{below_lengths}
 
 told_where : (pc at : ℕ) (stop : Stop) (reason : Reason) → fault_at pc stop ≡ faults.Refused at reason → (pc ≡ at) × (stop ≡ Refused reason)
-told_where pc at (Refused other) reason e = (cc, cc)
-told_where pc at Memory reason e = absurd cc
+told_where pc at stop reason h1 = grind arith
 
 pub no_place : (numbers : List (Option ℕ)) (pc : ℕ) → number_at numbers pc ≡ None → HasPlace numbers pc → ⊥
 no_place numbers pc none place = none-some place.number (sym none ∙ place.is)
@@ -37,8 +36,7 @@ no_room {l} carrier class t pc none leads place =
 
 -- where there is a place control flow doesn't go on
 pub falls_in : (f : Flow) (on : Bool) {t : Types} {typing : Typing} {pc : ℕ} → HasPlace f.numbers.now pc → Falls f on pc t typing → LeadsTo f pc t typing
-falls_in f true {t} {typing} {pc} place falls = absurd (no_place f.numbers.now pc falls.1 place)
-falls_in f false place falls = falls
+falls_in f on h1 h2 = grind (arith, no_place)
 
 -- ---- refusals
 

@@ -1,5 +1,5 @@
 -- What is told of a method where its inference ends.
-use Rattle.std.proofs.Common.{◌≡◌, ◌≢◌, ℕ, ◌+◌, List, [], ◌∷◌, drop, Some, Ok, Err, refl, ap, ◌∙◌, slice_get}
+use Rattle.std.proofs.Common.{◌≡◌, ◌≢◌, ℕ, ◌+◌, List, [], ◌∷◌, drop, Some, Ok, Err, refl, ap, ◌∙◌, slice_get, arith}
 use Rattle.jc_base.specs.Results.{◌>>=◌}
 use Rattle.jc_base.specs.declared.reason.Reason.{Reason}
 use Rattle.jc_code.specs.Instructions.{instr_at}
@@ -34,8 +34,7 @@ module _ (l : Linked) (m : Method) (listing : List PlacedInstr) (starts : List �
   of_astray ground (leads x reason at live off) = astray listing x reason ground.decoded.whole ground.handlers at live off
 
   pub tells_astray : IsGround m listing starts → (fault : WordFault) → IfRefusal fault (λ at reason. (xs : List PlacedInstr) → IsGround m xs starts → IsAstray m xs at reason) → Tells (package_rules l) m fault
-  tells_astray ground (faults.Refused pc reason) off = of_astray ground (off listing ground)
-  tells_astray ground faults.Memory off = tt
+  tells_astray h1 fault h2 = grind (arith, of_astray)
 
 -- ---- handlers in order
 
@@ -61,9 +60,7 @@ stop_one listing hs k h fault at e = ap (λ xs. handlers_stand listing xs) (drop
 -- ---- reasons
 
 pub never_told : (rules : Rules) (m : Method) (fault : WordFault) → ((pc : ℕ) (reason : Reason) → fault ≡ faults.Refused pc reason → ⊥) → Tells rules m fault
-never_told rules m (faults.Refused pc reason) never = absurd (never pc reason refl)
-never_told rules m faults.Memory never = tt
+never_told rules m fault h1 = grind arith
 
 pub denial_tells : {f : Flow} {asks : Typing → Type 0} {places : Places} (fault : WordFault) → IsDenial f asks places fault → Tells (package_rules f.linked.now) f.method.now fault
-denial_tells (faults.Refused pc reason) denial = (denial.each pc reason refl).told
-denial_tells faults.Memory denial = tt
+denial_tells fault h1 = grind arith

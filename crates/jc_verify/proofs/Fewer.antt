@@ -32,8 +32,7 @@ below [] within q e = absurd cc
 below (b ∷ methods) within q e = by (cases_eq q b.offset) (below methods (λ n. within (suc n)) q)
   where
     behind : (c : Bool) → c ≡ false → (c || list_any (λ x. q == x) (offsets methods)) ≡ true → list_any (λ x. q == x) (offsets methods) ≡ true
-    behind true is e = absurd cc
-    behind false is e = e
+    behind c h1 h2 = grind arith
 
     by : (q ≡ b.offset) ⊎ (q ≡ b.offset → ⊥) → (list_any (λ x. q == x) (offsets methods) ≡ true → q < 65535) → q < 65535
     by (inl is) rest = let small = within zero b refl in omega (arith, is, small)

@@ -1,5 +1,5 @@
 -- Control flow that is followed from pc to pc.
-use Rattle.std.proofs.Common.{◌≡◌, ◌⊎◌, inl, inr, ℕ, ◌+◌, ◌<◌, ◌==◌, ◌||◌, true, false, List, [], ◌∷◌, ◌++◌, length, length-append, Option, Some, None, pos, refl, sym, ap, subst, ◌∙◌, arith}
+use Rattle.std.proofs.Common.{◌≡◌, ◌⊎◌, inl, inr, ℕ, ◌+◌, ◌<◌, ◌==◌, ◌||◌, true, false, List, [], ◌∷◌, ◌++◌, length-append, Option, Some, None, pos, refl, sym, ap, subst, ◌∙◌, arith}
 use Rattle.std.specs.List.{Contains}
 use Rattle.std.proofs.lemmas.List.Elements.{Contains-append_left, Contains-push, Contains-push_cases}
 use Rattle.std.proofs.lemmas.Option.{none-some, same_Some}
@@ -9,7 +9,7 @@ use Rattle.jc_check.specs.Method.{Method}
 use Rattle.jc_verify.specs.Live.{IsEntered, IsLive, first, behind, by_branch, by_handler, branched, caught}
 use Rattle.jc_code.specs.Targets.{targets_of}
 use Rattle.jc_verify.specs.Told.{GoesStraight, falls_off, no_target}
-use Rattle.jc_verify.specs.PrivateLive.{AreEntries, AreLive, Grown, IsAwaited, IsDone, IsFollowed, IsFound, IsGround, IsHeld, IsReached, all_numbers, left_out}
+use Rattle.jc_verify.specs.PrivateLive.{AreEntries, AreLive, Grown, IsAwaited, IsDone, IsFollowed, IsFound, IsGround, IsHeld, IsReached}
 use Rattle.jc_verify.specs.declared.entries.Followed.{Followed}
 use Rattle.jc_verify.proofs.Numbers.{has_cases, has_itself, has_kept, one_less}
 use Rattle.jc_verify.proofs.Starting.{none_past}
@@ -51,14 +51,7 @@ module _ (before after : Followed) (pc : ℕ) (live : (n : ℕ) → has_number a
   entered_on n e = ap (λ (s : List ℕ). has_number s n) entered ∙ e
 
   pub reached_grown : has_number before.live pc ≡ false → pc < 65_536 → Grown before after
-  reached_grown fresh small = record {
-    live = live_on;
-    entered = entered_on;
-    left =
-        let less = one_less before.live after.live pc live fresh small in
-        let more = ap (λ (s : List ℕ). length s) stack ∙ length-append before.stack.items (pc ∷ []) in
-        omega (arith, less, more);
-  }
+  reached_grown fresh small = grind (arith, live_on, entered_on, one_less, length-append)
 
   pub reached_followed : (m : Method) (listing : List PlacedInstr) (now : Option ℕ) → IsReached m listing pc → IsFollowed m listing now before → IsFollowed m listing now after
   reached_followed m listing now reached h = record {
@@ -70,12 +63,10 @@ module _ (before after : Followed) (pc : ℕ) (live : (n : ℕ) → has_number a
   }
     where
       of_live : (n : ℕ) → (n ≡ pc) ⊎ (has_number before.live n ≡ true) → IsReached m listing n
-      of_live n (inl is) = subst (IsReached m listing) (sym is) reached
-      of_live n (inr e) = h.live n e
+      of_live n h1 = grind arith
 
       of_stack : (n : ℕ) → Contains before.stack.items n ⊎ (pc ≡ n) → has_number after.live n ≡ true
-      of_stack n (inl c) = live_on n (h.awaited n (inr c))
-      of_stack n (inr is) = ap (has_number after.live) (sym is) ∙ has_itself before.live after.live pc live
+      of_stack n h1 = grind (arith, live_on, has_itself)
 
       of_awaited : (n : ℕ) → IsAwaited now after n → has_number after.live n ≡ true
       of_awaited n (inl e) = live_on n (h.awaited n (inl e))
@@ -104,11 +95,7 @@ module _ (before after : Followed) (pc : ℕ) (live : after.live ≡ before.live
   more_entered = has_kept before.entered after.entered pc entered
 
   pub entered_grown : Grown before after
-  entered_grown = record {
-    live = same_live;
-    entered = more_entered;
-    left = ap (λ (s : List ℕ). left_out s all_numbers + length after.stack.items) live ∙ ap (λ (s : List ℕ). left_out before.live all_numbers + length s) stack;
-  }
+  entered_grown = grind (arith, same_live, more_entered)
 
   pub entered_followed : (m : Method) (listing : List PlacedInstr) (now : Option ℕ) → IsFound m listing pc → IsFollowed m listing now before → IsFollowed m listing now after
   entered_followed m listing now found h = record {
@@ -123,16 +110,13 @@ module _ (before after : Followed) (pc : ℕ) (live : after.live ≡ before.live
       was_live n e = ap (λ (s : List ℕ). has_number s n) (sym live) ∙ e
 
       of_entered : (n : ℕ) → (n ≡ pc) ⊎ (has_number before.entered n ≡ true) → IsFound m listing n
-      of_entered n (inl is) = subst (IsFound m listing) (sym is) found
-      of_entered n (inr e) = h.entered n e
+      of_entered n h1 = grind arith
 
       of_awaited : (n : ℕ) → IsAwaited now after n → IsAwaited now before n
-      of_awaited n (inl e) = inl e
-      of_awaited n (inr c) = inr (subst (λ (s : List ℕ). Contains s n) stack c)
+      of_awaited n h1 = grind arith
 
       await_on : (n : ℕ) → IsAwaited now before n → IsAwaited now after n
-      await_on n (inl e) = inl e
-      await_on n (inr c) = inr (subst (λ (s : List ℕ). Contains s n) (sym stack) c)
+      await_on n h1 = grind arith
 
       of_before : (x : PlacedInstr) → IsAwaited now before x.pc ⊎ IsDone m before x → IsAwaited now after x.pc ⊎ IsDone m after x
       of_before x (inl a) = inl (await_on x.pc a)
@@ -152,13 +136,10 @@ is_done m listing pc f done h = record {
 }
   where
     of_awaited : (n : ℕ) → IsAwaited None f n → IsAwaited (Some pc) f n
-    of_awaited n (inl e) = absurd (none-some n e)
-    of_awaited n (inr c) = inr c
+    of_awaited n h1 = grind (arith, none-some)
 
     of_done : (x : PlacedInstr) → placed_at listing x.pc ≡ Some x → IsAwaited (Some pc) f x.pc ⊎ IsDone m f x → IsAwaited None f x.pc ⊎ IsDone m f x
-    of_done x at (inl (inl e)) = inr (done x at (sym (same_Some pc x.pc e)))
-    of_done x at (inl (inr c)) = inl (inr c)
-    of_done x at (inr d) = inr d
+    of_done x h1 h2 = grind (arith, same_Some)
 
 -- control flow is followed from the pc that was put on the stack last
 module _ (before after : Followed) (pc : ℕ) (live : after.live ≡ before.live) (entered : after.entered ≡ before.entered) (stack : before.stack.items ≡ after.stack.items ++ pc ∷ []) where
@@ -185,8 +166,7 @@ module _ (before after : Followed) (pc : ℕ) (live : after.live ≡ before.live
       of_awaited n (inr c) = subst (λ (s : List ℕ). Contains s n) (sym stack) (Contains-append_left after.stack.items (pc ∷ []) n c)
 
       on_stack : (n : ℕ) → Contains after.stack.items n ⊎ (pc ≡ n) → IsAwaited (Some pc) after n
-      on_stack n (inl c) = inr c
-      on_stack n (inr is) = inl (ap Some is)
+      on_stack n h1 = grind arith
 
       await_on : (n : ℕ) → IsAwaited None before n → IsAwaited (Some pc) after n
       await_on n (inl e) = absurd (none-some n e)
@@ -214,19 +194,16 @@ followed_first m listing none f empty puts nothing stack begin = record {
     only n e = by (has_cases none f.live 0 puts n e)
       where
         by : (n ≡ 0) ⊎ (has_number none n ≡ true) → n ≡ 0
-        by (inl is) = is
-        by (inr h) = absurd (false_true (sym (empty n) ∙ h))
+        by h1 = grind (arith, false_true)
 
     of_live : (n : ℕ) → n ≡ 0 → IsReached m listing n
     of_live n is = subst (IsReached m listing) (sym is) (record { live = first; begin = begin })
 
     on_stack : (n : ℕ) → Contains [] n ⊎ (0 ≡ n) → has_number f.live n ≡ true
-    on_stack n (inl c) = absurd (omega (arith, c.1))
-    on_stack n (inr is) = ap (has_number f.live) (sym is) ∙ has_itself none f.live 0 puts
+    on_stack n h1 = grind (arith, has_itself)
 
     of_awaited : (n : ℕ) → IsAwaited None f n → has_number f.live n ≡ true
-    of_awaited n (inl e) = absurd (none-some n e)
-    of_awaited n (inr c) = on_stack n (Contains-push_cases [] 0 n (subst (λ (s : List ℕ). Contains s n) stack c))
+    of_awaited n h1 = grind (arith, none-some, on_stack)
 
 -- ---- at the end
 
@@ -235,9 +212,7 @@ module _ (m : Method) (listing : List PlacedInstr) (f : Followed) (h : IsFollowe
   all_done x at e = by (h.done x at e)
     where
       by : IsAwaited None f x.pc ⊎ IsDone m f x → IsDone m f x
-      by (inl (inl e)) = absurd (none-some x.pc e)
-      by (inl (inr c)) = let k = subst (λ (s : List ℕ). Contains s x.pc) stack c in absurd (omega (arith, k.1))
-      by (inr d) = d
+      by h1 = grind (arith, none-some)
 
   held_at_branch : (x : PlacedInstr) (pc : ℕ) → placed_at listing x.pc ≡ Some x → has_number f.live x.pc ≡ true → Contains (targets_of x.pc x.instr.operation) (pos pc) → IsHeld f pc
   held_at_branch x pc at e among = let b = (all_done x at e).branches (pos pc) among in subst (IsHeld f) (sym (the_pos pc b.pc b.is)) b.held

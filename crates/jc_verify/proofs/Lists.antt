@@ -12,12 +12,6 @@ pub all_from : {A : Type 0} (P : A → Type 0) (xs : List A) (k : ℕ) (x : A) �
     → AllByRecursion P (drop k xs)
 all_from {A} P xs k x at holds rest = let B : List A → Type 0 = λ ys. AllByRecursion P ys in subst B (sym (drop_get xs k x at)) (holds, rest)
 
-pub all_past : {A : Type 0} (P : A → Type 0) (xs : List A) (k : ℕ) → length xs ≤ k → AllByRecursion P (drop k xs)
-all_past P [] zero le = tt
-all_past P [] (suc k) le = tt
-all_past P (x ∷ xs) zero le = absurd (omega arith)
-all_past P (x ∷ xs) (suc k) le = all_past P xs k (omega arith)
-
 -- ---- one more at the end
 
 pub length_more : {A : Type 0} (xs : List A) (x : A) → length (xs ++ x ∷ []) ≡ length xs + 1
@@ -31,8 +25,7 @@ get_either (z ∷ xs) x y zero e = inl e
 get_either (z ∷ xs) x y (suc k) e = by_rest (get_either xs x y k e)
   where
     by_rest : (slice_get xs k ≡ Some y) ⊎ ((k ≡ length xs) × (x ≡ y)) → (slice_get (z ∷ xs) (suc k) ≡ Some y) ⊎ ((suc k ≡ suc (length xs)) × (x ≡ y))
-    by_rest (inl h) = inl h
-    by_rest (inr (h, i)) = inr (ap suc h, i)
+    by_rest h1 = grind arith
 
 pub take_more : {A : Type 0} (xs : List A) (k : ℕ) (x : A) → slice_get xs k ≡ Some x → take (k + 1) xs ≡ take k xs ++ x ∷ []
 take_more [] k x e = absurd (none-some x e)

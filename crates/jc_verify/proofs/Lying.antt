@@ -1,5 +1,5 @@
 -- What lies below whatever carries a method, while places take in what flows.
-use Rattle.std.proofs.Common.{◌≡◌, ◌⊎◌, inl, inr, ℕ, ℤ, ◌&&◌, Bool, true, false, List, [], ◌∷◌, Option, Some, Ok, Err, slice_get, slice_set, refl, sym, ap, subst, ◌∙◌}
+use Rattle.std.proofs.Common.{◌≡◌, ◌⊎◌, inl, inr, ℕ, ℤ, ◌&&◌, Bool, true, false, List, [], ◌∷◌, Option, Some, Ok, Err, slice_get, slice_set, refl, sym, ap, subst, ◌∙◌, arith}
 use Rattle.std.specs.Prelude.{pos, negsuc}
 use Rattle.std.specs.List.{AllByRecursion}
 use Rattle.std.specs.Option.{option_map}
@@ -96,27 +96,16 @@ module _ {h : Handler} (view : Handler) (same : view ≡ h) (class : ClassName) 
   named = ap (λ (x : Handler). x.caught) (sym same) ∙ is
 
   pub catch_here : {rules : Rules} {t : Types} {typing : Typing} → CatchLeads rules typing t h → Leads rules typing (caught_types class t) view.goes_on
-  catch_here {rules} {t} {typing} k =
-      let e : k.class ≡ class = same_Some k.class class (sym k.catches ∙ named) in
-      subst (Leads rules typing (caught_types class t)) (sym (ap (λ (x : Handler). x.goes_on) same)) (subst (λ (c : ClassName). Leads rules typing (caught_types c t) h.goes_on) e k.leads)
+  catch_here {rules} {t} {typing} k = grind (arith, same_Some, named)
 
   pub catch_on : {rules : Rules} {t : Types} {typing : Typing} → Leads rules typing (caught_types class t) view.goes_on → CatchLeads rules typing t h
   catch_on {rules} {t} {typing} leads = record { class = class; catches = named; leads = subst (Leads rules typing (caught_types class t)) (ap (λ (x : Handler). x.goes_on) same) leads }
 
   pub way_here : {f : Flow} {t : Types} → IsWay f t h → FlowsIn f view.goes_on (caught_types class t)
-  way_here {f} {t} way =
-      let e : way.class ≡ class = same_Some way.class class (sym way.catches ∙ named) in
-      subst (λ (n : ℕ). FlowsIn f n (caught_types class t)) (sym (ap (λ (x : Handler). x.goes_on) same)) (subst (λ (c : ClassName). FlowsIn f h.goes_on (caught_types c t)) e way.flows)
+  way_here {f} {t} way = grind (arith, same_Some, named)
 
   pub uncaught_here : {l : Linked} {m : Method} {pc : ℕ} {t : Types} {reason : Reason} → covers h pc ≡ true → IsUncaughtAt l m view.goes_on (caught_types class t) reason → IsUncaught l m (λ x. x ≡ h) pc t reason
-  uncaught_here {l} {m} {pc} {t} {reason} covered why = record {
-    h = h;
-    class = class;
-    is = refl;
-    covered = covered;
-    catches = named;
-    untaken = subst (λ (n : ℕ). IsUncaughtAt l m n (caught_types class t) reason) (ap (λ (x : Handler). x.goes_on) same) why;
-  }
+  uncaught_here {l} {m} {pc} {t} {reason} covered why = grind (arith, named)
 
 module _ (l : Linked) (laws : HasLaws l) (typing : Typing) (s t : Types) (lower : types_below (is_class_below l.world) s t ≡ true) where
   pub leads_down : (pc : ℕ) → Leads (package_rules l) typing t pc → Leads (package_rules l) typing s pc
@@ -133,8 +122,7 @@ module _ (l : Linked) (laws : HasLaws l) (typing : Typing) (s t : Types) (lower 
       rw (locals.0, itself.1) refl
     where
       both : (p q : Bool) → p && q ≡ true → (p ≡ true) × (q ≡ true)
-      both true q e = (refl, e)
-      both false q e = absurd cc
+      both p q h1 = grind arith
 
   pub handlers_down : (pc : ℕ) (hs : List Handler) → AllByRecursion (HandlerLeads (package_rules l) typing pc t) hs → AllByRecursion (HandlerLeads (package_rules l) typing pc s) hs
   handlers_down pc [] h = tt
@@ -166,9 +154,7 @@ module _ {f : Flow} {pc : ℕ} {s : Types} {instr : Instr} (x : StandsAt f pc s 
   handled_there = handlers_down f.linked.now x.sound.laws typing s b.leads.state b.leads.below pc f.method.now.handlers fine.handled
 
   pub has_effect : (reason : Reason) → rules.effect f.method.now.max_stack f.method.now.returned instr.operation s ≡ Err reason → ⊥
-  has_effect reason e =
-      let down = x.sound.laws.monotone f.method.now instr.operation s b.leads.state fine.after b.leads.below fine.effect in
-      ok_err down.0 reason (sym down.1 ∙ e)
+  has_effect reason e = grind (arith, fine, ok_err)
 
   -- an instruction that is fine on the state of a typing goes with it on each state below
   pub goes_with : {after : Types} → rules.effect f.method.now.max_stack f.method.now.returned instr.operation s ≡ Ok after → GoesWith f pc instr s after typing

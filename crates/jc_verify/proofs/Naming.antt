@@ -1,5 +1,5 @@
 -- Names of classes while places take in what flows.
-use Rattle.std.proofs.Common.{◌≡◌, ◌==◌, ◌&&◌, Bool, true, List, [], ◌∷◌, length, Ok, Some, refl, sym, subst, ◌∙◌}
+use Rattle.std.proofs.Common.{◌≡◌, ◌&&◌, Bool, true, List, [], ◌∷◌, Ok, Some, refl, sym, subst, arith}
 use Rattle.std.specs.Prelude.{reverse}
 use Rattle.std.specs.List.{AllByRecursion, Contains, list_all}
 use Rattle.std.proofs.lemmas.Bool.{eq-eqb}
@@ -13,7 +13,6 @@ use Rattle.jc_link.specs.Linked.{Linked}
 use Rattle.jc_types.specs.Known.{AreKnown, is_known}
 use Rattle.jc_types.specs.State.{IsJoin, Types, has_shape_of, joined_types, types_below}
 use Rattle.jc_types.specs.declared.ty.Ty.{Ty}
-use Rattle.jc_types.specs.declared.ty.Ty.TheVariants.{Top, Word, Null, Class, BooleanArray, ByteArray, ShortArray, ReferenceArray}
 use Rattle.jc_check.specs.Method.{Handler, Method, entry_of}
 use Rattle.jc_check.specs.Package.{package_rules}
 use Rattle.jc_verify.specs.PrivateFlow.{Places}
@@ -31,24 +30,10 @@ both a b e f = rw (e, f) refl
 
 module _ (world : List Shape) where
   type_known : (t : Ty) → TypeHasName world t → is_known (is_class_at world) t ≡ true
-  type_known Top h = refl
-  type_known Word h = refl
-  type_known Null h = refl
-  type_known (Class c) h = h
-  type_known BooleanArray h = refl
-  type_known ByteArray h = refl
-  type_known ShortArray h = refl
-  type_known (ReferenceArray c) h = h
+  type_known t h1 = grind arith
 
   type_named : (t : Ty) → is_known (is_class_at world) t ≡ true → TypeHasName world t
-  type_named Top h = tt
-  type_named Word h = tt
-  type_named Null h = tt
-  type_named (Class c) h = h
-  type_named BooleanArray h = tt
-  type_named ByteArray h = tt
-  type_named ShortArray h = tt
-  type_named (ReferenceArray c) h = h
+  type_named t h1 = grind arith
 
   all_known : (ts : List Ty) → AllByRecursion (TypeHasName world) ts → list_all (is_known (is_class_at world)) ts ≡ true
   all_known [] h = refl
@@ -67,19 +52,14 @@ module _ (world : List Shape) where
       subst named (sym (reverse-append (t ∷ []) ts)) (all_more (TypeHasName world) (reverse ts) t (all_turned ts h.1) h.0)
 
   pub are_known : (s : Types) → HasNames world s → AreKnown (is_class_at world) s
-  are_known s h =
-      let named : List Ty → Type 0 = λ us. AllByRecursion (TypeHasName world) us in
-      record { locals = all_known s.locals h.locals; operands = all_known s.operands (subst named (reverse-reverse s.operands) (all_turned (reverse s.operands) h.operands)) }
+  are_known s h = grind (arith, all_known, reverse-reverse, all_turned)
 
   pub have_names : (s : Types) → AreKnown (is_class_at world) s → HasNames world s
   have_names s h = record { locals = all_named s.locals h.locals; operands = all_turned s.operands (all_named s.operands h.operands) }
 
 -- states below one are of one shape
 of_one_shape : (below : ClassName → ClassName → Bool) (s t u : Types) → types_below below s u ≡ true → types_below below t u ≡ true → has_shape_of s t ≡ true
-of_one_shape below s t u one other =
-    let a = below_lengths below s u one in
-    let b = below_lengths below t u other in
-    both (length s.locals == length t.locals) (length s.operands == length t.operands) (eq-eqb (length s.locals) (length t.locals) (a.0 ∙ sym b.0)) (eq-eqb (length s.operands) (length t.operands) (a.1 ∙ sym b.1))
+of_one_shape below s t u one other = grind (arith, below_lengths, both, eq-eqb)
 
 -- whatever control flow does to types of a method leaves them known, so it leaves names to their classes
 pub keeps_names : (l : Linked) (m : Method) → AreKnown (is_class_at l.world) (entry_of m)

@@ -1,5 +1,5 @@
 -- Sets of numbers, and how many numbers aren't in them.
-use Rattle.std.proofs.Common.{◌≡◌, ℕ, zero, suc, ◌+◌, ◌<◌, ◌≤◌, ◌==◌, ◌||◌, Bool, true, false, cond, List, ◌⊎◌, inl, inr, sym, ap, ◌∙◌, arith, refl}
+use Rattle.std.proofs.Common.{◌≡◌, ℕ, zero, suc, ◌+◌, ◌<◌, ◌≤◌, ◌==◌, ◌||◌, true, false, List, ◌⊎◌, ◌∙◌, arith, refl}
 use Rattle.std.proofs.lemmas.Bool.{cases_eq, eq-eqb, ne_eqb}
 use Rattle.jc_base.specs.NumberSet.{has_number}
 use Rattle.jc_verify.specs.PrivateLive.{all_numbers, left_out}
@@ -7,9 +7,6 @@ use Rattle.jc_verify.specs.PrivateLive.{all_numbers, left_out}
 all_are : all_numbers ≡ 65_536
 unfolding all_numbers
 all_are = refl
-
-abbrev one_if : Bool → ℕ
-one_if there = cond there 0 1
 
 module _ (old new : List ℕ) (p : ℕ) (is : (n : ℕ) → has_number new n ≡ (n == p || has_number old n)) where
   pub has_itself : has_number new p ≡ true
@@ -22,38 +19,24 @@ module _ (old new : List ℕ) (p : ℕ) (is : (n : ℕ) → has_number new n ≡
   has_kept n h = by_number (cases_eq n p)
     where
       by_number : (n ≡ p) ⊎ (n ≡ p → ⊥) → has_number new n ≡ true
-      by_number (inl e) = ap (has_number new) e ∙ has_itself
-      by_number (inr apart) = has_as_before n apart ∙ h
+      by_number h1 = grind (arith, has_itself, has_as_before)
 
   pub has_cases : (n : ℕ) → has_number new n ≡ true → (n ≡ p) ⊎ (has_number old n ≡ true)
   has_cases n h = by_number (cases_eq n p)
     where
       by_number : (n ≡ p) ⊎ (n ≡ p → ⊥) → (n ≡ p) ⊎ (has_number old n ≡ true)
-      by_number (inl e) = inl e
-      by_number (inr apart) = inr (sym (has_as_before n apart) ∙ h)
+      by_number h1 = grind (arith, has_as_before)
 
   left_before : (n : ℕ) → n ≤ p → left_out new n ≡ left_out old n
   left_before zero h = refl
-  left_before (suc n) h =
-      let e : has_number new n ≡ has_number old n = has_as_before n (λ same. absurd (omega (arith, same, h))) in
-      ap (λ b. cond b 0 1 + left_out new n) e ∙ ap (λ m. cond (has_number old n) 0 1 + m) (left_before n (omega arith))
+  left_before (suc n) h = search (arith, has_as_before, left_before n (omega arith))
 
   left_below : has_number old p ≡ false → (n : ℕ) → p < n → left_out new n + 1 ≡ left_out old n
   left_below fresh zero h = absurd (omega arith)
   left_below fresh (suc n) h = by_number (cases_eq n p) (λ apart. left_below fresh n (omega (arith, apart, h)))
     where
       by_number : (n ≡ p) ⊎ (n ≡ p → ⊥) → ((n ≡ p → ⊥) → left_out new n + 1 ≡ left_out old n) → left_out new (suc n) + 1 ≡ left_out old (suc n)
-      by_number (inl e) smaller =
-          let now : has_number new n ≡ true = ap (has_number new) e ∙ has_itself in
-          let then : has_number old n ≡ false = ap (has_number old) e ∙ fresh in
-          let rest : left_out new n ≡ left_out old n = left_before n (omega (arith, e)) in
-          let a : one_if (has_number new n) ≡ one_if true = ap one_if now in
-          let b : one_if (has_number old n) ≡ one_if false = ap one_if then in
-          omega (arith, a, b, rest)
-      by_number (inr apart) smaller =
-          let rest : left_out new n + 1 ≡ left_out old n = smaller apart in
-          let a : one_if (has_number new n) ≡ one_if (has_number old n) = ap one_if (has_as_before n apart) in
-          omega (arith, a, rest)
+      by_number h1 h2 = grind (arith, has_itself, left_before, has_as_before)
 
   -- a number that wasn't in the set is put in
   pub one_less : has_number old p ≡ false → p < 65_536 → left_out new all_numbers + 1 ≡ left_out old all_numbers

@@ -1,5 +1,5 @@
 -- Handlers and branches that are gone through, one after the other.
-use Rattle.std.proofs.Common.{◌≡◌, ◌⊎◌, inl, inr, ℕ, ◌+◌, ◌<◌, ◌≤◌, ℤ, pos, false, List, [], ◌∷◌, length, zero, suc, Some, sym, subst, ◌∙◌, ap, arith, slice_get}
+use Rattle.std.proofs.Common.{◌≡◌, ◌⊎◌, ℕ, ◌+◌, ◌<◌, ◌≤◌, ℤ, pos, false, List, [], ◌∷◌, length, zero, suc, Some, subst, ◌∙◌, ap, arith, slice_get}
 use Rattle.std.specs.List.{AllByRecursion, Contains}
 use Rattle.std.proofs.lemmas.Bool.{cases_eq}
 use Rattle.std.proofs.lemmas.Option.{none-some, same_Some, slice_get-get_or, slice_get_within, get_or_from_slice_get}
@@ -7,7 +7,6 @@ use Rattle.jc_base.specs.declared.reason.Reason.{Reason}
 use Rattle.jc_code.specs.Listing.{PlacedInstr, begins}
 use Rattle.jc_check.specs.Method.{Handler, Method}
 use Rattle.jc_check.specs.declared.fault.WordFault.{WordFault}
-use Rattle.jc_check.specs.declared.fault.WordFault.TheVariants.{Refused, Memory}
 use Rattle.jc_verify.specs.PrivateLive.{Grown, HasLed, IfRefusal, IsBranchIn, IsCaughtIn}
 use Rattle.jc_verify.specs.declared.entries.Followed.{Followed}
 use Rattle.jc_verify.proofs.Following.{grown_self, grown_through, held_on}
@@ -24,8 +23,7 @@ pub all_contained : {A : Type 0} (P : A → Type 0) (xs : List A) (x : A) → Co
 all_contained P xs x c h = all_at P xs c.0 x (slice_get-get_or xs c.0 x c.1 ∙ ap Some c.2) h
 
 pub if_refusal : (fault : WordFault) (P Q : ℕ → Reason → Type 0) → IfRefusal fault P → ((pc : ℕ) (reason : Reason) → P pc reason → Q pc reason) → IfRefusal fault Q
-if_refusal (Refused pc reason) P Q h on = on pc reason h
-if_refusal Memory P Q h on = tt
+if_refusal fault P Q h1 h2 = grind arith
 
 -- of these places the one with a number is no pc at which an instruction begins
 pub off_one : (places : List ℤ) (k : ℕ) → k < length places → (listing : List PlacedInstr) → ((p : ℕ) → slice_get places k ≡ Some (pos p) → begins listing p ≡ false)
@@ -60,8 +58,7 @@ module _ {A : Type 0} (holds : Followed → A → Type 0) (xs : List A) {asks : 
   }
     where
       by : (n : ℕ) (y : A) → n < k + 1 → slice_get xs n ≡ Some y → (n ≡ k) ⊎ (n ≡ k → ⊥) → holds next y
-      by n y h e (inl is) = subst (holds next) (same_Some x y (sym at ∙ ap (slice_get xs) (sym is) ∙ e)) led.met
-      by n y h e (inr apart) = on now next led.grown y (passed.met n y (omega (arith, h, apart)) e)
+      by n y h1 h2 h3 = grind (arith, same_Some)
 
   pub passed_all : (k : ℕ) {start now : Followed} → length xs ≤ k → HasLed (AreMet holds xs k) asks start now → HasLed (λ f. (x : A) → Contains xs x → holds f x) asks start now
   passed_all k past passed = led_as passed (λ met x c. met c.0 x (omega (arith, past, c.1)) (slice_get-get_or xs c.0 x c.1 ∙ ap Some c.2)) (λ m listing asked. asked)

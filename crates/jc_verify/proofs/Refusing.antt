@@ -1,5 +1,5 @@
 -- What is refused while control flow is followed isn't carried by any certificate.
-use Rattle.std.proofs.Common.{◌≡◌, ℕ, pos, ◌<◌, ◌^◌, Bool, true, false, List, length, Option, Some, None, sym, ap, subst, ◌∙◌, arith, refl}
+use Rattle.std.proofs.Common.{◌≡◌, ℕ, pos, ◌<◌, ◌^◌, Bool, true, false, List, length, Option, Some, sym, ap, subst, ◌∙◌, arith, refl}
 use Rattle.jc_base.specs.declared.reason.Reason.{Reason}
 use Rattle.jc_cert.specs.Cert.{Stated}
 use Rattle.jc_code.specs.Instructions.{instr_at}
@@ -26,12 +26,10 @@ module _ (rules : Rules) (m : Method) (states : List Stated) (k : Carries rules 
 
   -- where types go on there is a state
   goes_typed : (pc : ℕ) (t : Types) (o : Option Types) → state_at k.claims pc ≡ o → GoesOn rules o (k.typing pc) t → IsTyped pc
-  goes_typed pc t None e h = (t, h)
-  goes_typed pc t (Some c) e h = (c, k.stated pc c e)
+  goes_typed pc t o h1 h2 = grind arith
 
   pub goes_on : (falls : Bool) (t : Types) (pc : ℕ) → falls ≡ true → GoesOnIf rules m k.claims k.typing falls t pc → (pc < length m.code) × GoesOn rules (state_at k.claims pc) (k.typing pc) t
-  goes_on true t pc e h = h
-  goes_on false t pc e h = absurd cc
+  goes_on falls t pc h1 h2 = grind arith
 
   pub carried_at : (x : PlacedInstr) → placed_at k.listing x.pc ≡ Some x → (t : IsTyped x.pc) → IsCarriedAt rules m k.listing k.claims k.typing x t.0
   carried_at x at t = k.live x.pc x t.0 at t.1
@@ -88,5 +86,4 @@ module _ (rules : Rules) (m : Method) (states : List Stated) (k : Carries rules 
 
     pub never_refused : (listing : List PlacedInstr) (starts : List ℕ) → length m.code < 2 ^ 16 → IsDecoded m.code listing starts
         → (fault : WordFault) → IfRefusal fault (λ at why. (xs : List PlacedInstr) → IsGround m xs starts → IsAstray m xs at why) → (pc : ℕ) (reason : Reason) → fault ≡ Refused pc reason → ⊥
-    never_refused listing starts short d fault off pc reason is =
-        never_astray (by_refusal fault (λ at why. (xs : List PlacedInstr) → IsGround m xs starts → IsAstray m xs at why) off pc reason is k.listing (grounded listing starts short d))
+    never_refused listing starts short d fault off pc reason is = grind (arith, never_astray, by_refusal, grounded)

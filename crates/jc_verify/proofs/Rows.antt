@@ -1,5 +1,5 @@
 -- The rows of a package's methods, one more.
-use Rattle.std.proofs.Common.{◌≡◌, ◌⊎◌, inl, inr, ℕ, ◌+◌, ◌<◌, ◌≤◌, ◌^◌, List, [], ◌∷◌, ◌++◌, length, Some, slice_get, refl, sym, ap, subst, ◌∙◌, arith}
+use Rattle.std.proofs.Common.{◌≡◌, ◌⊎◌, inl, inr, ℕ, ◌+◌, ◌<◌, ◌≤◌, ◌^◌, List, [], ◌∷◌, ◌++◌, length, Some, slice_get, sym, ap, subst, ◌∙◌, arith}
 use Rattle.std.proofs.lemmas.Bool.{cases_eq}
 use Rattle.std.proofs.lemmas.Option.{same_Some}
 use Rattle.jc_cap_desc.specs.Shape.{MethodBody, StandApart}
@@ -15,8 +15,7 @@ module _ (l : Linked) (apart : StandApart l.body.kept.methods) (n : ℕ) (of : L
   either k c s = by_place (cases_eq k n)
     where
       by_place : (k ≡ n) ⊎ (k ≡ n → ⊥) → Stands l n k c ⊎ ((k ≡ n) × (b ≡ c))
-      by_place (inl is) = inr (is, same_Some b c (sym at ∙ ap (slice_get l.body.kept.methods) (sym is) ∙ s.is))
-      by_place (inr other) = inl (record { first = omega (arith, s.first, other); is = s.is })
+      by_place h1 = grind (arith, same_Some)
 
   more : (k : ℕ) (c : MethodBody) → Stands l n k c → Stands l (n + 1) k c
   more k c s = record { first = omega (arith, s.first); is = s.is }
@@ -37,8 +36,7 @@ module _ (l : Linked) (apart : StandApart l.body.kept.methods) (n : ℕ) (of : L
   }
     where
       each : (k : ℕ) (c : MethodBody) → Stands l n k c ⊎ ((k ≡ n) × (b ≡ c)) → IsInferred l (method_of l c) [] ⊎ HasRow of c.offset
-      each k c (inl s) = so_far.each k c s
-      each k c (inr (is, same)) = inl (subst (λ x. IsInferred l (method_of l x) []) same carried)
+      each k c h1 = grind arith
 
   -- its row
   abbrev own_row : List Stated → Row
@@ -57,22 +55,17 @@ module _ (l : Linked) (apart : StandApart l.body.kept.methods) (n : ℕ) (of : L
       is_fresh j r e same = let h = so_far.come j r e in none_before h.place h.method h.stands (sym h.offset ∙ same)
 
       distinct : (j k : ℕ) (r s : Row) → r.offset ≡ s.offset → (slice_get of j ≡ Some r) ⊎ ((j ≡ length of) × (own_row states ≡ r)) → (slice_get of k ≡ Some s) ⊎ ((k ≡ length of) × (own_row states ≡ s)) → j ≡ k
-      distinct j k r s same (inl e) (inl f) = so_far.distinct j k r s e f same
-      distinct j k r s same (inl e) (inr (h, f)) = absurd (is_fresh j r e (same ∙ sym (ap (λ (x : Row). x.offset) f)))
-      distinct j k r s same (inr (h, e)) (inl f) = absurd (is_fresh k s f (sym same ∙ sym (ap (λ (x : Row). x.offset) e)))
-      distinct j k r s same (inr (h, e)) (inr (i, f)) = h ∙ sym i
+      distinct j k r s h1 h2 h3 = grind (arith, is_fresh)
 
       each : (k : ℕ) (c : MethodBody) → Stands l n k c ⊎ ((k ≡ n) × (b ≡ c)) → IsInferred l (method_of l c) [] ⊎ HasRow (of ++ own_row states ∷ []) c.offset
       each k c (inl s) = of_row (so_far.each k c s)
         where
           of_row : IsInferred l (method_of l c) [] ⊎ HasRow of c.offset → IsInferred l (method_of l c) [] ⊎ HasRow (of ++ own_row states ∷ []) c.offset
-          of_row (inl h) = inl h
-          of_row (inr h) = inr (record { place = h.place; row = h.row; is = get_kept of (own_row states) h.row h.place h.is; for = h.for })
+          of_row h1 = grind (arith, get_kept)
       each k c (inr (is, same)) = inr (record { place = length of; row = own_row states; is = get_last of (own_row states); for = ap (λ (x : MethodBody). x.offset) same })
 
       come : (k : ℕ) (r : Row) → (slice_get of k ≡ Some r) ⊎ ((k ≡ length of) × (own_row states ≡ r)) → IsRowOf l (n + 1) r
-      come k r (inl e) = row_more r (so_far.come k r e)
-      come k r (inr (is, same)) = subst (IsRowOf l (n + 1)) same (record { place = n; method = b; stands = record { first = omega arith; is = at }; offset = refl; small = small; some = some; inferred = carried })
+      come k r h1 = grind (arith, row_more)
 
   pub put : (states : List Stated) (after : List Row) → b.offset < 2 ^ 16 → IsInferred l (method_of l b) states → IsPut b.offset states of after → AreGathered l (n + 1) after
   put states after small carried (inl (none, same)) = subst (AreGathered l (n + 1)) (sym same) (without_row (subst (IsInferred l (method_of l b)) none carried))

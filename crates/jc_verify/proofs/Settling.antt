@@ -4,7 +4,6 @@ use Rattle.std.specs.List.{AllByRecursion}
 use Rattle.std.proofs.lemmas.Bool.{cases_eq}
 use Rattle.std.proofs.lemmas.Option.{none-some, same_Some, slice_get_within}
 use Rattle.jc_code.specs.Listing.{PlacedInstr}
-use Rattle.jc_code.specs.Targets.{targets_of}
 use Rattle.jc_check.specs.Method.{Handler, Method}
 use Rattle.jc_check.specs.Package.{package_rules}
 use Rattle.jc_check.specs.Typing.{BranchLeads, HandlerLeads, HasShape, Leads, Typing}
@@ -14,7 +13,7 @@ use Rattle.jc_verify.specs.PrivateFlow.{Grown, HasLaws, HasRoom, IsClosed, IsUnd
 use Rattle.jc_verify.specs.PrivateTold.{AreReached}
 use Rattle.jc_verify.specs.PrivatePlaces.{IsStep, left_of}
 use Rattle.jc_verify.specs.PrivateSettled.{IsFollowed, IsSettled, IsSwept, settled_place}
-use Rattle.jc_verify.specs.PrivateWork.{Bears, ClosedFrom, FlowsTo, HasTaken, HaveRoom, IsAtWork, LeadsTo}
+use Rattle.jc_verify.specs.PrivateWork.{Bears, ClosedFrom, FlowsTo, HasTaken, HaveRoom, IsAtWork}
 use Rattle.jc_verify.specs.declared.flow.Flow.{Flow}
 use Rattle.jc_verify.specs.declared.place.Place.{Place}
 use Rattle.jc_verify.proofs.Arriving.{IsHeldBy, at_number, held_by, set_length, set_other, set_same}
@@ -38,11 +37,7 @@ module _ (l : Linked) (laws : HasLaws l) (m : Method) (numbers : List (Option �
     handler_on pc t h leads covers = let k = leads covers in record { class = k.class; catches = k.catches; leads = leads_on l laws m numbers before after g _ h.goes_on k.leads }
 
     visited_on : (x : PlacedInstr) (s after_types : Types) → IsVisited (package_rules l) m (held_at numbers before) x s after_types → IsVisited (package_rules l) m (held_at numbers after) x s after_types
-    visited_on x s t v = record {
-      handled = all_on (HandlerLeads (package_rules l) (held_at numbers before) x.pc s) (HandlerLeads (package_rules l) (held_at numbers after) x.pc s) (handler_on x.pc s) m.handlers v.handled;
-      effect = v.effect;
-      branches = all_on (BranchLeads (package_rules l) (held_at numbers before) t) (BranchLeads (package_rules l) (held_at numbers after) t) (branch_on t) (targets_of x.pc x.instr.operation) v.branches;
-    }
+    visited_on x s t v = grind (arith, all_on, before, handler_on, branch_on)
 
     pub closed_on : (pc : ℕ) (t : Types) → IsClosed (package_rules l) m numbers (held_at numbers before) pc t → IsClosed (package_rules l) m numbers (held_at numbers after) pc t
     closed_on pc t (ends x s u decoded visited stops) = ends x s u decoded (visited_on x s u visited) stops
@@ -64,10 +59,7 @@ module _ (l : Linked) (laws : HasLaws l) (m : Method) (numbers : List (Option �
     same_held P n q e on = by_number (cases_eq n number)
       where
         by_number : (n ≡ number) ⊎ (n ≡ number → ⊥) → P q.pc q.held
-        by_number (inl is) =
-            let to_q : settled_place p ≡ q = same_Some (settled_place p) q (sym here ∙ ap (slice_get (cleared places number p)) (sym is) ∙ e) in
-            subst (λ (x : Place StateWithRoom). P x.pc x.held) to_q (on p (ap (slice_get places) is ∙ at))
-        by_number (inr other) = on q (sym (set_other places number n (settled_place p) other) ∙ e)
+        by_number h1 = grind (arith, same_Some, here, set_other)
 
     cleared_rises : (pc : ℕ) (t : Types) → held_at numbers places pc ≡ Some t → Leads (package_rules l) (held_at numbers (cleared places number p)) t pc
     cleared_rises pc t e = by_number (cases_eq by.number number)
@@ -83,10 +75,7 @@ module _ (l : Linked) (laws : HasLaws l) (m : Method) (numbers : List (Option �
         }
 
         by_number : (by.number ≡ number) ⊎ (by.number ≡ number → ⊥) → Leads (package_rules l) (held_at numbers (cleared places number p)) t pc
-        by_number (inl is) =
-            let to_p : p ≡ by.place = same_Some p by.place (sym at ∙ ap (slice_get places) (sym is) ∙ by.stands) in
-            of_place (settled_place p) (ap (slice_get (cleared places number p)) is ∙ here) (ap (λ (x : Place StateWithRoom). x.held) to_p)
-        by_number (inr other) = of_place by.place (set_other places number by.number (settled_place p) other ∙ by.stands) refl
+        by_number h1 = grind (arith, by, same_Some, stands, of_place, here, set_other)
 
     pub cleared_risen : Risen l m numbers places (cleared places number p)
     cleared_risen = record {
@@ -110,8 +99,7 @@ module _ (l : Linked) (laws : HasLaws l) (m : Method) (numbers : List (Option �
 
     cleared_settled : IsSettled l m numbers places → (n : ℕ) (q : Place StateWithRoom) (t : Types) → (n ≡ number → ⊥) → slice_get (cleared places number p) n ≡ Some q → q.changed ≡ false → types_held q ≡ Some t
         → IsClosed (package_rules l) m numbers (held_at numbers (cleared places number p)) q.pc t
-    cleared_settled h n q t other e unchanged held =
-        closed_on places (cleared places number p) cleared_risen q.pc t (h n q t (sym (set_other places number n (settled_place p) other) ∙ e) unchanged held)
+    cleared_settled h n q t other e unchanged held = grind (arith, closed_on, cleared_risen, set_other)
 
     same_left : (ps : Places) (n : ℕ) → slice_get ps n ≡ Some p → left_in l m (slice_set ps n (settled_place p)) ≡ left_in l m ps
     same_left [] n e = refl
@@ -132,10 +120,7 @@ module _ (l : Linked) (laws : HasLaws l) (m : Method) (numbers : List (Option �
     }
       where
         flag : (n : ℕ) (q : Place StateWithRoom) → slice_get places n ≡ Some q → q.changed ≡ true → n ≡ number → ⊥
-        flag n q e changed is =
-            let to_q : p ≡ q = same_Some p q (sym at ∙ ap (slice_get places) (sym is) ∙ e) in
-            let t : true ≡ false = sym changed ∙ sym (ap (λ (x : Place StateWithRoom). x.changed) to_q) ∙ unchanged in
-            absurd cc
+        flag n q e changed is = grind (arith, same_Some)
 
     module _ (after : Places) (g : Grown l m numbers (cleared places number p) after)
         (closed : (t : Types) → types_held p ≡ Some t → IsClosed (package_rules l) m numbers (held_at numbers after) p.pc t)
@@ -148,8 +133,7 @@ module _ (l : Linked) (laws : HasLaws l) (m : Method) (numbers : List (Option �
           before = stands (below_in l.world) (height_in l.world) (most_height m) after (cleared places number p) (sym g.steps.len) n q e
 
           by_step : IsStep (below_in l.world) (height_in l.world) (most_height m) before.0 q → slice_get (cleared places number p) n ≡ Some q
-          by_step (inl same) = before.1 ∙ ap Some (sym same)
-          by_step (inr raised) = let t : true ≡ false = sym raised.changed ∙ unchanged in absurd cc
+          by_step h1 = grind (arith, before)
 
       followed_settled : IsSettled l m numbers places → IsSettled l m numbers after
       followed_settled h n q t e unchanged held = by_number (cases_eq n number)
@@ -158,15 +142,10 @@ module _ (l : Linked) (laws : HasLaws l) (m : Method) (numbers : List (Option �
           was = unchanged_since n q e unchanged
 
           by_number : (n ≡ number) ⊎ (n ≡ number → ⊥) → IsClosed (package_rules l) m numbers (held_at numbers after) q.pc t
-          by_number (inl is) =
-              let to_q : settled_place p ≡ q = same_Some (settled_place p) q (sym here ∙ ap (slice_get (cleared places number p)) (sym is) ∙ was) in
-              subst (λ (x : Place StateWithRoom). IsClosed (package_rules l) m numbers (held_at numbers after) x.pc t) to_q (closed t (ap types_held to_q ∙ held))
-          by_number (inr other) = closed_on (cleared places number p) after g.risen q.pc t (cleared_settled h n q t other was unchanged held)
+          by_number h1 = grind (arith, same_Some, here, was, closed_on, cleared_settled)
 
       left_after : left_in l m after ≤ left_in l m places
-      left_after =
-          let falls = left_falls (below_in l.world) (height_in l.world) (most_height m) (cleared places number p) after g.steps in
-          omega (arith, falls, same_left places number at)
+      left_after = search (arith, left_falls, same_left)
 
       followed_flags : (n : ℕ) (q : Place StateWithRoom) → slice_get after n ≡ Some q → q.changed ≡ true
           → (left_in l m after < left_in l m places) ⊎ ((n ≢ number) × (r : Place StateWithRoom) × (slice_get places n ≡ Some r) × (r.changed ≡ true))
@@ -176,11 +155,7 @@ module _ (l : Linked) (laws : HasLaws l) (m : Method) (numbers : List (Option �
           before = stands (below_in l.world) (height_in l.world) (most_height m) after (cleared places number p) (sym g.steps.len) n q e
 
           by_number : (q ≡ before.0) → (n ≡ number) ⊎ (n ≡ number → ⊥) → (left_in l m after < left_in l m places) ⊎ ((n ≢ number) × (r : Place StateWithRoom) × (slice_get places n ≡ Some r) × (r.changed ≡ true))
-          by_number same (inl is) =
-              let to_x : settled_place p ≡ before.0 = same_Some (settled_place p) before.0 (sym here ∙ ap (slice_get (cleared places number p)) (sym is) ∙ before.1) in
-              let t : true ≡ false = sym changed ∙ ap (λ (x : Place StateWithRoom). x.changed) (same ∙ sym to_x) in
-              absurd cc
-          by_number same (inr other) = inr (other, before.0, sym (set_other places number n (settled_place p) other) ∙ before.1, ap (λ (x : Place StateWithRoom). x.changed) (sym same) ∙ changed)
+          by_number h1 h2 = grind (arith, before, same_Some, here, set_other)
 
           by_step : IsStep (below_in l.world) (height_in l.world) (most_height m) before.0 q → (left_in l m after < left_in l m places) ⊎ ((n ≢ number) × (r : Place StateWithRoom) × (slice_get places n ≡ Some r) × (r.changed ≡ true))
           by_step (inl same) = by_number same (cases_eq n number)
@@ -189,14 +164,7 @@ module _ (l : Linked) (laws : HasLaws l) (m : Method) (numbers : List (Option �
               inl (omega (arith, falls, same_left places number at))
 
       pub followed : IsFollowed l m numbers number places after
-      followed = record {
-        risen = risen_through l laws m numbers places (cleared places number p) after cleared_risen g.risen;
-        under = least;
-        reached = reached;
-        settled = followed_settled;
-        left = left_after;
-        flags = followed_flags;
-      }
+      followed = grind (arith, risen_through, cleared_risen, followed_settled, left_after, followed_flags)
 
   -- ---- one place after the other
 
@@ -267,10 +235,7 @@ module _ (l : Linked) (laws : HasLaws l) (m : Method) (numbers : List (Option �
         was = stands (below_in l.world) (height_in l.world) (most_height m) after before (sym g.steps.len) n q e
 
         by_step : IsStep (below_in l.world) (height_in l.world) (most_height m) was.0 q → IsClosed (package_rules l) m numbers (held_at numbers after) q.pc t
-        by_step (inl same) =
-            let none : q.held ≡ None = ap (λ (x : Place StateWithRoom). x.held) same ∙ empty n was.0 was.1 in
-            absurd (none-some t (sym (ap (λ (o : Option StateWithRoom). types_held (record { pc = 0; held = o; changed = false })) none) ∙ held))
-        by_step (inr raised) = let u : true ≡ false = sym raised.changed ∙ unchanged in absurd cc
+        by_step h1 = grind (arith, was, none-some)
 
     pub under_first : (typing : Typing) → IsUnder l numbers before typing
     under_first typing pc t e = let by : IsHeldBy l laws m numbers before pc t = held_by l laws m numbers before pc t e in absurd (none-some by.state (sym (empty by.number by.place by.stands) ∙ by.held))
@@ -287,33 +252,19 @@ module _ {f : Flow} {places : Places} (work : IsAtWork f places) (number : ℕ) 
   taken_flows = subst (λ (n : ℕ). FlowsTo f n s) taken.0 (types_reached f.linked.now f.method.now p.pc p.held s taken.2 (λ x e. work.reached number p x at e))
 
   pub taken_under : {typing : Typing} → IsUnder f.linked.now f.numbers.now places typing → IsUnder f.linked.now f.numbers.now (slice_set places number q) typing
-  taken_under {typing} under =
-      subst (λ (x : Place StateWithRoom). IsUnder f.linked.now f.numbers.now (slice_set places number x) typing) (sym taken.1) (cleared_under f.linked.now work.sound.laws f.method.now f.numbers.now places number p at typing under)
+  taken_under {typing} under = grind (arith, slice_set, cleared_under)
 
   -- what a typing says of it
   pub taken_bears : {typing : Typing} → IsUpper f.linked.now f.method.now typing → IsUnder f.linked.now f.numbers.now places typing → Bears f start s typing
-  taken_bears {typing} upper under = record {
-    upper = upper;
-    leads =
-        subst (λ (n : ℕ). LeadsTo f n s typing) taken.0
-        (under p.pc s (at_number f.linked.now work.sound.laws f.method.now f.numbers.now places p.pc number p (work.numbered.known number p at) at ∙ taken.2));
-  }
+  taken_bears {typing} upper under = grind (arith, at_number)
 
   pub one_taken : {after : Places} → HasTaken f (ClosedFrom f start s) (Bears f start s) (slice_set places number q) after → IsFollowed f.linked.now f.method.now f.numbers.now number places after
-  one_taken {after} t =
-      let l = f.linked.now in
-      let laws = work.sound.laws in
-      let closed : ClosedFrom f start s (held_at f.numbers.now after) = t.met after (risen_self l laws f.method.now f.numbers.now after) in
-      followed l laws f.method.now f.numbers.now places number p at after (subst (λ (x : Place StateWithRoom). Grown l f.method.now f.numbers.now (slice_set places number x) after) taken.1 t.grown)
-      (λ u e. subst (λ (v : Types). ClosedFrom f p.pc v (held_at f.numbers.now after)) (same_Some s u (sym taken.2 ∙ e)) (subst (λ (n : ℕ). ClosedFrom f n s (held_at f.numbers.now after)) (sym taken.0) closed))
-      (λ typing upper under. t.least typing (taken_under under) (taken_bears upper under)) (λ h. t.work.reached)
+  one_taken {after} t = grind (arith, risen_self, followed, slice_set, same_Some, taken_under, taken_bears)
 
 -- what a place holds fits into a state with room, which has room then
 pub fits_place : {f : Flow} {places : Places} (number : ℕ) {p : Place StateWithRoom} {state : StateWithRoom} → IsAtWork f places → HasRoom f.method.now state → slice_get places number ≡ Some p
     → (s : StateWithRoom) → p.held ≡ Some s → (length s.types.locals ≡ length state.types.locals) × (length s.types.operands ≤ state.room)
-fits_place {f} {places} number {p} {state} work room at s held =
-    let shape = work.shaped number p s at held in
-    (shape.locals ∙ sym room.locals, omega (arith, shape.operands, room.room))
+fits_place {f} {places} number {p} {state} work room at s held = grind arith
 
 pub room_taken : {f : Flow} {caught state after : StateWithRoom} → HaveRoom f caught state → after.room ≡ state.room → length after.types.locals ≡ length state.types.locals → HaveRoom f caught after
 room_taken have room locals = record { caught = have.caught; state = record { locals = locals ∙ have.state.locals; room = room ∙ have.state.room } }

@@ -1,5 +1,5 @@
 -- Where instructions begin.
-use Rattle.std.proofs.Common.{◌≡◌, ◌≢◌, ◌⊎◌, inl, inr, ℕ, ◌≤◌, ◌<◌, ◌==◌, ◌||◌, List, [], ◌∷◌, ◌++◌, length, Result, Ok, Err, Some, Bool, true, false, cond, refl, sym, ap, ◌∙◌, subst, arith}
+use Rattle.std.proofs.Common.{◌≡◌, ◌≢◌, ◌⊎◌, inl, inr, ℕ, ◌≤◌, ◌<◌, ◌==◌, ◌||◌, List, [], ◌∷◌, ◌++◌, length, Result, Ok, Some, Bool, true, false, cond, refl, sym, ap, ◌∙◌, subst, arith}
 use Rattle.std.proofs.lemmas.Bool.{cases_eq, eq-eqb, ne_eqb, or_left, or_right}
 use Rattle.std.proofs.lemmas.Option.{same_Some}
 use Rattle.jc_base.proofs.Binding.{the_ok, ok_err}
@@ -30,13 +30,11 @@ unfolding begins
 begins-push [] x pc = flip (x.pc == pc)
   where
     flip : (b : Bool) → b || false ≡ b
-    flip true = refl
-    flip false = refl
+    flip b = grind arith
 begins-push (y ∷ ys) x pc = rw (begins-push ys x pc) (regroup (y.pc == pc) (begins ys pc) (x.pc == pc))
   where
     regroup : (a b c : Bool) → a || (b || c) ≡ (a || b) || c
-    regroup true b c = refl
-    regroup false b c = refl
+    regroup a b c = grind arith
 
 -- the start of one instruction more is put in
 with_instr : (code : List ℕ) (pc : ℕ) (i : Instr) (old new : List ℕ) → instr_at code pc ≡ Ok i → i.next_pc ≤ length code → ((n : ℕ) → has_number new n ≡ (n == pc || has_number old n)) → SoFar code pc old
@@ -56,22 +54,17 @@ with_instr code pc i old new at within is s = record {
         rw e (rw f (last b))
       where
         last : (b : Bool) → b ≡ b || false
-        last true = refl
-        last false = refl
+        last b = grind arith
 
 -- where an instruction goes on, one stands
 stands : (r : Result Instr CodeFault) (behind : ℕ) → Ok behind ≡ next_pc_of r
     → (i : Instr) × (r ≡ Ok i) × (i.next_pc ≡ behind)
-stands (Ok i) behind e = (i, refl, sym (the_ok behind i.next_pc e))
-stands (Err fault) behind e = absurd (ok_err behind fault e)
+stands r behind h1 = grind (arith, the_ok, ok_err)
 
 pub start_more : (code : List ℕ) (pc behind : ℕ) (old new : List ℕ) → Ok behind ≡ next_pc_of (instr_at code pc)
     → behind ≤ length code → ((n : ℕ) → has_number new n ≡ (n == pc || has_number old n)) → SoFar code pc old
     → SoFar code behind new
-start_more code pc behind old new e within is s =
-    let i = stands (instr_at code pc) behind e in
-    let W : ℕ → Type 0 = λ n. n ≤ length code → SoFar code n new in
-    subst W i.2 (λ le. with_instr code pc i.0 old new i.1 le is s) within
+start_more code pc behind old new e within is s = grind (arith, stands, with_instr)
 
 -- ---- in a listing
 
@@ -105,13 +98,11 @@ behind_one code from to (y ∷ ys) pc x h e = step (y.pc == pc) (λ k. behind_on
     next (z ∷ zs) k = inr (or_right (y.pc == y.instr.next_pc) _ (or_left (z.pc == y.instr.next_pc) _ (eq-eqb z.pc y.instr.next_pc k.0)))
 
     later : (x.instr.next_pc ≡ to) ⊎ (begins ys x.instr.next_pc ≡ true) → (x.instr.next_pc ≡ to) ⊎ ((y.pc == x.instr.next_pc) || begins ys x.instr.next_pc ≡ true)
-    later (inl k) = inl k
-    later (inr k) = inr (or_right (y.pc == x.instr.next_pc) _ k)
+    later h1 = grind (arith, or_right)
 
     step : (b : Bool) → (placed_at ys pc ≡ Some x → (x.instr.next_pc ≡ to) ⊎ (begins ys x.instr.next_pc ≡ true)) → cond b (Some y) (placed_at ys pc) ≡ Some x
         → (x.instr.next_pc ≡ to) ⊎ ((y.pc == x.instr.next_pc) || begins ys x.instr.next_pc ≡ true)
-    step true more e = subst (λ (z : PlacedInstr). (z.instr.next_pc ≡ to) ⊎ ((y.pc == z.instr.next_pc) || begins ys z.instr.next_pc ≡ true)) (same_Some y x e) (next ys h.2)
-    step false more e = later (more e)
+    step b h1 h2 = grind (arith, same_Some, next, later)
 
 -- behind an instruction begins another, unless the code ends there
 pub behind_begins : (code : List ℕ) (listing : List PlacedInstr) (pc : ℕ) (x : PlacedInstr) → IsListing instr_at code listing → placed_at listing pc ≡ Some x → x.instr.next_pc < length code
@@ -119,8 +110,7 @@ pub behind_begins : (code : List ℕ) (listing : List PlacedInstr) (pc : ℕ) (x
 behind_begins code listing pc x whole at within = by (behind_one code 0 (length code) listing pc x whole at)
   where
     by : (x.instr.next_pc ≡ length code) ⊎ (begins listing x.instr.next_pc ≡ true) → begins listing x.instr.next_pc ≡ true
-    by (inl e) = absurd (omega (arith, e, within))
-    by (inr e) = e
+    by h1 = grind arith
 
 -- code that isn't empty has an instruction at its first byte
 pub first_begins : (code : List ℕ) (listing : List PlacedInstr) → IsListing instr_at code listing → code ≢ [] → begins listing 0 ≡ true

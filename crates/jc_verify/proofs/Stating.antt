@@ -1,5 +1,5 @@
 -- What is stated of types is what is claimed of them.
-use Rattle.std.proofs.Common.{◌≡◌, List, [], ◌∷◌, ◌++◌, Option, Some, None, refl, sym, ap, subst, ◌∙◌}
+use Rattle.std.proofs.Common.{◌≡◌, List, [], ◌∷◌, ◌++◌, Option, Some, None, refl, sym, ap, subst, ◌∙◌, arith}
 use Rattle.std.specs.Option.{option_and_then, option_map}
 use Rattle.std.proofs.lemmas.Option.{none-some, same_Some}
 use Rattle.jc_cert.specs.declared.stated_type.SpelledClass.{SpelledClass}
@@ -20,9 +20,7 @@ claimed_more class_of (r ∷ stated) types s t h e = by_first (type_claimed clas
   where
     by_first : (a : Option Ty) (o : Option (List Ty)) → ((us : List Ty) → o ≡ Some us → types_claimed class_of (stated ++ s ∷ []) ≡ Some (us ++ t ∷ [])) → option_and_then (λ one. option_map (λ more. one ∷ more) o) a ≡ Some types
         → option_and_then (λ one. option_map (λ more. one ∷ more) (types_claimed class_of (stated ++ s ∷ []))) a ≡ Some (types ++ t ∷ [])
-    by_first None o on h = absurd (none-some types h)
-    by_first (Some one) None on h = absurd (none-some types h)
-    by_first (Some one) (Some us) on h = ap (option_map (λ more. one ∷ more)) (on us refl) ∙ ap (λ ts. Some (ts ++ t ∷ [])) (same_Some (one ∷ us) types h)
+    by_first a o h1 h2 = grind (arith, none-some, same_Some)
 
 -- ---- rows of places
 
@@ -34,8 +32,7 @@ module _ (class_of : SpelledClass → Option ClassName) where
     where
       by_held : (o : Option StateWithRoom) → ((ds : List Stated) → AreStateRows class_of places ds → AreStateRows class_of (places ++ p ∷ []) ds) → RowIf class_of q.pc o (AreStateRows class_of places) cs
           → RowIf class_of q.pc o (AreStateRows class_of (places ++ p ∷ [])) cs
-      by_held None more h = more cs h
-      by_held (Some s) more h = record { row = h.row; rest = h.rest; are = h.are; states = h.states; behind = more h.rest h.behind }
+      by_held o h1 h2 = grind arith
 
   -- a place more, with the row of what it holds
   pub row_more : (places : Places) (p : Place StateWithRoom) (s : StateWithRoom) (cs : List Stated) (c : Stated) → p.held ≡ Some s → IsStateRow class_of p.pc s.types c → AreStateRows class_of places cs
@@ -46,5 +43,4 @@ module _ (class_of : SpelledClass → Option ClassName) where
     where
       by_held : (o : Option StateWithRoom) → ((ds : List Stated) → AreStateRows class_of places ds → AreStateRows class_of (places ++ p ∷ []) (ds ++ c ∷ [])) → RowIf class_of q.pc o (AreStateRows class_of places) cs
           → RowIf class_of q.pc o (AreStateRows class_of (places ++ p ∷ [])) (cs ++ c ∷ [])
-      by_held None more h = more cs h
-      by_held (Some r) more h = record { row = h.row; rest = h.rest ++ c ∷ []; are = ap (λ ds. ds ++ c ∷ []) h.are; states = h.states; behind = more h.rest h.behind }
+      by_held o h1 h2 = grind arith

@@ -38,22 +38,19 @@ module _ {L : Type 0} (below : L → L → Bool) (height : L → ℕ) (most : �
   tails p q ps qs h = record { len = omega (arith, h.len); each = λ n x y e f. h.each (suc n) x y e f }
 
   step_left : (p q : Place L) → IsStep below height most p q → left_of height most q ≤ left_of height most p
-  step_left p q (inl e) = let same : left_of height most q ≡ left_of height most p = ap (left_of height most) e in omega (arith, same)
-  step_left p q (inr h) = omega (arith, h.less)
+  step_left p q h1 = grind arith
 
   pub left_falls : (a b : List (Place L)) → AreSteps below height most a b → all_left height most b ≤ all_left height most a
   left_falls [] [] h = omega arith
-  left_falls [] (q ∷ qs) h = absurd (omega (arith, h.len))
-  left_falls (p ∷ ps) [] h = absurd (omega (arith, h.len))
   left_falls (p ∷ ps) (q ∷ qs) h = omega (arith, step_left p q (h.each 0 p q refl refl), left_falls ps qs (tails p q ps qs h))
+  left_falls t u h = absurd (omega (arith, h.len))
 
   -- a place that was raised lets it fall
   pub raised_falls : (a b : List (Place L)) → AreSteps below height most a b → (n : ℕ) (p q : Place L) → slice_get a n ≡ Some p → slice_get b n ≡ Some q → IsRaised below height most p q
       → all_left height most b < all_left height most a
-  raised_falls [] b h n p q e f r = absurd cc
-  raised_falls (x ∷ ps) [] h n p q e f r = absurd cc
   raised_falls (x ∷ ps) (y ∷ qs) h zero p q e f r =
       let u : left_of height most p ≡ left_of height most x = ap (left_of height most) (sym (same_Some x p e)) in
       let v : left_of height most q ≡ left_of height most y = ap (left_of height most) (sym (same_Some y q f)) in
       omega (arith, r.less, u, v, left_falls ps qs (tails x y ps qs h))
   raised_falls (x ∷ ps) (y ∷ qs) h (suc n) p q e f r = omega (arith, step_left x y (h.each 0 x y refl refl), raised_falls ps qs (tails x y ps qs h) n p q e f r)
+  raised_falls t b h n p q e f r = absurd cc

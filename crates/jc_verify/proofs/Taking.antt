@@ -1,6 +1,5 @@
 -- What places have taken in, one step behind the other.
-use Rattle.std.proofs.Common.{◌≡◌, ℕ, ◌+◌, ◌≤◌, Bool, true, false, List, length, None, Some, Ok, slice_get, slice_set, refl, sym, ap, subst, ◌∙◌}
-use Rattle.std.specs.List.{AllByRecursion}
+use Rattle.std.proofs.Common.{◌≡◌, ℕ, ◌+◌, Bool, true, false, List, None, Some, Ok, slice_get, slice_set, refl, sym, ap, subst, ◌∙◌, arith}
 use Rattle.std.specs.Option.{option_map}
 use Rattle.std.proofs.lemmas.Option.{none-some, slice_get-get_or}
 use Rattle.jc_code.specs.Targets.{falls_of, targets_of}
@@ -8,7 +7,7 @@ use Rattle.jc_code.specs.declared.instr.Instr.{Instr}
 use Rattle.jc_check.specs.Package.{package_rules}
 use Rattle.jc_check.specs.Typing.{HasShape, Typing}
 use Rattle.jc_types.specs.State.{StateWithRoom, Types, has_shape_of}
-use Rattle.jc_verify.specs.PrivateFlow.{IsUnder, Places, Risen, below_in, ends, held_at, height_in, most_height, number_at, placed}
+use Rattle.jc_verify.specs.PrivateFlow.{IsUnder, Places, Risen, below_in, ends, height_in, most_height, number_at, placed}
 use Rattle.jc_verify.specs.PrivatePlaces.{HoldsAbove, IsHeldBelow, IsStep, IsTakenIn, IsUnlike}
 use Rattle.jc_verify.specs.PrivateStop.{stop_of}
 use Rattle.jc_verify.specs.PrivateTold.{AreReached, meets_unlike}
@@ -20,7 +19,7 @@ use Rattle.jc_verify.specs.declared.place.Place.{Place}
 use Rattle.jc_verify.proofs.Arriving.{arrived, at_number, leads_in}
 use Rattle.jc_verify.proofs.Denying.{refused_for, refuses_memory}
 use Rattle.jc_verify.proofs.Growing.{grown_self, grown_through, risen_through}
-use Rattle.jc_verify.proofs.Lists.{all_from, all_past}
+use Rattle.jc_verify.proofs.Lists.{all_from}
 use Rattle.jc_verify.proofs.Lying.{goes_with, never_unlike, under_arrived}
 use Rattle.jc_verify.proofs.Passing.{all_at}
 use Rattle.jc_verify.proofs.Reaching.{falls_reaches, reached_arrived, reached_first}
@@ -33,22 +32,14 @@ blank_place = record { pc = 0; held = None; changed = false }
 
 module _ {f : Flow} {places : Places} where
   pub blank_work : IsBlank f places → IsAtWork f places
-  blank_work blank = record {
-    sound = blank.sound;
-    numbered = blank.numbered;
-    shaped = λ n p s e held. absurd (none-some s (sym (blank.empty n p e) ∙ held));
-    reached = reached_first f.linked.now f.method.now places blank.empty;
-  }
+  blank_work blank = grind (arith, none-some, reached_first)
 
   pub work_on : {after : Places} → IsAtWork f places → Risen f.linked.now f.method.now f.numbers.now places after → AreReached f.linked.now f.method.now after → IsAtWork f after
   work_on work risen reached = record { sound = work.sound; numbered = risen.numbered work.numbered; shaped = risen.shaped work.shaped; reached = reached }
 
   -- the pc of a number's place
   pub flows_into : IsAtWork f places → {pc number : ℕ} {t : Types} → number_at f.numbers.now pc ≡ Some number → FlowsTo f pc t → FlowsInto f places number t
-  flows_into work {pc} {number} {t} is flows = record {
-    within = work.numbered.within pc number is;
-    flows = λ p at. subst (λ n. FlowsTo f n t) (sym (work.numbered.found pc number p is at)) flows;
-  }
+  flows_into work {pc} {number} {t} is flows = grind arith
 
   pub leads_into : IsAtWork f places → {pc number : ℕ} {t : Types} {typing : Typing} → number_at f.numbers.now pc ≡ Some number → LeadsTo f pc t typing → LeadsInto f number t typing
   leads_into work {pc} {number} {t} {typing} is leads other same =
@@ -59,21 +50,11 @@ module _ {f : Flow} where
   -- ---- nothing was taken in; and one step behind the other
 
   pub taken_none : {gives asks : Typing → Type 0} {places : Places} → IsAtWork f places → ((typing : Typing) → gives typing) → HasTaken f gives asks places places
-  taken_none {gives} {asks} {places} work all = record {
-    grown = grown_self f.linked.now work.sound.laws f.method.now f.numbers.now places;
-    met = λ final g. all (held_at f.numbers.now final);
-    least = λ typing under asked. under;
-    work = work;
-  }
+  taken_none {gives} {asks} {places} work all = grind (arith, grown_self)
 
   pub taken_as : {gives asks now_gives now_asks : Typing → Type 0} {before after : Places} → HasTaken f gives asks before after → ((typing : Typing) → gives typing → now_gives typing)
       → ((typing : Typing) → now_asks typing → asks typing) → HasTaken f now_gives now_asks before after
-  taken_as taken gives_on asks_on = record {
-    grown = taken.grown;
-    met = λ final g. gives_on (held_at f.numbers.now final) (taken.met final g);
-    least = λ typing under asked. taken.least typing under (asks_on typing asked);
-    work = taken.work;
-  }
+  taken_as taken gives_on asks_on = grind arith
 
   pub taken_then : {gives asks more_gives more_asks : Typing → Type 0} {a b c : Places} → HasTaken f gives asks a b → HasTaken f more_gives more_asks b c
       → HasTaken f (λ typing. gives typing × more_gives typing) (λ typing. asks typing × more_asks typing) a c
@@ -95,9 +76,6 @@ module _ {f : Flow} where
     pub passed_one : (k : ℕ) (x : A) {start now next : Places} → slice_get xs k ≡ Some x → ArePassed f leads xs k start now → HasTakenIn f (λ typing. leads typing x) now next → ArePassed f leads xs (k + 1) start next
     passed_one k x at passed taken =
         taken_as (taken_then passed taken) (λ typing (before, here) rest. before (all_from (leads typing) xs k x at here rest)) (λ typing all. (all, all_at (leads typing) xs k x at all))
-
-    pub passed_all : (k : ℕ) {start now : Places} → length xs ≤ k → ArePassed f leads xs k start now → HasTakenIn f (λ typing. AllByRecursion (leads typing) xs) start now
-    passed_all k le passed = taken_as passed (λ typing rest. rest (all_past (leads typing) xs k le)) (λ typing all. all)
 
   -- ---- at a place
 

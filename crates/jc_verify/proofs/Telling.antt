@@ -1,5 +1,5 @@
 -- The methods of a package, one more, while one of them is told of.
-use Rattle.std.proofs.Common.{◌≡◌, ◌⊎◌, inl, inr, ℕ, ◌+◌, ◌<◌, ◌≤◌, true, false, List, length, Option, Some, None, slice_get, refl, sym, ap, subst, ◌∙◌, arith}
+use Rattle.std.proofs.Common.{◌≡◌, ◌⊎◌, ℕ, ◌+◌, ◌<◌, ◌≤◌, true, false, List, length, Option, Some, None, slice_get, sym, subst, ◌∙◌, arith}
 use Rattle.std.specs.Prelude.{nat_le}
 use Rattle.std.specs.Option.{option_map_or}
 use Rattle.std.proofs.lemmas.Bool.{cases_eq, leb-false, leb-true}
@@ -18,25 +18,21 @@ use Rattle.jc_verify.specs.declared.gathering.Told.{Told}
 
 -- what is told stands at an offset or before it, or behind it
 pub is_passed : (told : Option Told) (offset : ℕ) → option_map_or (λ (t : Told). nat_le t.method offset) told false ≡ true → (t : Told) × (told ≡ Some t) × (t.method ≤ offset)
-is_passed None offset e = absurd cc
-is_passed (Some t) offset e = (t, refl, leb-true t.method offset e)
+is_passed told offset h1 = grind (arith, leb-true)
 
 pub isnt_passed : (told : Option Told) (offset : ℕ) → option_map_or (λ (t : Told). nat_le t.method offset) told false ≡ false → (t : Told) → told ≡ Some t → offset < t.method
-isnt_passed None offset e t is = absurd (none-some t is)
-isnt_passed (Some u) offset e t is = let same = same_Some u t is in subst (λ (x : Told). offset < x.method) same (leb-false u.method offset e)
+isnt_passed told offset h1 t h2 = grind (arith, none-some, same_Some, leb-false)
 
 -- where names are kept no states carry what is denied
 pub without : (l : Linked) (m : Method) → KeepsNames l m → IsDenied l m → CanBeCarried l m → ⊥
-without l m keeps (inl none) = none
-without l m keeps (inr lost) = absurd (lost keeps)
+without l m h1 h2 h3 = grind arith
 
 module _ (l : Linked) (n : ℕ) (b : MethodBody) (at : slice_get l.body.kept.methods n ≡ Some b) (g : Gathered) (so_far : IsSoFar l n g) where
   either : (k : ℕ) (c : MethodBody) → Stands l (n + 1) k c → Stands l n k c ⊎ (b ≡ c)
   either k c s = by_place (cases_eq k n)
     where
       by_place : (k ≡ n) ⊎ (k ≡ n → ⊥) → Stands l n k c ⊎ (b ≡ c)
-      by_place (inl is) = inr (same_Some b c (sym at ∙ ap (slice_get l.body.kept.methods) (sym is) ∙ s.is))
-      by_place (inr other) = inl (record { first = omega (arith, s.first, other); is = s.is })
+      by_place h1 = grind (arith, same_Some)
 
   -- it stands behind one that is told of
   pub passed_over : (t : Told) → g.told ≡ Some t → t.method ≤ b.offset → IsSoFar l (n + 1) g
@@ -47,8 +43,7 @@ module _ (l : Linked) (n : ℕ) (b : MethodBody) (at : slice_get l.body.kept.met
   }
     where
       by : (k : ℕ) (c : MethodBody) → Stands l n k c ⊎ (b ≡ c) → ((u : Told) → g.told ≡ Some u → c.offset < u.method) → CanBeCarried l (method_of l c)
-      by k c (inl s) lower = so_far.carried k c s lower
-      by k c (inr same) lower = let lt = lower t told in let e = ap (λ (x : MethodBody). x.offset) same in absurd (omega (arith, lt, e, behind))
+      by k c h1 h2 = grind arith
 
   -- it is told of now
   pub told_now : (after : Gathered) (t : Told) → after.told ≡ Some t → t.method ≡ b.offset → ((u : Told) → g.told ≡ Some u → b.offset < u.method)
@@ -60,8 +55,7 @@ module _ (l : Linked) (n : ℕ) (b : MethodBody) (at : slice_get l.body.kept.met
   }
     where
       by : (k : ℕ) (c : MethodBody) → Stands l n k c ⊎ (b ≡ c) → c.offset < t.method → CanBeCarried l (method_of l c)
-      by k c (inl s) lower = so_far.carried k c s (λ u e. let h = before u e in omega (arith, lower, is, h))
-      by k c (inr same) lower = let e = ap (λ (x : MethodBody). x.offset) same in absurd (omega (arith, lower, is, e))
+      by k c h1 h2 = grind (arith, before)
 
   -- it has states
   pub carried_now : (after : Gathered) (states : List Stated) → IsInferred l (method_of l b) states → after.told ≡ g.told → (after.told ≡ None → AreGathered l (n + 1) (rows after.rows.items))
@@ -73,8 +67,7 @@ module _ (l : Linked) (n : ℕ) (b : MethodBody) (at : slice_get l.body.kept.met
   }
     where
       by : (k : ℕ) (c : MethodBody) → Stands l n k c ⊎ (b ≡ c) → ((t : Told) → after.told ≡ Some t → c.offset < t.method) → CanBeCarried l (method_of l c)
-      by k c (inl s) lower = so_far.carried k c s (λ t e. lower t (told ∙ e))
-      by k c (inr same) lower = subst (λ (x : MethodBody). CanBeCarried l (method_of l x)) same (record { states = states; carried = inferred.carried })
+      by k c h1 h2 = grind arith
 
 -- what is told of all methods is a refusal
 pub is_refusal : (l : Linked) (g : Gathered) → IsSoFar l (length l.body.kept.methods) g → (t : Told) → g.told ≡ Some t → IsUncarried l t.method t.fault
@@ -83,5 +76,4 @@ is_refusal l g so_far t told =
     record { first = record { place = why.place; method = why.method; is = why.is; at = why.at; without = why.without; before = before }; told = why.told }
   where
     before : (n : ℕ) (c : MethodBody) → slice_get l.body.kept.methods n ≡ Some c → c.offset < t.method → CanBeCarried l (method_of l c)
-    before n c at lower =
-        so_far.carried n c (record { first = slice_get_within l.body.kept.methods n c at; is = at }) (λ u e. subst (λ (x : Told). c.offset < x.method) (same_Some t u (sym told ∙ e)) lower)
+    before n c at lower = grind (arith, slice_get_within, same_Some)

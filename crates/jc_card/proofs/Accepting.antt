@@ -29,9 +29,7 @@ pub record LoadLaws : Type 0 where
 each_behind : {A : Type 0} (P : A → Type 0) (xs : List A) (y : A)
     → ((i : ℕ) (x : A) → slice_get xs i ≡ Some x → P x) → P y → (i : ℕ) (x : A)
     → slice_get (xs ++ y ∷ []) i ≡ Some x → P x
-each_behind P [] y each last zero x e =
-    let same : y ≡ x = cc in
-    subst P same last
+each_behind P [] y each last zero x e = grind arith
 each_behind P [] y each last (suc i) x e = absurd cc
 each_behind P (z ∷ xs) y each last zero x e = each 0 x e
 each_behind P (z ∷ xs) y each last (suc i) x e = each_behind P xs y (λ i. each (suc i)) last i x e

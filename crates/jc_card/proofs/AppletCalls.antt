@@ -1,6 +1,6 @@
 -- A member of Applet that is called on an instance's object, on words, does what it does on the defensive machine's
 -- card.
-use Rattle.std.proofs.Common.{◌≡◌, ◌<◌, ℕ, List, [], ◌∷◌, length, true, Option, Some, refl, sym, subst}
+use Rattle.std.proofs.Common.{◌≡◌, ◌<◌, List, [], ◌∷◌, length, true, Option, Some, sym, subst, arith}
 use Rattle.std.specs.Option.{option_and_then}
 use Rattle.jc_interp.specs.Calling.{IsCall, IsMethodFor, MayCall}
 use Rattle.jc_interp.specs.declared.call.FirstCall.{FirstCall}
@@ -23,7 +23,6 @@ use Rattle.jc_card.specs.Parts.{arguments_of, call_applet, call_method, call_on,
 use Rattle.jc_card.specs.PrivateWords.{words_taken}
 use Rattle.jc_card.specs.Reads.{CardWords, Holds, IsDone, ReadsEnded}
 use Rattle.jc_card.specs.declared.calls.AppletCall.{AppletCall}
-use Rattle.jc_card.specs.declared.calls.AppletCall.TheVariants.{Select, Deselect, Process}
 
 module _ (laws : Laws) (k : CardWords) (c : CardState) (h : Holds k c) (i : Instance) (call : AppletCall)
     (fits : fits_instance c.world.shapes c.heap i ≡ true) where
@@ -43,9 +42,7 @@ module _ (laws : Laws) (k : CardWords) (c : CardState) (h : Holds k c) (i : Inst
   begins = can_begin laws c h.typed i call fits
 
   arguments_read : (call : AppletCall) → Pointwise Reads (words_taken call) (arguments_of call)
-  arguments_read Select = tt
-  arguments_read Deselect = tt
-  arguments_read Process = (refl, tt)
+  arguments_read call = grind arith
 
   module _ (first : FirstCall)
       (called_is : IsMethodFor k.program k.machine.store (member_called call) i.object first.called)
@@ -60,13 +57,11 @@ module _ (laws : Laws) (k : CardWords) (c : CardState) (h : Holds k c) (i : Inst
         its_own.there is_found
 
     arguments_are : Pointwise Reads first.arguments.now values
-    arguments_are =
-        subst (λ (ws : List ℕ). Pointwise Reads ws values) (sym words_are) (refl, arguments_read call)
+    arguments_are = grind (arith, arguments_read)
 
     pub may_call : MayCall k.world k.program meaning (Some i.owner.context) first
         (record { machine = k.machine; kept = k.kept })
-    may_call =
-        call_may laws.call k c h i.owner.context i.owner its_name values begins first called owner_is arguments_are few
+    may_call = grind (arith, call_may, begins, called, arguments_are)
 
     module _ (after : CardWords) (end : RunEnd)
         (is : IsCall k.world k.program meaning (Some i.owner.context) k.steps first

@@ -1,12 +1,11 @@
 -- Bytes that are cut out of bytes, joined and filled up: those of a command, and those that the runtime writes.
-use Rattle.std.proofs.Common.{◌≡◌, ◌==◌, ◌||◌, ℕ, zero, suc, ◌+◌, ◌-◌, ◌<◌, ◌≤◌, List, [], ◌∷◌, ◌++◌, drop, get_or}
-use Rattle.std.proofs.Common.{length, replicate, take, Bool, true, false, cond, nat_le, nat_lt, Some, None, subst}
-use Rattle.std.proofs.Common.{arith}
+use Rattle.std.proofs.Common.{◌≡◌, ℕ, zero, suc, ◌+◌, ◌-◌, ◌<◌, ◌≤◌, List, [], ◌∷◌, ◌++◌, drop, get_or, length}
+use Rattle.std.proofs.Common.{replicate, take, true, nat_le, nat_lt, Some, arith}
 use Rattle.std.proofs.lemmas.Bool.{and_parts, leb-true, ltb-true}
 use Rattle.std.proofs.lemmas.List.{length-append}
 use Rattle.std.proofs.lemmas.Option.{none-some, same_Some}
 use Rattle.jc_natives.specs.Kept.{are_bytes, has_aid_length, is_aid}
-use Rattle.jc_card.specs.Command.{Command, buffer_of, command_of, has_data, p3_of, with_data, without_data}
+use Rattle.jc_card.specs.Command.{Command, buffer_of, command_of, p3_of, with_data, without_data}
 use Rattle.jc_card.specs.Install.{install_size, padded, parameters_of}
 
 abbrev pub AreLow : List ℕ → Type 0
@@ -23,8 +22,7 @@ low_joined (x ∷ xs) ys a b zero = a 0
 low_joined (x ∷ xs) ys a b (suc n) = low_joined xs ys (λ k. a (suc k)) b n
 
 low_more : (x : ℕ) (xs : List ℕ) → x < 256 → AreLow xs → (n : ℕ) → get_or (x ∷ xs) n 0 < 256
-low_more x xs h a zero = h
-low_more x xs h a (suc n) = a n
+low_more x xs h1 h2 n = grind arith
 
 low_zeros : (count n : ℕ) → get_or (replicate count 0) n 0 < 256
 low_zeros zero n = omega arith
@@ -79,17 +77,7 @@ some_data bytes a = record {
 }
 
 pub command_is : (bytes : List ℕ) → AreLow bytes → (k : Command) → command_of bytes ≡ Some k → IsCommand k
-command_is bytes a k e = by_length (length bytes == 4 || length bytes == 5) e
-  where
-    by_data : (b : Bool) → cond b (Some (with_data bytes)) None ≡ Some k → IsCommand k
-    by_data true q = subst IsCommand (same_Some (with_data bytes) k q) (some_data bytes a)
-    by_data false q = absurd (none-some k q)
-
-    by_length : (b : Bool)
-        → cond b (Some (without_data bytes)) (cond (has_data bytes) (Some (with_data bytes)) None) ≡ Some k
-        → IsCommand k
-    by_length true q = subst IsCommand (same_Some (without_data bytes) k q) (no_data bytes a)
-    by_length false q = by_data (has_data bytes) q
+command_is bytes a k e = grind (arith, same_Some, some_data, none-some, no_data)
 
 -- what the APDU buffer holds then
 pub buffer_low : (k : Command) → IsCommand k → (n : ℕ) → get_or (buffer_of k) n 0 < 256
@@ -100,9 +88,7 @@ buffer_low k is =
 -- ---- installs
 
 pub aid_short : (aid : List ℕ) → is_aid aid ≡ true → length aid ≤ 16
-aid_short aid e =
-    let count = and_parts (has_aid_length (length aid)) (are_bytes aid) e in
-    leb-true (length aid) 16 (and_parts (nat_le 5 (length aid)) (nat_le (length aid) 16) count.0).1
+aid_short aid e = grind (arith, and_parts, leb-true, nat_le)
 
 aid_low : (aid : List ℕ) → is_aid aid ≡ true → (n : ℕ) → get_or aid n 0 < 256
 aid_low aid e = bytes_low aid (and_parts (has_aid_length (length aid)) (are_bytes aid) e).1
@@ -122,7 +108,4 @@ parameters_low instance incoming aid bytes few =
 
 pub parameters_short : (instance incoming : List ℕ) → is_aid instance ≡ true → length incoming ≤ 108
     → length (parameters_of instance incoming) < 65536
-parameters_short instance incoming aid few =
-    let short = aid_short instance aid in
-    let joined = length-append instance (0 ∷ length incoming ∷ incoming) in
-    omega (arith, short, few, joined)
+parameters_short instance incoming aid few = grind (arith, aid_short, length-append)

@@ -1,18 +1,16 @@
 -- Why calls didn't end by themselves, on words.
-use Rattle.std.proofs.Common.{◌≡◌, ℕ, Option, Some, None, option_map, refl, sym, ap, ◌∙◌}
+use Rattle.std.proofs.Common.{◌≡◌, ℕ, Option, Some, None, option_map, sym, ap, ◌∙◌}
 use Rattle.jc_interp.specs.declared.ends.RunEnd.TheVariants as runs
-use Rattle.jc_machine.specs.declared.stop.Budget.{Budget}
 use Rattle.jc_machine.specs.declared.stop.CodePoint.{CodePoint}
 use Rattle.jc_store.specs.Heap.{Object, object_at}
 use Rattle.jc_store.specs.Store.{IsThere}
 use Rattle.jc_store.specs.declared.kind.Kind.{Kind}
 use Rattle.jc_words.specs.Values.{TaggedValue}
 use Rattle.jc_card.specs.Card.{CardState}
-use Rattle.jc_card.specs.Causes.{cause_of, failure_cause, reason_of, thrown_cause}
-use Rattle.jc_card.specs.Parts.{Ended, Normally, OutOfBudget, Uncaught}
-use Rattle.jc_card.specs.Reads.{CardWords, Holds, ReadsEnded}
+use Rattle.jc_card.specs.Causes.{reason_of, thrown_cause}
+use Rattle.jc_card.specs.Reads.{CardWords, Holds}
 use Rattle.jc_card.specs.declared.cause.Cause.{Cause}
-use Rattle.jc_card.specs.declared.cause.Cause.TheVariants.{NotRegistered, RanOut, Threw}
+use Rattle.jc_card.specs.declared.cause.Cause.TheVariants.{Threw}
 use Rattle.jc_card.proofs.Ends.{none_there, tagged}
 use Rattle.jc_card.proofs.Thrown.{across}
 

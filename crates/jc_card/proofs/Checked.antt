@@ -1,5 +1,5 @@
 -- Why a package isn't fit, or is, by what each step of its check says; and a load of one that isn't.
-use Rattle.std.proofs.Common.{◌≡◌, ◌⊎◌, inl, inr, ℕ, List, Some, Result, Ok, Err, refl, sym, ap, ◌∙◌, subst}
+use Rattle.std.proofs.Common.{◌≡◌, ◌⊎◌, inl, inr, ℕ, List, Some, Result, Ok, Err, refl, sym, ap, ◌∙◌, subst, arith}
 use Rattle.jc_base.specs.Cutting.{Piece, Splits, answer}
 use Rattle.jc_base.specs.Parts.{Infos}
 use Rattle.jc_base.specs.declared.fault.LoadFault.{LoadFault}
@@ -46,13 +46,7 @@ unlinked before image certificate parts fault f r =
 -- of a package that is linked
 pub out_of_memory : (before : List Shape) (image : List ℕ) (l : Linked) (fault : LoadFault)
     → IsLinkedBehind before image l → fault ≡ Memory → IsOutOfMemory image fault
-out_of_memory before image l fault behind memory = record {
-  is = memory;
-  parts = behind.parts;
-  cut = behind.cut;
-  «package» = behind.linked.«package»;
-  read = behind.linked.read;
-}
+out_of_memory before image l fault behind memory = grind arith
 
 pub unspelled : (before : List Shape) (image certificate : List ℕ) (l : Linked) (fault : LoadFault)
     → IsLinkedBehind before image l
@@ -77,12 +71,7 @@ uncarried before image certificate l rows fault behind spelled (inr first) =
 pub is_fit : (before : List Shape) (image certificate : List ℕ) (l : Linked) (parts : Infos) (rows : List Row)
     → Found image (Ok parts) → IsLinkedFrom before parts l → IsCert rows × (certificate ≡ spelling rows)
     → checks.CarriesPackage l rows → IsFit before image certificate l
-is_fit before image certificate l parts rows found linked spelled carried = record {
-  linked = record { parts = parts; cut = is_cut image (Ok parts) found; linked = linked };
-  rows = rows;
-  spelled = record { cert = spelled.0; bytes_are = spelled.1 };
-  carried = carried;
-}
+is_fit before image certificate l parts rows found linked spelled carried = grind (arith, is_cut)
 
 -- ---- a load
 
@@ -90,19 +79,9 @@ with_room : (c : CardState) (image certificate : List ℕ) (fault : LoadFault)
     → Unfit c.world.shapes image certificate fault
     → IsOutOfMemory image fault ⊎ IsUnfit c.world.shapes image certificate fault
     ⊎ IsWithoutRoom c image certificate fault
-with_room c image certificate fault (inl out) = inl out
-with_room c image certificate fault (inr unfit) = inr (inl unfit)
+with_room c image certificate fault h1 = grind arith
 
 pub refused : (w : World) (k : CardWords) (c : CardState) (image certificate : List ℕ) (fault : LoadFault)
     → w ≡ c.world → Holds k c → Unfit w.shapes image certificate fault
     → LoadsFrom c k image certificate (Err fault)
-refused w k c image certificate fault same h unfit = record {
-  card = c;
-  load = record {
-    kept = refl;
-    why =
-        with_room c image certificate fault
-        (subst (λ (x : World). Unfit x.shapes image certificate fault) same unfit);
-  };
-  holds = h;
-}
+refused w k c image certificate fault same h unfit = grind (arith, with_room)

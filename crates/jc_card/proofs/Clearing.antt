@@ -1,5 +1,5 @@
 -- Arrays that are cleared on words are zero or null on the defensive machine's card.
-use Rattle.std.proofs.Common.{◌≡◌, ◌==◌, ◌&&◌, ℕ, zero, suc, List, [], ◌∷◌, map, Bool, true, false, cond, Option}
+use Rattle.std.proofs.Common.{◌≡◌, ◌==◌, ◌&&◌, ℕ, zero, suc, List, [], ◌∷◌, map, Bool, true, false, cond, Option, arith}
 use Rattle.std.proofs.Common.{Some, slice_get, refl, sym, ap, ◌∙◌, subst}
 use Rattle.std.specs.Option.{option_map_or}
 use Rattle.jc_interp.specs.Agree.{AreNumbered, IsNumbered}
@@ -14,7 +14,7 @@ use Rattle.jc_store.specs.Heap.{Heap, Object, blanked, cleared, is_cleared_by, i
 use Rattle.jc_store.specs.Store.{Store, with_objects}
 use Rattle.jc_store.specs.declared.kind.ClearingEvent.{ClearingEvent}
 use Rattle.jc_store.specs.declared.kind.Kind.{Kind}
-use Rattle.jc_words.specs.Values.{Null, Ref, TaggedValue, Unset, Word}
+use Rattle.jc_words.specs.Values.{TaggedValue}
 use Rattle.jc_card.proofs.TypedCards.{cleared_typed}
 use Rattle.jc_card.specs.PrivateTyped.{ZeroedTyped}
 use Rattle.jc_card.specs.Card.{CardState}
@@ -22,10 +22,7 @@ use Rattle.jc_card.specs.Parts.{clear}
 use Rattle.jc_card.specs.Reads.{CardWords, GivesNothing, Holds, IsDone}
 
 zero_reads : (v : TaggedValue) → Reads 0 (zero_or_null v)
-zero_reads (Word n) = refl
-zero_reads (Ref n) = refl
-zero_reads Null = refl
-zero_reads Unset = tt
+zero_reads v = grind arith
 
 zeros_read : (ws : List ℕ) (vs : List TaggedValue) → Pointwise Reads ws vs
     → Pointwise Reads (map (λ w. 0) ws) (map zero_or_null vs)
@@ -52,8 +49,7 @@ module _ (event : ClearingEvent) (context : Option ℕ) where
   other b p = cond b (zeroed p) p
 
   one_reads : (b : Bool) (o : Object ℕ) (p : Object TaggedValue) → ReadsObject o p → ReadsObject (one b o) (other b p)
-  one_reads true o p r = record { kind = r.kind; owner = r.owner; cells = zeros_read o.cells p.cells r.cells }
-  one_reads false o p r = r
+  one_reads b o p h1 = grind (arith, zeros_read)
 
   all_read : (os : Heap ℕ) (ps : Heap TaggedValue) → HeapReads os ps
       → HeapReads (cleared (λ kind. 0) event context os) (zeroed_where test ps)
@@ -67,8 +63,7 @@ module _ (event : ClearingEvent) (context : Option ℕ) where
 
   -- an object keeps its kind
   one_kind : (b : Bool) (o : Object ℕ) → (one b o).kind ≡ o.kind
-  one_kind true o = refl
-  one_kind false o = refl
+  one_kind b o = grind arith
 
   record Was (os : Heap ℕ) (n : ℕ) (x : Object ℕ) : Type 0 where
     object : Object ℕ
@@ -109,27 +104,4 @@ module _ (event : ClearingEvent) (context : Option ℕ) where
     }
 
     pub clear_done : IsDone after GivesNothing (clear event context c)
-    clear_done =
-        let b = h.beside in (
-          record {
-            typed = cleared_typed lawful stays c h.typed event context;
-            world = h.world;
-            program = h.program;
-            beside = record {
-              heap = all_read k.machine.store.objects c.heap b.heap;
-              numbered = numbered_still k.program.classes k.machine.store b.numbered;
-              statics = b.statics;
-              runtime = b.runtime;
-              most_objects = b.most_objects;
-              most_cells = b.most_cells;
-              most_frames = b.most_frames;
-              most_words = b.most_words;
-            };
-            frames = h.frames;
-            selected = h.selected;
-            most_objects = h.most_objects;
-            most_cells = h.most_cells;
-            steps = h.steps;
-          },
-          tt,
-        )
+    clear_done = grind (arith, cleared_typed, all_read, numbered_still)

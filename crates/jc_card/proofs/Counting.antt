@@ -1,6 +1,5 @@
 -- Objects on words are as many as those of the defensive machine's card, and take as many cells.
-use Rattle.std.proofs.Common.{◌≡◌, ℕ, suc, List, [], ◌∷◌, length}
-use Rattle.std.proofs.Common.{arith, refl, ap}
+use Rattle.std.proofs.Common.{◌≡◌, ℕ, suc, List, [], ◌∷◌, length, arith, refl, ap}
 use Rattle.jc_machine.specs.Reading.{HeapReads, Pointwise, Reads}
 use Rattle.jc_store.specs.Heap.{Heap, cells_in}
 use Rattle.jc_words.specs.Values.{TaggedValue}

@@ -1,18 +1,15 @@
 -- How calls that ended are answered, on words.
-use Rattle.std.proofs.Common.{◌≡◌, ◌==◌, ℕ, zero, suc, List, [], ◌∷◌, get_or, slice_get, Bool, true, false, cond, not}
+use Rattle.std.proofs.Common.{◌≡◌, ℕ, zero, suc, List, [], ◌∷◌, get_or, slice_get, Bool, true, false, cond, arith}
 use Rattle.std.proofs.Common.{Option, Some, None, refl, sym, ap, ◌∙◌, subst}
 use Rattle.std.specs.List.{AllByRecursion}
 use Rattle.std.specs.Option.{option_map_or}
 use Rattle.jc_base.specs.declared.declared_type.DeclaredType.{DeclaredType}
 use Rattle.jc_base.specs.declared.declared_type.DeclaredType.TheVariants as types
 use Rattle.jc_cap_desc.specs.Shape.{Shape}
-use Rattle.jc_interp.specs.declared.ends.RunEnd.TheVariants.{Gave, RanOut, Threw}
 use Rattle.jc_api.specs.declared.class.ApiClass.TheVariants.{IsoException}
-use Rattle.jc_machine.specs.Lookup.{fields_of, is_byte, is_kept_as, is_of_class, is_word, leads_to}
+use Rattle.jc_machine.specs.Lookup.{is_byte, is_kept_as, is_of_class, is_word, leads_to}
 use Rattle.jc_machine.specs.Reading.{HeapReads, Pointwise, Reads}
 use Rattle.jc_machine.specs.Typed.{CellsTyped, ObjectTyped, is_cell}
-use Rattle.jc_machine.specs.declared.stop.Budget.{Budget}
-use Rattle.jc_machine.specs.declared.stop.CodePoint.{CodePoint}
 use Rattle.jc_names.specs.declared.name.ClassName.{ClassName}
 use Rattle.jc_names.specs.declared.name.ClassName.TheVariants.{Api}
 use Rattle.jc_natives.specs.Cells.{bits}
@@ -20,75 +17,47 @@ use Rattle.jc_store.specs.Blocks.{components_of}
 use Rattle.jc_store.specs.Heap.{Heap, Object, object_at}
 use Rattle.jc_store.specs.Store.{IsThere}
 use Rattle.jc_store.specs.declared.kind.ObjectType.{ObjectType}
-use Rattle.jc_store.specs.declared.kind.ObjectType.TheVariants.{BooleanArray, ByteArray, Instance, ReferenceArray}
-use Rattle.jc_store.specs.declared.kind.ObjectType.TheVariants.{ShortArray}
-use Rattle.jc_words.specs.Values.{Null, Ref, TaggedValue, Unset, Word, is_written}
+use Rattle.jc_words.specs.Values.{TaggedValue, Word, is_written}
 use Rattle.jc_card.proofs.Thrown.{across}
 use Rattle.jc_card.specs.Card.{CardState}
-use Rattle.jc_card.specs.Command.{normal, unknown_error}
+use Rattle.jc_card.specs.Command.{unknown_error}
 use Rattle.jc_card.specs.Causes.{reason_of}
-use Rattle.jc_card.specs.Commands.{agrees, status_of, status_of_thrown}
-use Rattle.jc_card.specs.Install.{failure_status}
-use Rattle.jc_card.specs.Parts.{Ended, Normally, OutOfBudget, Uncaught}
-use Rattle.jc_card.specs.Reads.{CardWords, Holds, ReadsEnded}
+use Rattle.jc_card.specs.Commands.{status_of_thrown}
+use Rattle.jc_card.specs.Reads.{CardWords, Holds}
 
 -- ---- the reason of an exception
 
 byte_written : (v : TaggedValue) → is_byte v ≡ true → is_written v ≡ true
-byte_written (Word n) e = refl
-byte_written (Ref n) e = refl
-byte_written Null e = refl
-byte_written Unset e = e
+byte_written v h1 = grind arith
 
 word_written : (v : TaggedValue) → is_word v ≡ true → is_written v ≡ true
-word_written (Word n) e = refl
-word_written (Ref n) e = refl
-word_written Null e = refl
-word_written Unset e = e
+word_written v h1 = grind arith
 
 lead_written : (heap : Heap TaggedValue) (test : ObjectType → Bool) (v : TaggedValue) → leads_to heap test v ≡ true
     → is_written v ≡ true
-lead_written heap test (Word n) e = refl
-lead_written heap test (Ref n) e = refl
-lead_written heap test Null e = refl
-lead_written heap test Unset e = e
+lead_written heap test v h1 = grind arith
 
 module _ (world : List Shape) (heap : Heap TaggedValue) where
   kept_written : (t : DeclaredType ClassName) (v : TaggedValue) → is_kept_as world heap t v ≡ true → is_written v ≡ true
-  kept_written types.Boolean v e = byte_written v e
-  kept_written types.Byte v e = byte_written v e
-  kept_written types.Short v e = word_written v e
-  kept_written (types.Reference c) v e = lead_written heap _ v e
-  kept_written types.BooleanArray v e = lead_written heap _ v e
-  kept_written types.ByteArray v e = lead_written heap _ v e
-  kept_written types.ShortArray v e = lead_written heap _ v e
-  kept_written (types.ReferenceArray c) v e = lead_written heap _ v e
+  kept_written t v h1 = grind (arith, byte_written, word_written, lead_written)
 
   cell_written : (field : Option (DeclaredType ClassName)) (v : TaggedValue) → is_cell world heap field v ≡ true
       → is_written v ≡ true
-  cell_written None v e = word_written v e
-  cell_written (Some t) v e = kept_written t v e
+  cell_written field v h1 = grind (arith, word_written, kept_written)
 
   field_written : (fields : List (Option (DeclaredType ClassName))) (v : TaggedValue) (vs : List TaggedValue)
       → Pointwise (λ v field. is_cell world heap field v ≡ true) (v ∷ vs) fields → is_written v ≡ true
-  field_written [] v vs t = absurd t
-  field_written (field ∷ fields) v vs t = cell_written field v t.0
+  field_written fields v vs h1 = grind (arith, cell_written)
 
   -- the first component of a typed object was written
   first_written : (type : ObjectType) (v : TaggedValue) (vs : List TaggedValue)
       → CellsTyped world heap (v ∷ vs) type → is_written v ≡ true
-  first_written (Instance c) v vs t = field_written (fields_of world c) v vs t
-  first_written BooleanArray v vs t = byte_written v t.0
-  first_written ByteArray v vs t = byte_written v t.0
-  first_written ShortArray v vs t = word_written v t.0
-  first_written (ReferenceArray c) v vs t = lead_written heap _ v t.0
+  first_written type v vs h1 = grind (arith, field_written, byte_written, word_written, lead_written)
 
   typed_at : (os : Heap TaggedValue) → AllByRecursion (ObjectTyped world heap) os → (n : ℕ) (o : Object TaggedValue)
       → slice_get os n ≡ Some o → ObjectTyped world heap o
   typed_at [] all n o e = absurd cc
-  typed_at (p ∷ os) all zero o e =
-      let same : p ≡ o = cc in
-      subst (ObjectTyped world heap) same all.0
+  typed_at (p ∷ os) all zero o e = grind arith
   typed_at (p ∷ os) all (suc n) o e = typed_at os all.1 n o e
 
   pub object_typed : (os : Heap TaggedValue) → AllByRecursion (ObjectTyped world heap) os → (number : ℕ)
@@ -97,10 +66,7 @@ module _ (world : List Shape) (heap : Heap TaggedValue) where
   object_typed os all (suc n) o e = typed_at os all n o e
 
 read_bits : (w : ℕ) (v : TaggedValue) → Reads w v → is_written v ≡ true → w ≡ bits v
-read_bits w (Word n) r e = r
-read_bits w (Ref n) r e = r
-read_bits w Null r e = r
-read_bits w Unset r e = absurd cc
+read_bits w v h1 h2 = grind arith
 
 first_bits : (ws : List ℕ) (vs : List TaggedValue) → Pointwise Reads ws vs
     → ((v : TaggedValue) (rest : List TaggedValue) → vs ≡ v ∷ rest → is_written v ≡ true)
@@ -134,8 +100,7 @@ tagged_at (x ∷ os) (p ∷ ps) r (suc n) o e = tagged_at os ps r.1 n o e
 
 pub tagged : (os : Heap ℕ) (ps : Heap TaggedValue) → HeapReads os ps → (number : ℕ) (o : Object ℕ)
     → object_at os number ≡ Some o → (p : Object TaggedValue) × (object_at ps number ≡ Some p)
-tagged os ps r zero o e = absurd cc
-tagged os ps r (suc n) o e = tagged_at os ps r n o e
+tagged os ps h1 number o h2 = grind (arith, tagged_at)
 
 none_at : (os : Heap ℕ) (ps : Heap TaggedValue) → HeapReads os ps → (n : ℕ) → slice_get os n ≡ None
     → slice_get ps n ≡ None
@@ -147,8 +112,7 @@ none_at (x ∷ os) (p ∷ ps) r (suc n) e = none_at os ps r.1 n e
 
 pub none_there : (os : Heap ℕ) (ps : Heap TaggedValue) → HeapReads os ps → (number : ℕ) → object_at os number ≡ None
     → object_at ps number ≡ None
-none_there os ps r zero e = refl
-none_there os ps r (suc n) e = none_at os ps r n e
+none_there os ps h1 number h2 = grind (arith, none_at)
 
 module _ (k : CardWords) (c : CardState) (h : Holds k c) (number : ℕ) where
   abbrev status : Option (Object TaggedValue) → ℕ
@@ -177,6 +141,4 @@ module _ (k : CardWords) (c : CardState) (h : Holds k c) (number : ℕ) where
         → ((thrown : Object TaggedValue) → object_at c.heap number ≡ Some thrown
         → iso ≡ is_of_class c.world.shapes (Api IsoException) thrown.kind.object)
         → unknown_error ≡ status (object_at c.heap number)
-    status_of_other iso other is =
-        ap (λ (b : Bool). cond b (reason_of its.0) unknown_error) (sym other ∙ is its.0 its.1)
-        ∙ ap status (sym its.1)
+    status_of_other iso other is = grind arith

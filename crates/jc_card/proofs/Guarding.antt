@@ -1,11 +1,11 @@
 -- Each command of a card is guarded, part by part.
 use Rattle.std.proofs.Common.{◌≡◌, ℕ, Bool, true, false, cond, List, [], ◌++◌, Option, Some, None, IfSome, refl, sym}
-use Rattle.std.proofs.Common.{◌∙◌, subst, is_some, length, ◌∷◌, zero, suc, Result, Ok, Err}
+use Rattle.std.proofs.Common.{arith, ◌∙◌, subst, is_some, length, ◌∷◌, suc, Result, Ok, Err, ap, not, nat_le, ◌==◌}
 use Rattle.std.specs.Option.{option_and_then, option_map, option_map_or}
 use Rattle.jc_names.specs.declared.name.MethodName.TheVariants.{Loaded}
 use Rattle.jc_names.specs.declared.owner.Owner.{Owner}
-use Rattle.jc_machine.specs.Runtime.{apdu_buffer, install_array}
-use Rattle.jc_natives.specs.Kept.{Kept, after_install, with_command, with_install}
+use Rattle.jc_machine.specs.Runtime.{apdu_buffer, install_array, most_instances}
+use Rattle.jc_natives.specs.Kept.{Kept, after_install, with_command, with_install, is_instance_number}
 use Rattle.jc_natives.specs.declared.kept.Installing.{Installing}
 use Rattle.jc_natives.specs.declared.kept.Instance.{Instance}
 use Rattle.jc_safety.specs.Starting.{method_for}
@@ -35,11 +35,8 @@ use Rattle.jc_card.specs.declared.calls.AppletCall.{AppletCall}
 use Rattle.jc_card.specs.declared.calls.AppletCall.TheVariants as calls
 use Rattle.jc_card.specs.declared.fault.InstallFault.TheVariants as faults
 use Rattle.jc_card.specs.declared.places.AppletPlace.{AppletPlace}
-use Rattle.std.proofs.Common.{ap, not, nat_le, ◌==◌}
 use Rattle.jc_machine.specs.Apart.{is_applets}
-use Rattle.jc_machine.specs.Runtime.{most_instances}
 use Rattle.jc_natives.specs.Apart.{names_applets}
-use Rattle.jc_natives.specs.Kept.{is_instance_number}
 use Rattle.jc_card.proofs.Owners.{buffer_is_global, deselect_selects_none, install_is_global, next_number_fits}
 use Rattle.jc_card.proofs.Owners.{not_refused_few, place_has_number, selected_is, selected_owner}
 use Rattle.jc_card.proofs.Worlds.{StaysIn, deselect_stays}
@@ -80,28 +77,20 @@ module _ (order : Order) where
   then_part : {A B : Type 0} (c : CardState) (done : Option (Left A)) (next : CardState → A → Option (Left B))
       → Fine order c done
       → ((d : CardState) (value : A) → Fine order d (next d value)) → Fine order c (and_then done next)
-  then_part c None next h each = tt
-  then_part c (Some l) next h each = joined c l (next l.card l.value) h (each l.card l.value)
+  then_part c done next h1 h2 = grind (arith, joined)
 
   -- the same, where something is known of the card behind the first part
   then_known : {A B : Type 0} (c : CardState) (done : Option (Left A)) (next : CardState → A → Option (Left B))
       (Known : CardState → Type 0) → Fine order c done → IfSome done (λ l. Known l.card)
       → ((d : CardState) (value : A) → Known d → Fine order d (next d value)) → Fine order c (and_then done next)
-  then_known c None next Known h k each = tt
-  then_known c (Some l) next Known h k each = joined c l (next l.card l.value) h (each l.card l.value k)
+  then_known c done next Known h1 h2 h3 = grind (arith, joined)
 
   -- behind what the runtime keeps and who is selected became another; it keeps applets' instances if it did before
   module _ (c : CardState) (kept : Kept) (selected : Option Owner)
       (leads : (claims : Claims) → Leads claims order c [] (with_others c kept selected))
       (names : names_applets c.kept ≡ true → names_applets kept ≡ true) where
     apart_with : IsApartCard c → IsApartCard (with_others c kept selected)
-    apart_with p =
-        record {
-          packages = p.packages;
-          objects = p.objects;
-          statics = p.statics;
-          instances = names p.instances;
-        }
+    apart_with p = grind arith
 
     moved : {A : Type 0} (done : Option (Left A)) → Fine order (with_others c kept selected) done
         → Fine order c done
@@ -119,19 +108,16 @@ module _ (order : Order) where
 
   either : {A : Type 0} (c : CardState) (b : Bool) (x y : Option (Left A)) → Fine order c x → Fine order c y
       → Fine order c (cond b x y)
-  either c true x y h k = h
-  either c false x y h k = k
+  either c b x y h1 h2 = grind arith
 
   if_some : {A B : Type 0} (c : CardState) (o : Option B) (go : B → Option (Left A))
       → ((x : B) → o ≡ Some x → Fine order c (go x)) → Fine order c (option_and_then go o)
-  if_some c None go each = tt
-  if_some c (Some x) go each = each x refl
+  if_some c o go h1 = grind arith
 
   or_else : {A B : Type 0} (c : CardState) (o : Option B) (go : B → Option (Left A)) (other : Option (Left A))
       → ((x : B) → o ≡ Some x → Fine order c (go x)) → (o ≡ None → Fine order c other)
       → Fine order c (option_map_or go o other)
-  or_else c None go other each h = h refl
-  or_else c (Some x) go other each h = each x refl
+  or_else c o go other h1 h2 = grind arith
 
 module _ (laws : StepsGuarded) where
   -- ---- calls of applets
@@ -168,9 +154,7 @@ module _ (laws : StepsGuarded) where
 
   deselect_part : (order : Order) → calls_member order calls.Deselect ≡ true → (c : CardState)
       → Fine order c (commands.deselect c)
-  deselect_part order deselects c =
-      then_part order c (call_selected c calls.Deselect) (λ c ended. commands.unselect c)
-      (selected_part order calls.Deselect deselects c) (λ d ended. unselect_part order deselects d)
+  deselect_part order deselects c = grind (arith, then_part, selected_part, unselect_part)
 
   -- ---- a command
 
@@ -325,8 +309,7 @@ module _ (laws : StepsGuarded) where
 
   both_free : (c : CardState) (done : Option (Left (Unit {0}))) → StaysIn c done
       → IfSome done (λ l. l.card.selected ≡ None) → IfSome done (λ l. IsFree c l.card)
-  both_free c None h k = tt
-  both_free c (Some l) h k = record { numbers = h.numbers; selected = k }
+  both_free c done h1 h2 = grind arith
 
   -- an applet's package has a number from one on, and an instance that isn't refused one to 32
   accepted_part : (c : CardState) (place : AppletPlace) (applet instance incoming : List ℕ)
@@ -374,8 +357,7 @@ module _ (laws : StepsGuarded) where
 
   kept_apart : {A : Type 0} (order : Order) (c : CardState) (done : Option (Left A)) → Fine order c done
       → IsApartCard c → IfSome done (λ l. KeepsApart order c l.touches l.card)
-  kept_apart order c None h p = tt
-  kept_apart order c (Some l) h p = h.apart p
+  kept_apart order c done h1 h2 = grind arith
 
   pub apdus_stay_apart : (c : CardState) → IsApartCard c → (bytes : List ℕ)
       → IfSome (commands.apdu_command c bytes) (λ l. KeepsApart (apdu_order c bytes) c l.touches l.card)
@@ -414,8 +396,7 @@ module _ (laws : StepsGuarded) where
 -- ---- loads
 
 all_left : (before more : Heap TaggedValue) → LeavesObjects before (before ++ more)
-all_left before more zero o e = absurd cc
-all_left before more (suc n) o e = got_first before more n o e
+all_left before more = grind (arith, got_first)
 
 pub loads_leave : (c after : CardState) (image certificate : List ℕ) (result : Result ℕ LoadFault)
     → IsLoad c image certificate result after → LeavesObjects c.heap after.heap

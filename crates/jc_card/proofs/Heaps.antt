@@ -5,7 +5,6 @@ use Rattle.std.proofs.lemmas.List.{set-set}
 use Rattle.std.proofs.Math.Seq.{sets}
 use Rattle.std.proofs.lemmas.List.Edits.{sets-eq}
 use Rattle.std.proofs.lemmas.Option.{none-some, same_Some}
-use Rattle.std.specs.Option.{option_map_or}
 use Rattle.jc_machine.specs.Reading.{HeapReads, Pointwise, Reads, ReadsObject}
 use Rattle.jc_natives.specs.Cells.{put, put_all}
 use Rattle.jc_store.specs.Blocks.{with_cells}
@@ -28,18 +27,15 @@ same_set (y ∷ xs) (suc n) x e = ap (λ zs. y ∷ zs) (same_set xs n x e)
 
 pub new_object : {V : Type 0} (heap : Heap V) (number : ℕ) (before after : Object V)
     → object_at heap number ≡ Some before → object_at (with_object heap number after) number ≡ Some after
-new_object heap zero before after e = absurd (none-some before e)
-new_object heap (suc n) before after e = found_set heap n before after e
+new_object heap number before after h1 = grind (arith, none-some, found_set)
 
 same_heap : {V : Type 0} (heap : Heap V) (number : ℕ) (object : Object V) → object_at heap number ≡ Some object
     → with_object heap number object ≡ heap
-same_heap heap zero object e = refl
-same_heap heap (suc n) object e = same_set heap n object e
+same_heap heap number object h1 = grind (arith, same_set)
 
 twice : {V : Type 0} (heap : Heap V) (number : ℕ) (one other : Object V)
     → with_object (with_object heap number one) number other ≡ with_object heap number other
-twice heap zero one other = refl
-twice heap (suc n) one other = set-set heap n one other
+twice heap number one other = grind (arith, set-set)
 
 -- an object that stands in a heap with another one has the kind of the one that stood there
 pub record Was (os : Heap ℕ) (number : ℕ) (x : Object ℕ) : Type 0 where
@@ -50,25 +46,14 @@ pub record Was (os : Heap ℕ) (number : ℕ) (x : Object ℕ) : Type 0 where
 was_set : (os : List (Object ℕ)) (n : ℕ) (old new : Object ℕ) → slice_get os n ≡ Some old → new.kind ≡ old.kind
     → (m : ℕ) (x : Object ℕ) → slice_get (set os n new) m ≡ Some x → Was os (suc m) x
 was_set [] n old new e k m x f = absurd (none-some old e)
-was_set (o ∷ os) zero old new e k zero x f =
-    record {
-      object = o;
-      found = refl;
-      kind = sym (ap (λ (y : Object ℕ). y.kind) (same_Some new x f)) ∙ k
-          ∙ sym (ap (λ (y : Object ℕ). y.kind) (same_Some o old e));
-    }
+was_set (o ∷ os) zero old new e k zero x f = grind (arith, same_Some)
 was_set (o ∷ os) zero old new e k (suc m) x f = record { object = x; found = f; kind = refl }
-was_set (o ∷ os) (suc n) old new e k zero x f =
-    record { object = o; found = refl; kind = ap (λ (y : Object ℕ). y.kind) (sym (same_Some o x f)) }
-was_set (o ∷ os) (suc n) old new e k (suc m) x f =
-    let w = was_set os n old new e k m x f in
-    record { object = w.object; found = w.found; kind = w.kind }
+was_set (o ∷ os) (suc n) old new e k zero x f = grind (arith, same_Some)
+was_set (o ∷ os) (suc n) old new e k (suc m) x f = grind (arith, was_set os n old new e k m x f)
 
 pub was : (os : Heap ℕ) (number : ℕ) (old new : Object ℕ) → object_at os number ≡ Some old → new.kind ≡ old.kind
     → (other : ℕ) (x : Object ℕ) → object_at (with_object os number new) other ≡ Some x → Was os other x
-was os zero old new e k other x f = absurd (none-some old e)
-was os (suc n) old new e k zero x f = absurd (none-some x f)
-was os (suc n) old new e k (suc m) x f = was_set os n old new e k m x f
+was os number old new h1 h2 other x h3 = grind (arith, none-some, was_set)
 
 -- ---- reading
 
@@ -82,8 +67,7 @@ set_reads (z ∷ os) (q ∷ ps) r (suc n) o p x = (r.0, set_reads os ps r.1 n o 
 
 pub object_reads : (os : Heap ℕ) (ps : Heap TaggedValue) → HeapReads os ps → (number : ℕ) (o : Object ℕ)
     (p : Object TaggedValue) → ReadsObject o p → HeapReads (with_object os number o) (with_object ps number p)
-object_reads os ps r zero o p x = r
-object_reads os ps r (suc n) o p x = set_reads os ps r n o p x
+object_reads os ps h1 number o p h2 = grind (arith, set_reads)
 
 word_reads : (cs : List ℕ) (vs : List TaggedValue) → Pointwise Reads cs vs → (n w : ℕ)
     → Pointwise Reads (set cs n w) (set vs n (Word w))
@@ -112,8 +96,7 @@ with_all object cells = record { kind = object.kind; owner = object.owner; cells
 pub put_some : {V : Type 0} (heap : Heap V) (number index : ℕ) (value : V) (object : Object V)
     → object_at heap number ≡ Some object
     → put heap number index value ≡ with_object heap number (with_cell object index value)
-put_some heap number index value object e =
-    ap (λ o. option_map_or (λ object. with_object heap number (with_cell object index value)) o heap) e
+put_some heap number index value object e = grind arith
 
 -- one by one
 pub all_put : {V : Type 0} (heap : Heap V) (number from : ℕ) (values : List V) (object : Object V)

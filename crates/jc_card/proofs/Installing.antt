@@ -1,18 +1,14 @@
 -- The install method of an applet can begin, and is called on words.
 use Rattle.std.proofs.Common.{◌≡◌, ◌<◌, ℕ, zero, suc, ◌+◌, ◌-◌, ◌==◌, List, [], ◌∷◌, ◌++◌, length, drop, replicate}
-use Rattle.std.proofs.Common.{cond, Bool}
-use Rattle.std.proofs.Common.{true, false, not, ◌&&◌, nat_lt, Option, Some, Ok, Err, refl, sym, ap, ◌∙◌, subst, arith}
+use Rattle.std.proofs.Common.{cond, Bool, true, false, not, Option, Some, Ok, Err, sym, ap, ◌∙◌, subst, arith}
 use Rattle.std.proofs.lemmas.Bool.{eq-eqb, le-ltb, lt-ltb}
 use Rattle.std.proofs.lemmas.List.{drop-replicate}
-use Rattle.std.specs.Option.{option_map_or}
 use Rattle.jc_base.specs.Signature.{Signature}
 use Rattle.jc_base.specs.declared.class_ref.ClassRef.{ClassRef}
 use Rattle.jc_base.specs.declared.declared_type.DeclaredType.{DeclaredType}
-use Rattle.jc_base.specs.declared.declared_type.DeclaredType.TheVariants.{Boolean, BooleanArray, Byte, ByteArray}
-use Rattle.jc_base.specs.declared.declared_type.DeclaredType.TheVariants.{Reference, ReferenceArray, Short}
-use Rattle.jc_base.specs.declared.declared_type.DeclaredType.TheVariants.{ShortArray}
+use Rattle.jc_base.specs.declared.declared_type.DeclaredType.TheVariants.{Byte, ByteArray, Short}
 use Rattle.jc_base.specs.declared.declared_type.ReturnType.{ReturnType}
-use Rattle.jc_base.specs.declared.declared_type.ReturnType.TheVariants.{Value, Void}
+use Rattle.jc_base.specs.declared.declared_type.ReturnType.TheVariants.{Void}
 use Rattle.jc_cap_desc.specs.Across.{is_install_signature}
 use Rattle.jc_cap_desc.specs.Shape.{IsConcrete, Shape}
 use Rattle.jc_cap.specs.declared.method_header.MethodHeader.{MethodHeader}
@@ -24,20 +20,19 @@ use Rattle.jc_link.specs.Found.{signature_found}
 use Rattle.jc_link.specs.Linked.{HasInstall, IsKnown, LinkedBody, World}
 use Rattle.jc_link.specs.MemberType.{declared_type_of, type_class}
 use Rattle.jc_link.specs.Sound.{IsSound}
-use Rattle.jc_machine.specs.Lookup.{are_of_instance, are_of_types, body_at, is_byte_array, leads_to, may_begin_with}
+use Rattle.jc_machine.specs.Lookup.{are_of_types, body_at, is_byte_array, leads_to, may_begin_with}
 use Rattle.jc_machine.specs.Machine.{Surroundings}
 use Rattle.jc_machine.specs.Reading.{Pointwise, Reads}
 use Rattle.jc_machine.specs.Step.{Start}
 use Rattle.jc_names.specs.Names.{home_at, home_of}
 use Rattle.jc_names.specs.declared.name.ClassName.{ClassName}
-use Rattle.jc_names.specs.declared.name.MethodName.TheVariants.{Api, Loaded}
+use Rattle.jc_names.specs.declared.name.MethodName.TheVariants.{Loaded}
 use Rattle.jc_names.specs.declared.owner.Owner.{Owner}
 use Rattle.jc_natives.specs.Kept.{Kept}
 use Rattle.jc_safety.specs.Starting.{MethodCanBegin}
-use Rattle.jc_store.specs.Heap.{Object}
 use Rattle.jc_words.specs.Values.{Ref, TaggedValue, Word}
 use Rattle.jc_card.specs.Card.{CardState, around}
-use Rattle.jc_card.specs.Install.{HasNumber, Refused, failure_of, installed, succeeds}
+use Rattle.jc_card.specs.Install.{failure_of, installed, succeeds}
 use Rattle.jc_card.specs.Parts.{Ended}
 use Rattle.jc_card.specs.PrivateWords.{IsInstallPlace, install_words}
 use Rattle.jc_card.specs.Reads.{ReadsInstalled}
@@ -78,53 +73,27 @@ module _ (find : ClassRef → Option ClassName) where
   by_result : (result : ReturnType ClassRef) → is_install_signature (signature (ByteArray ∷ Short ∷ Byte ∷ [])
       result) ≡ true
       → Installs (ByteArray ∷ Short ∷ Byte ∷ []) result
-  by_result Void e = record { found = refl; three = refl }
-  by_result (Value type) e = never e
+  by_result result h1 = grind (arith, never)
 
   by_fourth : (types : List (DeclaredType ClassRef)) (result : ReturnType ClassRef)
       → is_install_signature (signature (ByteArray ∷ Short ∷ Byte ∷ types) result) ≡ true
       → Installs (ByteArray ∷ Short ∷ Byte ∷ types) result
-  by_fourth [] result e = by_result result e
-  by_fourth (t ∷ types) result e = never e
+  by_fourth types result h1 = grind (arith, by_result, never)
 
   by_third : (types : List (DeclaredType ClassRef)) (result : ReturnType ClassRef)
       → is_install_signature (signature (ByteArray ∷ Short ∷ types) result) ≡ true
       → Installs (ByteArray ∷ Short ∷ types) result
-  by_third [] result e = never e
-  by_third (Boolean ∷ types) result e = never e
-  by_third (Byte ∷ types) result e = by_fourth types result e
-  by_third (Short ∷ types) result e = never e
-  by_third (Reference c ∷ types) result e = never e
-  by_third (BooleanArray ∷ types) result e = never e
-  by_third (ByteArray ∷ types) result e = never e
-  by_third (ShortArray ∷ types) result e = never e
-  by_third (ReferenceArray c ∷ types) result e = never e
+  by_third types result h1 = grind (arith, never, by_fourth)
 
   by_second : (types : List (DeclaredType ClassRef)) (result : ReturnType ClassRef)
       → is_install_signature (signature (ByteArray ∷ types) result) ≡ true
       → Installs (ByteArray ∷ types) result
-  by_second [] result e = never e
-  by_second (Boolean ∷ types) result e = never e
-  by_second (Byte ∷ types) result e = never e
-  by_second (Short ∷ types) result e = by_third types result e
-  by_second (Reference c ∷ types) result e = never e
-  by_second (BooleanArray ∷ types) result e = never e
-  by_second (ByteArray ∷ types) result e = never e
-  by_second (ShortArray ∷ types) result e = never e
-  by_second (ReferenceArray c ∷ types) result e = never e
+  by_second types result h1 = grind (arith, never, by_third)
 
   install_found : (types : List (DeclaredType ClassRef)) (result : ReturnType ClassRef)
       → is_install_signature (signature types result) ≡ true
       → Installs types result
-  install_found [] result e = never e
-  install_found (Boolean ∷ types) result e = never e
-  install_found (Byte ∷ types) result e = never e
-  install_found (Short ∷ types) result e = never e
-  install_found (Reference c ∷ types) result e = never e
-  install_found (BooleanArray ∷ types) result e = never e
-  install_found (ByteArray ∷ types) result e = by_second types result e
-  install_found (ShortArray ∷ types) result e = never e
-  install_found (ReferenceArray c ∷ types) result e = never e
+  install_found types result h1 = grind (arith, never, by_second)
 
 -- ---- the method
 
@@ -140,10 +109,7 @@ record IsInstall (w : World) (number install : ℕ) : Type 0 where
   three : length declared.method.signature.parameters ≡ 3
 
 named : (n offset : ℕ) → method_name (suc (suc n)) offset ≡ Loaded (suc n) offset
-named n offset =
-    let one : suc (suc n) - 1 ≡ suc n = omega arith in
-    ap (λ b. cond b (Api offset) (Loaded (suc (suc n) - 1) offset)) (le-ltb (suc (suc n)) 2 (omega arith))
-    ∙ ap (λ i. Loaded i offset) one
+named n offset = grind (arith, le-ltb)
 
 same_declared : (d e : DeclaredMethod) → Some d ≡ Some e → d ≡ e
 same_declared d e q = cc
@@ -187,30 +153,13 @@ module _ (c : CardState) (t : IsTypedCard c) (place : AppletPlace) (owner : Owne
   its = is_install c.world place.number place.install known.body known.there known.known known.method
 
   array_leads : leads_to c.heap is_byte_array (Ref 13) ≡ true
-  array_leads =
-      let o = t.beside.runtime_objects.1.1.1.1.1.1.1.1.1.1.1.1.0 in
-      ap (λ (x : Option (Object TaggedValue)). option_map_or (λ (y : Object TaggedValue). is_byte_array y.kind.object) x
-      false) o.found
-      ∙ ap is_byte_array o.type
+  array_leads = grind arith
 
   arguments_fit : are_of_types c.world.shapes c.heap given_types arguments ≡ true
-  arguments_fit =
-      ap (λ (b : Bool). b && (nat_lt 0 65536 && (nat_lt size 65536 && true))) array_leads
-      ∙ ap (λ (b : Bool). b && (nat_lt size 65536 && true)) (lt-ltb 0 65536 (omega arith))
-      ∙ ap (λ (b : Bool). b && true) (lt-ltb size 65536 short)
-
-  abbrev fits_so : DeclaredMethod → Option (Signature ClassName) → Bool
-  fits_so d type =
-      option_map_or (λ (t : Signature ClassName). cond d.method.is_static (are_of_types c.world.shapes c.heap
-      t.parameters
-      arguments) (are_of_instance c.world.shapes c.heap d.class t.parameters arguments)) type false
+  arguments_fit = grind (arith, array_leads, lt-ltb)
 
   fits : may_begin_with c.world.shapes c.heap its.declared arguments ≡ true
-  fits =
-      ap (fits_so its.declared) its.type
-      ∙ ap (λ (b : Bool). cond b (are_of_types c.world.shapes c.heap given_types arguments) (are_of_instance
-      c.world.shapes c.heap (its.declared).class given_types arguments)) its.static
-      ∙ arguments_fit
+  fits = grind (arith, its, arguments_fit)
 
   abbrev around_it : Surroundings Kept
   around_it = around c (Some owner.context)
@@ -237,35 +186,21 @@ module _ (c : CardState) (t : IsTypedCard c) (place : AppletPlace) (owner : Owne
 
   pub can_begin : AreSound
       → MethodCanBegin around_it its_start (record { number = place.number; offset = place.install })
-  can_begin sound = record {
-    declared = its.declared;
-    found = its.found;
-    header = its.header;
-    header_is = its.header_is;
-    begins =
-        ap (λ (b : Bool). (not b && length arguments == (its.header).nargs) && may_begin_with c.world.shapes c.heap
-        its.declared arguments) its.concrete
-        ∙ ap (λ (b : Bool). b && may_begin_with c.world.shapes c.heap its.declared arguments) (counted sound) ∙ fits;
-  }
+  can_begin sound = grind (arith, its, not, counted, fits)
 
 -- ---- and is called on words
 
 pub words_read : (size : ℕ) (words : List ℕ) → words ≡ install_words size
     → Pointwise Reads words (Ref 13 ∷ Word 0 ∷ Word size ∷ [])
-words_read size words e =
-    subst (λ (ws : List ℕ). Pointwise Reads ws (Ref 13 ∷ Word 0 ∷ Word size ∷ [])) (sym e) (refl, (refl, (refl, tt)))
+words_read size words e = grind arith
 
 -- ---- how it went
 
 pub settled_well : (c : CardState) (owner : Owner) (e : Ended) (ok : Bool) → ok ≡ true → ok ≡ succeeds c e
     → ReadsInstalled (Ok owner.instance) (installed c owner e)
-settled_well c owner e ok done is =
-    subst (λ (b : Bool). ReadsInstalled (Ok owner.instance) (cond b (HasNumber owner.instance) (Refused (InstallFailed
-    (failure_of c e))))) (sym done ∙ is) refl
+settled_well c owner e ok done is = grind arith
 
 pub settled_badly : (c : CardState) (owner : Owner) (e : Ended) (ok : Bool) → ok ≡ false → ok ≡ succeeds c e
     → (failure : Failure) → failure ≡ failure_of c e
     → ReadsInstalled (Err (InstallFailed failure)) (installed c owner e)
-settled_badly c owner e ok failed is failure failure_is =
-    subst (λ (b : Bool). ReadsInstalled (Err (InstallFailed failure)) (cond b (HasNumber owner.instance) (Refused
-    (InstallFailed (failure_of c e))))) (sym failed ∙ is) (ap InstallFailed failure_is)
+settled_badly c owner e ok failed is failure failure_is = grind arith

@@ -1,7 +1,6 @@
 -- What the runtime keeps, changed by the runtime itself.
-use Rattle.std.proofs.Common.{◌≡◌, ℕ, suc, ◌<◌, ◌≤◌, ◌&&◌, List, [], ◌∷◌, get_or, length, nat_le, Bool, true, refl}
-use Rattle.std.proofs.Common.{ap, ◌∙◌, arith}
-use Rattle.std.proofs.lemmas.Bool.{le-leb, lt-ltb}
+use Rattle.std.proofs.Common.{◌≡◌, ℕ, suc, ◌<◌, ◌&&◌, List, [], ◌∷◌, get_or, Bool, true, refl, ap, ◌∙◌, arith}
+use Rattle.std.proofs.lemmas.Bool.{lt-ltb}
 use Rattle.jc_names.specs.declared.owner.Owner.{Owner}
 use Rattle.jc_natives.specs.Kept.{Kept, are_bytes, is_aid, with_install}
 use Rattle.jc_natives.specs.Meaning.{meaning}
@@ -21,29 +20,7 @@ bytes_are (b ∷ bytes) are =
 pub kept_changed : (k : CardWords) (c : CardState) (h : Holds k c) (change : Kept → Kept)
     → meaning.fits c.world c.heap (change c.kept) ≡ true
     → IsDone (record k { kept = change k.kept }) GivesNothing (gives (with_kept c (change c.kept)) tt)
-kept_changed k c h change fits = (
-  record {
-    typed = kept_typed c h.typed (change c.kept) fits;
-    world = h.world;
-    program = h.program;
-    beside = record {
-      heap = h.beside.heap;
-      numbered = h.beside.numbered;
-      statics = h.beside.statics;
-      runtime = ap change h.beside.runtime;
-      most_objects = h.beside.most_objects;
-      most_cells = h.beside.most_cells;
-      most_frames = h.beside.most_frames;
-      most_words = h.beside.most_words;
-    };
-    frames = h.frames;
-    selected = h.selected;
-    most_objects = h.most_objects;
-    most_cells = h.most_cells;
-    steps = h.steps;
-  },
-  tt,
-)
+kept_changed k c h change fits = grind (arith, kept_typed)
 
 -- ---- an install begins
 
@@ -52,8 +29,4 @@ pub number_taken : (k : CardWords) (c : CardState) (h : Holds k c) → BeginsFit
     → is_aid aid ≡ true → owner.instance ≡ suc k.kept.numbers → k.kept.numbers < 32
     → IsDone (record k { kept = with_install k.kept owner aid }) GivesNothing
     (gives (with_kept c (with_install c.kept owner aid)) tt)
-number_taken k c h begun owner aid fit next room =
-    let same : k.kept.numbers ≡ c.kept.numbers = ap (λ (x : Kept). x.numbers) h.beside.runtime in
-    kept_changed k c h (λ (x : Kept). with_install x owner aid)
-    (begun c.world c.heap c.kept h.typed.beside.fits owner aid fit (omega (arith, next, same))
-    (omega (arith, room, same)))
+number_taken k c h begun owner aid fit next room = grind (arith, kept_changed)

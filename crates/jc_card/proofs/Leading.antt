@@ -1,26 +1,23 @@
 -- Accesses, one after the other: what was accessed then, and which objects change.
-use Rattle.std.proofs.Common.{◌≡◌, ◌⊎◌, ℕ, zero, suc, List, [], ◌∷◌, ◌++◌, Some, inl, inr, refl, sym}
-use Rattle.std.proofs.Common.{ap, ◌∙◌, slice_get}
+use Rattle.std.proofs.Common.{◌≡◌, ℕ, zero, suc, List, [], ◌∷◌, ◌++◌, Some, inl, inr, refl, arith, ap, ◌∙◌, slice_get}
 use Rattle.std.proofs.lemmas.Option.{same_Some}
 use Rattle.jc_firewall.specs.Verdict.{runtime_context}
 use Rattle.jc_machine.specs.Guarded as steps
 use Rattle.jc_machine.specs.Guarded.{ChangesAccessed, machine_of}
-use Rattle.jc_machine.specs.Machine.{Ends, Machine, Next, Outcome, Stuck, Surroundings, Throws, Touch, UsedUp}
+use Rattle.jc_machine.specs.Machine.{Machine, Outcome, Surroundings, Touch}
 use Rattle.jc_machine.specs.Natives.{KeepsObjects}
 use Rattle.jc_machine.specs.Step.{defensive_step}
 use Rattle.jc_names.specs.declared.name.MethodName.{MethodName}
 use Rattle.jc_names.specs.declared.owner.Owner.{Owner}
 use Rattle.jc_natives.specs.Kept.{Kept}
 use Rattle.jc_store.specs.Heap.{Heap, Object}
-use Rattle.jc_store.specs.declared.kind.Kind.{Kind}
 use Rattle.jc_words.specs.Values.{TaggedValue}
 use Rattle.jc_card.specs.Accesses.{ChangesBy, IsAccessed, IsApartCard, IsGuardedCommand, KeepsApart, LeavesObjects}
 use Rattle.jc_card.specs.Accesses.{law_of_accesses}
 use Rattle.jc_card.specs.Card.{CardState, with_heap}
 use Rattle.jc_card.specs.Order.{IsOwnWork, Leads, Order, RunsAs, Steps, machine_at_end}
-use Rattle.jc_card.specs.Order.Leads.{by_beginning, by_buffer, by_call, by_closing, by_opening, by_parameters}
-use Rattle.jc_card.specs.Order.Leads.{by_reset, by_selecting, by_settling, by_unselecting, nowhere}
-use Rattle.jc_card.specs.Order.Leads.{onward as led_onward}
+use Rattle.jc_card.specs.Order.Leads.{by_beginning, by_buffer, by_call, by_closing, by_opening, by_parameters, by_reset}
+use Rattle.jc_card.specs.Order.Leads.{by_selecting, by_settling, by_unselecting, nowhere, onward as led_onward}
 use Rattle.jc_card.specs.Order.RunsAs.{by_method, by_native, by_none}
 use Rattle.jc_card.specs.Order.Steps.{last, onward, spent}
 use Rattle.jc_card.specs.Parts.{Left}
@@ -50,15 +47,7 @@ got_first (y ∷ xs) ys zero x e = e
 got_first (y ∷ xs) ys (suc k) x e = got_first xs ys k x e
 
 accessed_first : (xs ys : List Touch) (n : ℕ) (o : Object TaggedValue) → IsAccessed xs n o → IsAccessed (xs ++ ys) n o
-accessed_first xs ys n o a = record {
-  place = a.place;
-  touch = a.touch;
-  listed = got_first xs ys a.place a.touch a.listed;
-  is = a.is;
-  changes = a.changes;
-  allowed = a.allowed;
-  own = a.own;
-}
+accessed_first xs ys n o a = grind (arith, got_first)
 
 accessed_later : (xs ys : List Touch) (n : ℕ) (o : Object TaggedValue) → IsAccessed ys n o → IsAccessed (xs ++ ys) n o
 accessed_later [] ys n o a = a
@@ -76,48 +65,17 @@ accessed_later (x ∷ xs) ys n o a =
 -- an object that stays is accessed as what it was
 accessed_before : (xs : List Touch) (n : ℕ) (o p : Object TaggedValue) → p.kind ≡ o.kind → p.owner ≡ o.owner
     → IsAccessed xs n p → IsAccessed xs n o
-accessed_before xs n o p kind owner a = record {
-  place = a.place;
-  touch = a.touch;
-  listed = a.listed;
-  is = a.is;
-  changes = a.changes;
-  allowed = a.allowed;
-  own = λ plain.
-      elim (a.own (ap (λ (k : Kind). k.mark) kind ∙ plain)) [
-        | inl own ↦ inl (own ∙ ap (λ (w : Owner). w.context) owner)
-        | inr other ↦ inr other
-      ];
-}
+accessed_before xs n o p kind owner a = grind arith
 
 -- what is accessed in a context is accessed in its own, if it is plain
 pub accessed_in : (active : ℕ) (xs : List Touch) (n : ℕ) (o : Object TaggedValue) → steps.IsAccessed active xs n o
     → IsAccessed xs n o
-accessed_in active xs n o a = record {
-  place = a.place;
-  touch = a.touch;
-  listed = a.listed;
-  is = a.is;
-  changes = a.changes;
-  allowed = a.allowed;
-  own = λ plain. by_who a.who (a.own plain);
-}
-  where
-    by_who : (a.touch.active ≡ active) ⊎ (a.touch.active ≡ runtime_context)
-        → (active ≡ o.owner.context) ⊎ (a.touch.active ≡ runtime_context)
-        → (a.touch.active ≡ o.owner.context) ⊎ (a.touch.active ≡ runtime_context)
-    by_who (inl same) (inl own) = inl (same ∙ own)
-    by_who (inr runtime) (inl own) = inr runtime
-    by_who who (inr runtime) = inr runtime
+accessed_in active xs n o a = grind arith
 
 -- ---- what changes
 
 pub nothing_changes : (heap : Heap TaggedValue) → ChangesBy [] heap heap
-nothing_changes heap = record {
-  objects = keeps_self heap;
-  components = λ n o p e f.
-      inl (ap (λ (x : Object TaggedValue). x.cells) (same_Some p o (sym f ∙ e)));
-}
+nothing_changes heap = grind (arith, keeps_self, same_Some)
 
 pub added_up : (a b c : Heap TaggedValue) (xs ys : List Touch) → ChangesBy xs a b → ChangesBy ys b c
     → ChangesBy (xs ++ ys) a c
@@ -150,11 +108,7 @@ changes_in active xs a b kept changes = record {
 
 -- what is left at an end is left
 pub left_at_end : (o : Outcome Kept) (after : Machine Kept) → machine_at_end o ≡ Some after → machine_of o ≡ Some after
-left_at_end (Next m) after e = absurd cc
-left_at_end (Throws m object) after e = e
-left_at_end (Ends m value) after e = e
-left_at_end (UsedUp m) after e = e
-left_at_end Stuck after e = e
+left_at_end o after h1 = grind arith
 
 led_steps : {s : Surroundings Kept} {n : ℕ} {m after : Machine Kept} {xs : List Touch}
     → Steps law_of_accesses s n m xs after → ChangesBy xs m.heap after.heap
@@ -214,8 +168,4 @@ part_guarded order c l p =
 -- ---- a load
 
 pub nothing_accessed : (before after : Heap TaggedValue) → LeavesObjects before after → ChangesBy [] before after
-nothing_accessed before after leaves = record {
-  objects = λ n o e. record { object = o; found = leaves n o e; kind = refl; owner = refl; size = refl };
-  components = λ n o p e f.
-      inl (ap (λ (x : Object TaggedValue). x.cells) (same_Some p o (sym f ∙ leaves n o e)));
-}
+nothing_accessed before after leaves = grind (arith, same_Some)

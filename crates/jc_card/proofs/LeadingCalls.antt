@@ -1,49 +1,40 @@
 -- Where the accesses of a call of the runtime's lead.
-use Rattle.std.proofs.Common.{◌≡◌, ℕ, zero, suc, ◌+◌, List, [], ◌∷◌, ◌++◌, length, Option, Some, None, Bool, true}
-use Rattle.std.proofs.Common.{false, cond, refl, ap, ◌∙◌, ◌&&◌, IfSome}
+use Rattle.std.proofs.Common.{◌≡◌, ℕ, zero, suc, ◌+◌, List, [], ◌∷◌, ◌++◌, Option, Some, None, Bool, true, arith, cond}
+use Rattle.std.proofs.Common.{refl, ap, ◌&&◌, IfSome, append-nil}
 use Rattle.jc_link.specs.Built.{IsBuilt}
-use Rattle.jc_machine.specs.Apart.{IsApart, IsApartAnswer, IsSetApart}
-use Rattle.jc_machine.specs.Apart.{StaysApart, is_applets}
+use Rattle.jc_machine.specs.Apart.{IsApart, IsApartAnswer, IsSetApart, StaysApart, is_applets}
 use Rattle.jc_natives.specs.Apart.{names_applets}
-use Rattle.std.proofs.Common.{append-nil, sym, subst}
-use Rattle.jc_card.proofs.Leading.{left_at_end}
+use Rattle.jc_card.proofs.Leading.{left_at_end, IsPart}
 use Rattle.jc_card.proofs.Sparing.{spared}
 use Rattle.jc_card.specs.Accesses.{IsApartCard, IsLawfulStep, law_of_accesses, law_of_plain_objects}
 use Rattle.jc_card.specs.Order.{Claims, IsCallOf, Order, RunsAs, Steps, call_as, machine_at_end, machine_with}
 use Rattle.jc_card.specs.Order.RunsAs.{by_method, by_native, by_none}
 use Rattle.jc_card.specs.Order.Steps.{last, onward, spent}
-use Rattle.jc_card.specs.Card.{left_by}
-use Rattle.jc_card.specs.Parts.{Normally, OutOfBudget, Uncaught}
-use Rattle.jc_base.specs.Signature.{Signature}
-use Rattle.std.specs.Option.{option_map_or}
+use Rattle.jc_card.specs.Card.{left_by, CardState, around}
+use Rattle.jc_card.specs.Parts.{Normally, OutOfBudget, Uncaught, Ended, ended, ended_call}
 use Rattle.jc_classes.specs.Members.{DeclaredMethod}
 use Rattle.jc_cap.specs.declared.method_header.MethodHeader.{MethodHeader}
 use Rattle.jc_link.specs.Linked.{World}
-use Rattle.jc_machine.specs.Calls.{frame_of, has_room, native_may_begin, native_type}
+use Rattle.jc_machine.specs.Calls.{frame_of, native_may_begin}
 use Rattle.jc_machine.specs.Guarded.{machine_of}
 use Rattle.jc_machine.specs.Storable.{FieldsHoldStorable}
-use Rattle.jc_machine.specs.Lookup.{is_given, is_throwable, declared_at}
-use Rattle.jc_machine.specs.Machine.{Calls, Ends, Frame, Gives, IsStuck, Machine, MethodPlace, NativeAnswer, NativeCall}
-use Rattle.jc_machine.specs.Machine.{NativeEnd, Next, Outcome, Stuck, Surroundings, Throws, ThrowsObject, Touch, UsedUp}
+use Rattle.jc_machine.specs.Lookup.{declared_at}
+use Rattle.jc_machine.specs.Machine.{Frame, Machine, MethodPlace, NativeAnswer, NativeCall}
+use Rattle.jc_machine.specs.Machine.{NativeEnd, Next, Outcome, Surroundings, Touch}
 use Rattle.jc_machine.specs.Natives.{IsGuardedAnswer}
 use Rattle.jc_machine.specs.Step.{Called, CallEnd, Gave, RanOut, Start, Threw, WasStuck, after_first_native, begun}
 use Rattle.jc_machine.specs.Step.{begun_by, called_so_far, continued, defensive_step, ended_by, first_answer, may_begin}
 use Rattle.jc_machine.specs.Step.{native_called, native_ended, native_started, no_frame, point_of, room_lacking}
-use Rattle.jc_machine.specs.Step.{runtime_call, standing, started, started_by, steps_of}
+use Rattle.jc_machine.specs.Step.{runtime_call, started, started_by, steps_of}
 use Rattle.jc_machine.specs.declared.stop.Budget.{Budget}
 use Rattle.jc_machine.specs.declared.stop.CodePoint.{CodePoint}
-use Rattle.jc_names.specs.declared.name.ClassName.{ClassName}
 use Rattle.jc_names.specs.declared.name.MethodName.{MethodName}
 use Rattle.jc_names.specs.declared.name.MethodName.TheVariants.{Api, Loaded}
 use Rattle.jc_names.specs.declared.owner.Owner.{Owner}
 use Rattle.jc_natives.specs.Kept.{Kept}
 use Rattle.jc_natives.specs.Meaning.{meaning}
-use Rattle.jc_store.specs.Heap.{Object, object_at}
 use Rattle.jc_words.specs.Values.{TaggedValue}
-use Rattle.jc_card.proofs.Leading.{IsPart}
 use Rattle.jc_card.specs.Order.Leads.{by_call}
-use Rattle.jc_card.specs.Card.{CardState, around}
-use Rattle.jc_card.specs.Parts.{Ended, ended, ended_call}
 use Rattle.jc_card.specs.PrivateGuarded.{StepsGuarded}
 
 module _ (laws : StepsGuarded) (c : CardState) (owner : Owner) where
@@ -89,8 +80,7 @@ module _ (laws : StepsGuarded) (c : CardState) (owner : Owner) where
   module _ (n : ℕ) (m after : Machine Kept) (e : machine_at_end (defensive_step s m).outcome ≡ Some after) where
     nothing_more : (claims : Claims) → Steps claims s (suc n) m (defensive_step s m).touches after
         → Steps claims s (suc n) m ((defensive_step s m).touches ++ []) after
-    nothing_more claims h =
-        subst (λ (l : List Touch). Steps claims s (suc n) m l after) (sym (append-nil (defensive_step s m).touches)) h
+    nothing_more claims h = grind (arith, append-nil)
 
     end_led : AreLed (suc n) m ((defensive_step s m).touches ++ []) after
     end_led = record {
@@ -113,24 +103,13 @@ module _ (laws : StepsGuarded) (c : CardState) (owner : Owner) where
 
     end_joined : (more : List Touch) (ends : CallEnd Kept) → led_end n next more ends
         → led_end (suc n) m ((defensive_step s m).touches ++ more) ends
-    end_joined more (Gave after value) h = led_on more after h
-    end_joined more (Threw after object at) h = led_on more after h
-    end_joined more (RanOut after lack at) h = led_on more after h
-    end_joined more WasStuck h = tt
+    end_joined more ends h1 = grind (arith, led_on)
 
   by_outcome : (n : ℕ) (m : Machine Kept) (lacking : Budget) (at : Option CodePoint) (o : Outcome Kept)
       → (defensive_step s m).outcome ≡ o → ((next : Machine Kept) → leads_to n next (steps_of s n next))
       → leads_to (suc n) m
       (called_so_far (defensive_step s m).touches (continued lacking at (steps_of s n) o))
-  by_outcome n m lacking at (Next next) e each =
-      end_joined n m next e (steps_of s n next).touches (steps_of s n next).ends (each next)
-  by_outcome n m lacking at (Throws after object) e each =
-      end_led n m after (ap (λ (o : Outcome Kept). machine_at_end o) e)
-  by_outcome n m lacking at (Ends after value) e each =
-      end_led n m after (ap (λ (o : Outcome Kept). machine_at_end o) e)
-  by_outcome n m lacking at (UsedUp after) e each =
-      end_led n m after (ap (λ (o : Outcome Kept). machine_at_end o) e)
-  by_outcome n m lacking at Stuck e each = tt
+  by_outcome n m lacking at o h1 h2 = grind (arith, end_joined, end_led)
 
   steps_lead : (n : ℕ) (m : Machine Kept) → leads_to n m (steps_of s n m)
   unfolding steps_of
@@ -156,15 +135,7 @@ module _ (laws : StepsGuarded) (c : CardState) (owner : Owner) where
     plain : IsFitStart → RunsAs law_of_plain_objects c owner arguments method touches after
 
   begin_fit : (f : Frame) → f.active ≡ owner → IsFitStart → IsFit (machine_with c f)
-  begin_fit f is p = record {
-    built = p.built;
-    apart = record {
-      objects = p.objects;
-      statics = p.statics;
-      frames = ap (λ (o : Owner). is_applets o && true) is ∙ ap (λ (b : Bool). b && true) p.applets;
-      kept = p.instances;
-    };
-  }
+  begin_fit f is p = grind arith
 
   module _ (arguments : List TaggedValue) (name : MethodName) where
     abbrev call_end : List Touch → CallEnd Kept → Type 0
@@ -177,8 +148,7 @@ module _ (laws : StepsGuarded) (c : CardState) (owner : Owner) where
     from called = call_end called.touches called.ends
 
     either : (b : Bool) (x y : Called Kept) → from x → from y → from (cond b x y)
-    either true x y h k = h
-    either false x y h k = k
+    either b x y h1 h2 = grind arith
 
     -- no step
     none_led : (f : Frame) → f.active ≡ owner → IsCallLed arguments name [] (machine_with c f)
@@ -216,19 +186,10 @@ module _ (laws : StepsGuarded) (c : CardState) (owner : Owner) where
 
         of_end : (touches : List Touch) (ends : CallEnd Kept) → led_end c.steps (machine_with c first) touches ends
             → call_end arguments name touches ends
-        of_end touches (Gave after value) h = of_steps touches after h
-        of_end touches (Threw after object at) h = of_steps touches after h
-        of_end touches (RanOut after lack at) h = of_steps touches after h
-        of_end touches WasStuck h = tt
+        of_end touches ends h1 = grind (arith, of_steps)
 
         begun_leads : from arguments name (begun s c.steps start place header)
-        begun_leads =
-            either arguments name (has_room s [] (length first.locals + header.max_stack))
-            (steps_of s c.steps (standing start first))
-            (ended_by (RanOut (standing start first) (room_lacking s []) None))
-            (of_end (steps_of s c.steps (machine_with c first)).touches
-            (steps_of s c.steps (machine_with c first)).ends (steps_lead c.steps (machine_with c first)))
-            (none_led arguments name first refl)
+        begun_leads = grind (arith, either, of_end, steps_lead, none_led)
 
       begun_by_leads : (d : DeclaredMethod) → declared_at w place ≡ Some d → (header : Option MethodHeader)
           → d.method.header ≡ header → from arguments name (begun_by s c.steps start place d header)
@@ -246,27 +207,16 @@ module _ (laws : StepsGuarded) (c : CardState) (owner : Owner) where
 
     gave_leads : (called : MethodName) (touches : List Touch) (m : Machine Kept) (value : Option TaggedValue) (b : Bool)
         → IsCallLed arguments called touches m → call_end arguments called touches (cond b (Gave m value) WasStuck)
-    gave_leads called touches m value true h = h
-    gave_leads called touches m value false h = tt
+    gave_leads called touches m value b h1 = grind arith
 
     threw_leads : (called : MethodName) (touches : List Touch) (m : Machine Kept) (object : ℕ) (b : Bool)
         → IsCallLed arguments called touches m → call_end arguments called touches (cond b (Threw m object None) WasStuck)
-    threw_leads called touches m object true h = h
-    threw_leads called touches m object false h = tt
+    threw_leads called touches m object b h1 = grind arith
 
     native_ended_leads : (touches : List Touch) (m : Machine Kept) (member : ℕ) (ends : NativeEnd)
         → IsCallLed arguments (Api member) touches m
         → call_end arguments (Api member) touches (native_ended s m member ends)
-    native_ended_leads touches m member (Gives value) h =
-        let fits = λ (signature : Signature ClassName).
-        is_given s.world.shapes m.heap signature.result value in
-        gave_leads (Api member) touches m value (option_map_or fits (native_type s.world.shapes member) false) h
-    native_ended_leads touches m member (ThrowsObject object) h =
-        threw_leads (Api member) touches m object
-        (option_map_or (λ (o : Object TaggedValue). is_throwable s.world.shapes o.kind.object)
-        (object_at m.heap object) false) h
-    native_ended_leads touches m member (Calls callback) h = tt
-    native_ended_leads touches m member IsStuck h = tt
+    native_ended_leads touches m member ends h1 = grind (arith, gave_leads, threw_leads)
 
     -- behind a native member
     module _ (member : ℕ) where
@@ -327,14 +277,7 @@ module _ (laws : StepsGuarded) (c : CardState) (owner : Owner) where
     module _ (order : Order) (called : IsCallOf c order owner method arguments)
         (is_owner : IsApartCard c → is_applets owner ≡ true) where
       fit_start : IsApartCard c → IsFitStart
-      fit_start p =
-          record {
-            built = p.packages;
-            objects = p.objects;
-            statics = p.statics;
-            instances = p.instances;
-            applets = is_owner p;
-          }
+      fit_start p = grind arith
 
       left_apart : (touches : List Touch) (m : Machine Kept) (ends : Ended)
           → IsCallLed arguments method touches m
@@ -361,6 +304,4 @@ module _ (laws : StepsGuarded) (c : CardState) (owner : Owner) where
       ended_part touches WasStuck h = tt
 
       pub call_part : IfSome (ended c (runtime_call s c.steps start)) (IsPart order c)
-      call_part =
-          let ran = runtime_call s c.steps start in
-          ended_part ran.touches ran.ends call_leads
+      call_part = grind (arith, ended_part, call_leads)

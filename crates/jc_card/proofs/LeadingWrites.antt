@@ -1,17 +1,15 @@
 -- Where the runtime's own accesses lead: what it writes, and what it clears.
 use Rattle.std.proofs.Common.{◌≡◌, ℕ, zero, suc, ◌+◌, List, [], ◌∷◌, ◌++◌, map, set, length, Option, Some, None, Bool}
 use Rattle.std.proofs.Common.{true, false, cond, refl, sym, ap, subst, ◌∙◌, inl, inr, ◌⊎◌, slice_get, IfSome, ◌≢◌}
-use Rattle.std.proofs.Common.{IsSome, ◌&&◌}
-use Rattle.std.proofs.lemmas.Option.{none-some}
+use Rattle.std.proofs.Common.{IsSome, ◌&&◌, arith}
+use Rattle.std.proofs.lemmas.Option.{none-some, same_Some}
 use Rattle.jc_names.specs.declared.owner.Owner.{Owner}
-use Rattle.jc_store.specs.Heap.{is_same_event}
+use Rattle.jc_store.specs.Heap.{is_same_event, Heap, Object, is_cleared_by, object_at, with_object}
 use Rattle.jc_store.specs.declared.kind.Mark.TheVariants.{Plain}
-use Rattle.jc_card.proofs.Leading.{keeps_self}
+use Rattle.jc_card.proofs.Leading.{keeps_self, IsPart}
 use Rattle.jc_card.specs.PrivateGuarded.{StepsGuarded}
 use Rattle.jc_card.specs.Accesses.{AllCleared, IsApartCard, law_of_accesses, law_of_plain_objects}
-use Rattle.std.proofs.Common.{arith}
 use Rattle.std.proofs.Math.Seq.{length-sets, sets}
-use Rattle.std.proofs.lemmas.Option.{same_Some}
 use Rattle.std.specs.List.{AllByRecursion}
 use Rattle.std.specs.Option.{option_map_or}
 use Rattle.jc_firewall.specs.Verdict.{runtime_context, verdict_of}
@@ -19,23 +17,20 @@ use Rattle.jc_firewall.specs.declared.access.Access.TheVariants.{PutField, Store
 use Rattle.jc_firewall.specs.declared.access.Facts.{Facts}
 use Rattle.jc_firewall.specs.declared.access.Verdict.TheVariants.{Allowed}
 use Rattle.jc_link.specs.Linked.{World}
-use Rattle.jc_machine.specs.Going.{facts_in}
 use Rattle.jc_machine.specs.Guarded.{AddsFor, ChangesAccessed, IsAccessed, are_allowed, may_change}
 use Rattle.jc_machine.specs.Lookup.{is_array}
 use Rattle.jc_machine.specs.Machine.{Touch}
 use Rattle.jc_machine.specs.Natives.{KeepsObjects}
 use Rattle.jc_machine.specs.Storable.{HoldStorable, may_be_held}
 use Rattle.jc_natives.specs.Apart.{names_applets}
-use Rattle.jc_natives.specs.Cells.{put as put_one, put_all}
+use Rattle.jc_natives.specs.Cells.{put_all}
 use Rattle.jc_natives.specs.Kept.{Kept}
 use Rattle.jc_natives.specs.Meaning.{own_touch}
 use Rattle.jc_safety.specs.Zeroing.{zero_or_null, zeroed, zeroed_where}
-use Rattle.jc_store.specs.Heap.{Heap, Object, is_cleared_by, object_at, with_cell, with_object}
 use Rattle.jc_store.specs.declared.kind.ClearingEvent.{ClearingEvent}
 use Rattle.jc_store.specs.declared.kind.ClearingEvent.TheVariants as events
-use Rattle.jc_words.specs.Values.{Null, Ref, TaggedValue, Unset, Word}
+use Rattle.jc_words.specs.Values.{TaggedValue, Word}
 use Rattle.jc_card.proofs.Heaps.{all_put}
-use Rattle.jc_card.proofs.Leading.{IsPart}
 use Rattle.jc_card.specs.Commands.{reset_command}
 use Rattle.jc_card.specs.Card.{CardState, with_heap}
 use Rattle.jc_card.specs.Order.{Claims, Clears, IsClearing, IsOwnAccess, IsOwnWork, IsOwnWrite, Leads, LeavesOthers}
@@ -46,23 +41,14 @@ use Rattle.jc_card.specs.Parts.{clear, clearing_touches, runtime_touch, write}
 -- ---- the runtime's own access
 
 own_allowed : (b : Bool) (f : Facts) → Allowed ≡ verdict_of (cond b StoreComponent PutField) runtime_context f
-own_allowed true f = refl
-own_allowed false f = refl
+own_allowed b f = grind arith
 
 own_access : (w : World) (heap : Heap TaggedValue) (number : ℕ) (o : Object TaggedValue)
     → object_at heap number ≡ Some o → IsOwnAccess w heap (own_touch number o)
-own_access w heap number o e = record {
-  by = refl;
-  active = refl;
-  object = o;
-  found = e;
-  verdict = λ selected.
-      own_allowed (is_array o.kind.object) (facts_in w.shapes selected o None false);
-}
+own_access w heap number o e = grind (arith, own_allowed)
 
 own_changes : (b : Bool) → may_change (cond b StoreComponent PutField) ≡ true
-own_changes true = refl
-own_changes false = refl
+own_changes b = grind arith
 
 own_accessed : (touches : List Touch) (place number : ℕ) (o : Object TaggedValue)
     → slice_get touches place ≡ Some (own_touch number o) → IsAccessed runtime_context touches number o
@@ -85,8 +71,7 @@ got_set [] n i x y e = absurd cc
 got_set (z ∷ xs) zero zero x y e = inl (refl, refl)
 got_set (z ∷ xs) zero (suc i) x y e = inr e
 got_set (z ∷ xs) (suc n) zero x y e = inr e
-got_set (z ∷ xs) (suc n) (suc i) x y e =
-    elim (got_set xs n i x y e) [ inl new ↦ inl (ap suc new.0, new.1) | inr old ↦ inr old ]
+got_set (z ∷ xs) (suc n) (suc i) x y e = grind (arith, got_set xs n i x y e)
 
 module _ (touches : List Touch) (heap : Heap TaggedValue) (o p : Object TaggedValue) (kind : p.kind ≡ o.kind)
     (owner : p.owner ≡ o.owner) (size : length p.cells ≡ length o.cells) where
@@ -108,26 +93,14 @@ module _ (touches : List Touch) (heap : Heap TaggedValue) (o p : Object TaggedVa
 
   one_changes : (number : ℕ) → object_at heap number ≡ Some o → IsAccessed runtime_context touches number o
       → ChangesAccessed runtime_context touches heap (with_object heap number p)
-  one_changes zero found a i q r e f = absurd cc
-  one_changes (suc n) found a zero q r e f = absurd cc
-  one_changes (suc n) found a (suc i) q r e f = elim (got_set heap n i p q e) [
-    | inl new ↦
-        let there = subst (λ (k : ℕ). slice_get heap k ≡ Some o) new.0 found in
-        let same : o ≡ q = cc in
-        inr (subst (λ (x : Object TaggedValue). IsAccessed runtime_context touches (suc i) x) same
-        (subst (λ (k : ℕ). IsAccessed runtime_context touches (suc k) o) new.0 a))
-    | inr old ↦ let same : r ≡ q = cc in inl (ap (λ (x : Object TaggedValue). x.cells) same)
-  ]
+  one_changes number h1 h2 = grind (arith, got_set)
 
 -- ---- what is written
 
 nothing_put : (heap : Heap TaggedValue) (number from : ℕ) (values : List TaggedValue) → object_at heap number ≡ None
     → put_all heap number from values ≡ heap
 nothing_put heap number from [] e = refl
-nothing_put heap number from (v ∷ values) e =
-    let same : put_one heap number from v ≡ heap =
-    ap (λ o. option_map_or (λ object. with_object heap number (with_cell object from v)) o heap) e in
-    ap (λ h. put_all h number (from + 1) values) same ∙ nothing_put heap number (from + 1) values e
+nothing_put heap number from (v ∷ values) e = grind (arith, nothing_put heap number (from + 1) values e)
 
 module _ (w : World) (heap : Heap TaggedValue) (number : ℕ) (values : List TaggedValue) where
   abbrev touches_for : Option (Object TaggedValue) → List Touch
@@ -164,9 +137,7 @@ module _ (w : World) (heap : Heap TaggedValue) (number : ℕ) (values : List Tag
 
   object_other : (k i : ℕ) (p : Object TaggedValue) → (i ≡ k → ⊥)
       → object_at (with_object heap k p) i ≡ object_at heap i
-  object_other zero i p other = refl
-  object_other (suc k) zero p other = refl
-  object_other (suc k) (suc i) p other = set_other heap k i p (λ e. other (ap suc e))
+  object_other k i p h1 = grind (arith, set_other)
 
   put_others : (found : Option (Object TaggedValue)) → object_at heap number ≡ found
       → LeavesOthers number heap (put_all heap number 0 values)
@@ -190,9 +161,7 @@ none_added owner before after none n o e f = absurd (none-some o (sym (none n f)
 
 one_set : (heap : Heap TaggedValue) (number : ℕ) (p : Object TaggedValue) (n : ℕ) → object_at heap n ≡ None
     → object_at (with_object heap number p) n ≡ None
-one_set heap zero p n e = e
-one_set heap (suc k) p zero e = refl
-one_set heap (suc k) p (suc i) e = set_none heap k i p e
+one_set heap number p n h1 = grind (arith, set_none)
 
 none_put : (heap : Heap TaggedValue) (number : ℕ) (values : List TaggedValue) (found : Option (Object TaggedValue))
     → object_at heap number ≡ found → (n : ℕ) → object_at heap n ≡ None
@@ -261,22 +230,18 @@ module _ (w : World) (event : ClearingEvent) (context : Option ℕ) where
   zero_length (v ∷ vs) = ap suc (zero_length vs)
 
   one_kind : (b : Bool) (o : Object TaggedValue) → (one b o).kind ≡ o.kind
-  one_kind true o = refl
-  one_kind false o = refl
+  one_kind b o = grind arith
 
   one_owner : (b : Bool) (o : Object TaggedValue) → (one b o).owner ≡ o.owner
-  one_owner true o = refl
-  one_owner false o = refl
+  one_owner b o = grind arith
 
   one_size : (b : Bool) (o : Object TaggedValue) → length (one b o).cells ≡ length o.cells
-  one_size true o = zero_length o.cells
-  one_size false o = refl
+  one_size b o = grind (arith, zero_length)
 
   got_cleared : (heap : Heap TaggedValue) (n : ℕ) (o : Object TaggedValue) → slice_get heap n ≡ Some o
       → slice_get (zeroed_where test heap) n ≡ Some (one (test o) o)
   got_cleared [] n o e = absurd cc
-  got_cleared (x ∷ heap) zero o e =
-      let same : x ≡ o = cc in ap (λ (y : Object TaggedValue). Some (one (test y) y)) same
+  got_cleared (x ∷ heap) zero o e = grind arith
   got_cleared (x ∷ heap) (suc n) o e = got_cleared heap n o e
 
   stay : (heap : Heap TaggedValue) → KeepsObjects heap (zeroed_where test heap)
@@ -296,8 +261,7 @@ module _ (w : World) (event : ClearingEvent) (context : Option ℕ) where
 
   first_listed : (b : Bool) (number : ℕ) (o : Object TaggedValue) (more : List Touch) → b ≡ true
       → IsListed (first_touches b number o ++ more) (own_touch number o)
-  first_listed true number o more e = record { place = 0; there = refl }
-  first_listed false number o more e = absurd cc
+  first_listed b number o more h1 = grind arith
 
   later_listed : (b : Bool) (number : ℕ) (o : Object TaggedValue) (more : List Touch) (touch : Touch)
       → IsListed more touch → IsListed (first_touches b number o ++ more) touch
@@ -324,8 +288,7 @@ module _ (w : World) (event : ClearingEvent) (context : Option ℕ) where
   first_judged : (whole : Heap TaggedValue) (b : Bool) (number : ℕ) (o : Object TaggedValue) (more : List Touch)
       → object_at whole number ≡ Some o → AllByRecursion (IsOwnAccess w whole) more
       → AllByRecursion (IsOwnAccess w whole) (first_touches b number o ++ more)
-  first_judged whole true number o more e h = (own_access w whole number o e, h)
-  first_judged whole false number o more e h = h
+  first_judged whole b number o more h1 h2 = grind (arith, own_access)
 
   judged : (whole heap : Heap TaggedValue) (k : ℕ)
       → ((n : ℕ) (o : Object TaggedValue) → slice_get heap n ≡ Some o → slice_get whole (k + n) ≡ Some o)
@@ -341,22 +304,18 @@ module _ (w : World) (event : ClearingEvent) (context : Option ℕ) where
 
   first_allowed : (b : Bool) (number : ℕ) (o : Object TaggedValue) (more : List Touch) → are_allowed more ≡ true
       → are_allowed (first_touches b number o ++ more) ≡ true
-  first_allowed true number o more h = h
-  first_allowed false number o more h = h
+  first_allowed b number o more h1 = grind arith
 
   all_allowed : (number : ℕ) (heap : Heap TaggedValue)
       → are_allowed (clearing_touches event context number heap) ≡ true
   all_allowed number [] = refl
-  all_allowed number (o ∷ heap) =
-      first_allowed (test o) number o (clearing_touches event context (suc number) heap)
-      (all_allowed (suc number) heap)
+  all_allowed number (o ∷ heap) = grind (arith, first_allowed, all_allowed (suc number) heap)
 
   -- what isn't cleared stays
   one_changed : (touches : List Touch) (number : ℕ) (b : Bool) (o : Object TaggedValue) → test o ≡ b
       → (test o ≡ true → IsAccessed runtime_context touches number o)
       → ((one b o).cells ≡ o.cells) ⊎ IsAccessed runtime_context touches number o
-  one_changed touches number true o e accessed = inr (accessed e)
-  one_changed touches number false o e accessed = inl refl
+  one_changed touches number b o h1 h2 = grind arith
 
   changes : (heap : Heap TaggedValue)
       → ChangesAccessed runtime_context (clearing_touches event context 1 heap) heap (zeroed_where test heap)
@@ -372,20 +331,11 @@ module _ (w : World) (event : ClearingEvent) (context : Option ℕ) where
 
   clear_work : (heap : Heap TaggedValue)
       → IsOwnWork w heap (clearing_touches event context 1 heap) (zeroed_where test heap)
-  clear_work heap = record {
-    judged =
-        judged heap heap 0 (λ n o e.
-        let at : n ≡ 0 + n = omega arith in
-        subst (λ (k : ℕ). slice_get heap k ≡ Some o) at e);
-    allowed = all_allowed 1 heap;
-    kept = stay heap;
-    changes = changes heap;
-  }
+  clear_work heap = grind (arith, judged, all_allowed, stay, changes)
 
   -- exactly those that it names
   pub clears_exactly : (heap : Heap TaggedValue) → Clears event context heap (zeroed_where test heap)
-  clears_exactly heap zero o e = absurd cc
-  clears_exactly heap (suc n) o e = got_cleared heap n o e
+  clears_exactly heap = grind (arith, got_cleared)
 
   -- what was cleared holds what it may
   record WasAt (heap : Heap TaggedValue) (n : ℕ) (p : Object TaggedValue) : Type 0 where
@@ -397,14 +347,10 @@ module _ (w : World) (event : ClearingEvent) (context : Option ℕ) where
       → slice_get (zeroed_where test heap) n ≡ Some p → WasAt heap n p
   was_at [] n p e = absurd cc
   was_at (x ∷ heap) zero p e = record { object = x; there = refl; is = sym (same_Some (one (test x) x) p e) }
-  was_at (x ∷ heap) (suc n) p e =
-      let w = was_at heap n p e in record { object = w.object; there = w.there; is = w.is }
+  was_at (x ∷ heap) (suc n) p e = grind (arith, was_at heap n p e)
 
   zero_held : (heap : Heap TaggedValue) (v : TaggedValue) → may_be_held heap (zero_or_null v) ≡ true
-  zero_held heap (Word n) = refl
-  zero_held heap (Ref n) = refl
-  zero_held heap Null = refl
-  zero_held heap Unset = refl
+  zero_held heap v = grind arith
 
   zeros_held : (heap : Heap TaggedValue) (vs : List TaggedValue)
       → AllByRecursion (λ (v : TaggedValue). may_be_held heap v ≡ true) (map zero_or_null vs)
@@ -442,8 +388,7 @@ module _ (w : World) (event : ClearingEvent) (context : Option ℕ) where
 
   none_cleared_at : (heap : Heap TaggedValue) (n : ℕ) → object_at heap n ≡ None
       → object_at (zeroed_where test heap) n ≡ None
-  none_cleared_at heap zero e = refl
-  none_cleared_at heap (suc n) e = none_cleared heap n e
+  none_cleared_at heap n h1 = grind (arith, none_cleared)
 
 -- what the runtime keeps and who is selected may become another in the same part
 abbrev pub changed : CardState → Kept → Option Owner → CardState

@@ -1,9 +1,8 @@
 -- A card behind a load.
-use Rattle.std.proofs.Common.{◌≡◌, ℕ, suc, ◌+◌, ◌<◌, List, ◌++◌, length, nat_le, true, None}
+use Rattle.std.proofs.Common.{◌≡◌, ℕ, suc, ◌+◌, ◌<◌, List, length, nat_le, true, None, arith, sym, ap, ◌∙◌, subst}
 use Rattle.std.proofs.lemmas.Bool.{and_parts, leb-true}
 use Rattle.std.proofs.lemmas.List.{length-append, length-map}
-use Rattle.std.proofs.Common.{arith, sym, ap, ◌∙◌, subst}
-use Rattle.jc_interp.specs.Agree.{AgreeBeside, HoldsFields}
+use Rattle.jc_interp.specs.Agree.{AgreeBeside}
 use Rattle.jc_interp.specs.Loading.{LoadsWords, with_package as with_words}
 use Rattle.jc_interp.specs.declared.machine.WordMachine.{WordMachine}
 use Rattle.jc_link.specs.Linked.{IsBoundTo, Linked, World, with_linked}
@@ -13,9 +12,8 @@ use Rattle.jc_program.specs.declared.program.Program.{Program}
 use Rattle.jc_machine.specs.Accepted.{IsAccepted}
 use Rattle.jc_machine.specs.Machine.{Machine, Surroundings}
 use Rattle.jc_natives.specs.Kept.{Kept}
-use Rattle.jc_safety.specs.Loading.{MayLoad, around_behind, has_room_for, heap_behind, loaded_array, loaded_arrays}
-use Rattle.jc_safety.specs.Loading.{loaded_statics, machine_behind, next_package}
-use Rattle.jc_store.specs.Heap.{Heap, cells_in, next_number}
+use Rattle.jc_safety.specs.Loading.{MayLoad, around_behind, heap_behind, machine_behind, next_package}
+use Rattle.jc_store.specs.Heap.{Heap, next_number}
 use Rattle.jc_words.specs.Values.{TaggedValue}
 use Rattle.jc_card.specs.Card.{CardState, around, at_rest}
 use Rattle.jc_card.proofs.Counting.{as_many}
@@ -37,20 +35,10 @@ module _ (typed : LoadsTyped) (agree : StaysInAgreement) (fit : LoadsFitting) (k
   behind = heap_behind c.world c.heap l
 
   may : MayLoad (around c None) (at_rest c) l
-  may =
-      may_load fit c h.typed l (subst (λ (w : World). IsBoundTo w l) h.world bound)
-      (subst (λ (w : World). IsAccepted (with_linked w l)) h.world accepted) room
+  may = grind (arith, may_load)
 
   few_behind : length k.machine.store.objects + length l.body.kept.statics.arrays < 65536
-  few_behind =
-      let parts = and_parts (nat_le (length behind) c.limits.objects) (nat_le (cells_in behind) c.limits.cells)
-      (room_behind c l room) in
-      let fits = leb-true (length behind) c.limits.objects parts.0 in
-      let most = h.most_objects in
-      let joined = length-append c.heap (loaded_arrays (next_package c.world) l.body) in
-      let arrays = length-map l.body.kept.statics.arrays (loaded_array (next_package c.world) l.body) in
-      let same = as_many ReadsObject k.machine.store.objects c.heap h.beside.heap in
-      omega (arith, fits, most, few_objects, joined, arrays, same)
+  few_behind = grind (arith, and_parts, nat_le, room_behind, leb-true, length-append, length-map, as_many)
 
   module _ (number : ℕ) (number_is : number ≡ next_package c.world) (world : World)
       (world_is : world ≡ with_linked k.world l) (q : Program) (of : IsProgramOf world q) (machine : WordMachine)
@@ -59,11 +47,7 @@ module _ (typed : LoadsTyped) (agree : StaysInAgreement) (fit : LoadsFitting) (k
     grown = with_words k.machine (next_package c.world) l.body g.words
 
     grown_is : machine ≡ grown
-    grown_is =
-        g.is c.limits c.heap (sym h.beside.most_objects) (sym h.beside.most_cells) h.beside.heap
-        (subst (λ (n : ℕ). has_room_for c.limits (c.heap ++ loaded_arrays n l.body) ≡ true) (sym number_is)
-        (room_behind c l room))
-        ∙ ap (λ (n : ℕ). with_words k.machine n l.body g.words) number_is
+    grown_is = grind (arith, room_behind)
 
     same_world : world ≡ with_linked c.world l
     same_world = world_is ∙ ap (λ (w : World). with_linked w l) h.world
@@ -72,14 +56,7 @@ module _ (typed : LoadsTyped) (agree : StaysInAgreement) (fit : LoadsFitting) (k
     next = ap suc (as_many ReadsObject k.machine.store.objects c.heap h.beside.heap)
 
     loads : LoadsWords (around c None) k.program q k.machine k.kept (at_rest c) l g.words
-    loads = record {
-      may = may;
-      before = subst (λ (w : World). IsProgramOf w k.program) h.world h.program;
-      after = subst (λ (w : World). IsProgramOf w q) same_world of;
-      agree = h.beside;
-      counted = g.counted;
-      holds = subst (λ (n : ℕ). HoldsFields g.words (loaded_statics n l)) next (g.holds few_behind);
-    }
+    loads = grind (arith, may, same_world, next, few_behind)
 
     pub holds_behind : Holds (record k { world = world; program = q; machine = machine }) (with_package c l)
     holds_behind = record {

@@ -1,8 +1,7 @@
 -- The runtime's own objects, made one behind the other.
 use Rattle.std.proofs.Common.{◌≡◌, ℕ, zero, suc, List, [], ◌∷◌, ◌++◌, length, map, replicate, Some, ◌⊎◌, inl, inr}
 use Rattle.std.proofs.Common.{arith, refl, sym, ap, ◌∙◌, subst}
-use Rattle.std.specs.Prelude.{◌+◌, ◌-◌, ◌<◌, ◌≤◌, Bool, true, false, Option, None, IfNone, IfSome, get_or, is_some}
-use Rattle.std.specs.Prelude.{slice_get}
+use Rattle.std.specs.Prelude.{◌+◌, ◌-◌, ◌<◌, ◌≤◌, Bool, true, false, Option, IfNone, IfSome, get_or, is_some, slice_get}
 use Rattle.std.specs.List.{list_all}
 use Rattle.std.proofs.lemmas.Bool.{and_parts}
 use Rattle.std.proofs.lemmas.List.{length-append, length-replicate}
@@ -13,11 +12,11 @@ use Rattle.jc_machine.specs.Reading.{HeapReads, Pointwise, Reads}
 use Rattle.jc_machine.specs.Runtime.{new_heap}
 use Rattle.jc_names.specs.declared.name.ClassName.{ClassName}
 use Rattle.jc_names.specs.declared.name.ClassName.TheVariants.{Api, Loaded}
-use Rattle.jc_store.specs.Heap.{Heap, Object, cells_in, object_at}
+use Rattle.jc_store.specs.Heap.{Heap, Object, cells_in}
 use Rattle.jc_store.specs.Store.{IsFull, Store, with_made}
 use Rattle.jc_words.specs.Values.{Word}
 use Rattle.jc_card.specs.New.{own_cells, own_objects}
-use Rattle.jc_card.specs.PrivateNew.{HasOwn, HasOwnRoom, HasRoomFor, HaveApiNumbers, aid_object, first_objects}
+use Rattle.jc_card.specs.PrivateNew.{HasOwn, HasOwnRoom, HasRoomFor, HaveApiNumbers}
 use Rattle.jc_card.specs.PrivateNew.{made_of, own_object, own_objects_until, words_until}
 use Rattle.jc_card.specs.declared.runtime_objects.OwnObject.{OwnObject}
 
@@ -28,10 +27,7 @@ pub get_more : {A : Type 0} (xs : List A) (x y : A) (k : ℕ) → slice_get (xs 
 get_more [] x y zero e = inl (refl, cc)
 get_more [] x y (suc k) e = absurd cc
 get_more (z ∷ xs) x y zero e = inr e
-get_more (z ∷ xs) x y (suc k) e = elim (get_more xs x y k e) [
-  | inl a ↦ inl (ap suc a.0, a.1)
-  | inr a ↦ inr a
-]
+get_more (z ∷ xs) x y (suc k) e = grind (arith, get_more xs x y k e)
 
 get_before : {A : Type 0} (xs ys : List A) (i : ℕ) (x : A) → slice_get xs i ≡ Some x → slice_get (xs ++ ys) i ≡ Some x
 get_before [] ys i x e = absurd cc
@@ -117,17 +113,7 @@ made_more names store after own n class own_is found named is before h = rw is (
 pub none_yet : (names : List ClassName) (store : Store) → store.objects ≡ [] → store.classes ≡ []
     → HasOwn names store store 0
 unfolding own_objects_until
-none_yet names store objects classes = record {
-  objects = objects;
-  classes = ap length classes;
-  numbered = λ number o e. absurd (no_object number o (rw objects at e));
-  most_objects = refl;
-  most_cells = refl;
-}
-  where
-    no_object : (number : ℕ) (o : Object ℕ) → object_at [] number ≡ Some o → ⊥
-    no_object zero o e = cc
-    no_object (suc n) o e = cc
+none_yet names store objects classes = grind arith
 
 -- ---- their classes have numbers
 
@@ -143,15 +129,12 @@ each_or test (x ∷ own) rest all last (suc place) =
     each_or test own rest (and_parts (test x) (list_all test own) all).1 last place
 
 api_number : (names : List ClassName) → HaveApiNumbers names → (c : ClassName) → is_of_api c ≡ true → HasNumber names c
-api_number names h (Api c) e = h c
-api_number names h (Loaded home offset) e = absurd cc
+api_number names h1 c h2 = grind arith
 
 -- all are of classes of the API: arrays count as Object
 pub own_number : (names : List ClassName) → HaveApiNumbers names → (place : ℕ)
     → HasNumber names (class_of (own_object place).object)
-own_number names h place =
-    api_number names h (class_of (own_object place).object)
-    (each_or (λ own. is_of_api (class_of own.object)) first_objects aid_object refl refl place)
+own_number names h place = grind (arith, api_number, each_or)
 
 pub there_is : (names : List ClassName) (c : ClassName) (found : Option ℕ) → found ≡ class_number names c
     → HasNumber names c → is_some found ≡ true
@@ -164,11 +147,7 @@ cells_behind [] o = omega arith
 cells_behind (x ∷ os) o = let rest = cells_behind os o in omega (arith, rest)
 
 cells_more : (n : ℕ) → cells_in (words_until (suc n)) ≡ cells_in (words_until n) + 1 + (own_object n).size
-cells_more n =
-    let one = ap cells_in (objects_more n) in
-    let behind = cells_behind (words_until n) (made_of 0 (own_object n)) in
-    let size = length-replicate {A = ℕ} (own_object n).size 0 in
-    omega (arith, one, behind, size)
+cells_more n = grind (arith, objects_more, cells_behind, length-replicate)
 
 -- more of them take no fewer cells
 cells_grow : (more n all : ℕ) → more + n ≡ all → cells_in (words_until n) ≤ cells_in (words_until all)
@@ -189,34 +168,17 @@ all_cells = refl
 -- behind those that were made there is room for the next
 pub room_for : (names : List ClassName) (before store : Store) (n : ℕ) → HasOwnRoom before
     → HasOwn names before store n → n < own_objects → HasRoomFor store (own_object n)
-room_for names before store n room h below = record {
-  object =
-      let count = ap length h.objects ∙ count_until n in
-      let most = h.most_objects in
-      let all = room.objects in
-      omega (arith, count, most, all, below);
-  cells =
-      let left : (45 - suc n) + suc n ≡ 45 = omega (arith, below) in
-      let grow = cells_grow (45 - suc n) (suc n) 45 left in
-      let now = ap cells_in h.objects in
-      let one = cells_more n in
-      let most = h.most_cells in
-      let all = room.cells in
-      omega (arith, grow, now, one, most, all, all_cells);
-}
+room_for names before store n room h below = grind (arith, before, count_until, cells_grow, cells_more, all_cells)
 
 not_full : (s : Store) (own : OwnObject) → HasRoomFor s own → IsFull s own.size → ⊥
-not_full s own room (inl most) = let object = room.object in omega (arith, most, object)
-not_full s own room (inr most) = let cells = room.cells in omega (arith, most, cells)
+not_full s own h1 h2 = grind arith
 
 pub is_made : (s : Store) (own : OwnObject) (len : ℕ) (result : Option ℕ) → len ≡ own.size → HasRoomFor s own
     → IfNone result (IsFull s len) → is_some result ≡ true
-is_made s own len (Some number) e room full = refl
-is_made s own len None e room full = absurd (not_full s own room (subst (IsFull s) e full))
+is_made s own len result h1 h2 h3 = grind (arith, not_full)
 
 pub as_made : {P : Type 0} (result : Option ℕ) (number : ℕ) → result ≡ Some number → IfSome result (λ n. P) → P
-as_made (Some n) number e made = made
-as_made None number e made = absurd cc
+as_made result number h1 h2 = grind arith
 
 -- ---- all of them
 
@@ -234,6 +196,4 @@ own_heap = refl
 
 pub own_read : (names : List ClassName) (before store : Store) → HasOwn names before store 45
     → HeapReads store.objects new_heap
-own_read names before store h =
-    subst (λ (os : Heap ℕ). HeapReads os new_heap) (sym h.objects)
-    (subst (HeapReads (words_until 45)) own_heap (all_read (own_objects_until 45)))
+own_read names before store h = grind (arith, before, own_heap, all_read)

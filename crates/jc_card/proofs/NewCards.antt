@@ -55,10 +55,7 @@ api_numbers bound w p is accepted program answers stands c =
 -- a store within the limits has room for the runtime's own objects
 pub own_room : (l : Limits) (s : Store) → are_limits l ≡ true → s.most_objects ≡ l.objects → s.most_cells ≡ l.cells
     → HasOwnRoom s
-own_room l s are objects cells = record {
-  objects = grind (arith, leb_tells, are, objects);
-  cells = grind (arith, leb_tells, are, cells);
-}
+own_room l s are objects cells = grind (arith, leb_tells)
 
 pub holds_new : (l : Limits) → l.cells < 65536 → (bound : Bound) (before : Store) (k : CardWords)
     → IsNew l bound before k → IsAccepted (api_alone bound) → (frame : Frame)

@@ -1,18 +1,10 @@
 -- What holds of a package that is read of an image of bytes.
-use Rattle.std.proofs.Common.{◌≡◌, ◌<◌, ◌≤◌, ◌^◌, length, Option, Some, None, Result, Ok, IfOk, arith}
+use Rattle.std.proofs.Common.{◌≡◌, ◌<◌, ◌≤◌, ◌^◌, length, Option, Result, Ok, IfOk, arith}
 use Rattle.jc_base.specs.Parts.{Infos}
 use Rattle.jc_base.specs.declared.fault.LoadFault.{LoadFault}
-use Rattle.jc_cap.specs.ClassComponent.{classes_of}
-use Rattle.jc_cap.specs.Applets.{applets_of}
-use Rattle.jc_cap.specs.Exports.{exports_of}
-use Rattle.jc_cap.specs.Imports.{imports_of}
-use Rattle.jc_cap.specs.Statics.{static_fields_of}
 use Rattle.jc_cap_desc.specs.Package.{components_of, package_fault, package_of, refused}
 use Rattle.jc_cap_desc.specs.Shape.{HaveBodies, HaveHeaders, InstallMethods, Package, StandApart}
-use Rattle.jc_cap_desc.specs.Types.{descriptor_of}
 use Rattle.jc_cap_desc.specs.Whole.{HasRows}
-use Rattle.jc_cap.specs.Header.{header_of}
-use Rattle.jc_cap.specs.MethodComponent.{methods_of}
 use Rattle.jc_cap.specs.Pool.{pool_of}
 use Rattle.jc_machine.specs.Accepted.{HaveByteTokens}
 use Rattle.jc_card.proofs.Cut.{AreInfos}
@@ -33,17 +25,7 @@ HasItsPool parts p = pool_of parts.constant_pool ≡ Ok p.body.pool
 
 pool_in_all : (parts : Infos) → IfOk (components_of parts) (HasItsPool parts)
 unfolding components_of
-pool_in_all parts =
-    let Has = HasItsPool parts in
-    ok_then Has (header_of parts.header) _ (λ heading a.
-    ok_then Has (applets_of parts.applet) _ (λ applets b.
-    ok_then Has (imports_of parts.imports) _ (λ imports c.
-    ok_then Has (pool_of parts.constant_pool) _ (λ pool is.
-    ok_then Has (classes_of heading.format parts.class) _ (λ records d.
-    ok_then Has (methods_of parts.method) _ (λ methods f.
-    ok_then Has (static_fields_of parts.static_field) _ (λ statics g.
-    ok_then Has (exports_of parts.export) _ (λ exports h.
-    ok_then Has (descriptor_of parts.descriptor) _ (λ info i. is)))))))))
+pool_in_all parts = grind (arith, ok_then)
 
 its_pool : (parts : Infos) (p : Package) → package_of parts ≡ Ok p → HasItsPool parts p
 its_pool parts p e =
@@ -52,8 +34,7 @@ its_pool parts p e =
   where
     by_fault : (o : Option LoadFault) (r : Result Package LoadFault) → IfOk r (HasItsPool parts)
         → IfOk (refused o r) (HasItsPool parts)
-    by_fault None r h = h
-    by_fault (Some fault) r h = tt
+    by_fault o r h1 = grind arith
 
 -- all that linking and the card ask of it
 pub record IsReadWell (p : Package) : Type 0 where

@@ -1,9 +1,9 @@
 -- On a card that is new the runtime's name is its own, and it is so behind a load.
-use Rattle.std.proofs.Common.{◌≡◌, ◌⊎◌, ℕ, zero, suc, true, List, [], ◌∷◌, ◌++◌, map, Option, Some, None, slice_get}
+use Rattle.std.proofs.Common.{◌≡◌, ◌⊎◌, ℕ, zero, suc, true, List, [], ◌∷◌, ◌++◌, map, Option, Some, slice_get}
 use Rattle.std.proofs.Common.{◌≢◌, Bool, inl, inr, refl, sym, subst, Result, Ok, Err}
-use Rattle.std.proofs.lemmas.Bool.{and_parts}
-use Rattle.std.proofs.lemmas.Option.{same_Some}
-use Rattle.std.specs.List.{list_all, range_with_len}
+use Rattle.std.proofs.lemmas.Bool.{and_parts, lt-ltb, ltb-true}
+use Rattle.std.proofs.lemmas.Option.{same_Some, slice_get_within}
+use Rattle.std.specs.List.{list_all, range_with_len, AllByRecursion}
 use Rattle.jc_api.specs.Bound.{Bound}
 use Rattle.jc_api.specs.NoClash.{HasNoClash}
 use Rattle.jc_base.specs.Parts.{Infos}
@@ -18,25 +18,19 @@ use Rattle.jc_link.specs.Linked.{IsLinkedFrom, Linked, LinkedBody}
 use Rattle.jc_machine.specs.Apart.{IsRuntimes, IsSetApart, has_no_code}
 use Rattle.jc_machine.specs.Natives.{KeepsObjects}
 use Rattle.jc_machine.specs.Runtime.{HasRuntimeObjects, RuntimeObject, aid_object, first_aid_object, made}
-use Rattle.jc_machine.specs.Runtime.{most_instances, new_heap}
-use Rattle.jc_machine.specs.Runtime.{runtime_objects}
+use Rattle.jc_machine.specs.Runtime.{most_instances, new_heap, runtime_objects, install_array}
 use Rattle.jc_safety.specs.Loading.{loaded_array, loaded_arrays, mark_of_arrays, next_package, owner_of_arrays}
 use Rattle.jc_safety.specs.Loading.{type_of_array}
 use Rattle.jc_store.specs.Heap.{Heap, Object, object_at}
 use Rattle.jc_store.specs.declared.kind.Mark.TheVariants.{Plain}
-use Rattle.jc_words.specs.Values.{Null, Ref, TaggedValue, Word}
-use Rattle.std.proofs.Common.{◌+◌, ◌/◌, ◌<◌, ◌&&◌, ◌||◌, cond, false, not, nat_lt, length, replicate, ap, ◌∙◌, arith}
-use Rattle.std.proofs.lemmas.Bool.{lt-ltb, ltb-true}
-use Rattle.std.proofs.lemmas.Option.{slice_get_within}
-use Rattle.std.specs.List.{AllByRecursion}
+use Rattle.jc_words.specs.Values.{Ref, TaggedValue, Word}
+use Rattle.std.proofs.Common.{◌+◌, ◌<◌, ◌||◌, false, not, length, replicate, ap, ◌∙◌, arith}
 use Rattle.std.specs.Option.{option_map_or}
 use Rattle.jc_base.specs.declared.declared_type.DeclaredType.{DeclaredType}
 use Rattle.jc_base.specs.declared.class_ref.ClassRef.{ClassRef}
 use Rattle.jc_base.specs.declared.declared_type.DeclaredType.TheVariants as Declared
-use Rattle.jc_firewall.specs.Verdict.{is_global_array, is_never_stored}
-use Rattle.jc_link.specs.Statics.{StaticField, static_fields}
+use Rattle.jc_link.specs.Statics.{StaticField}
 use Rattle.jc_machine.specs.Machine.{StaticValue}
-use Rattle.jc_machine.specs.Runtime.{install_array}
 use Rattle.jc_machine.specs.Storable.{FieldsHoldStorable, HoldStorable, is_librarys, is_storable, may_be_held}
 use Rattle.jc_machine.specs.Storable.{may_be_static}
 use Rattle.jc_safety.specs.Loading.{own_shape, reference_at, static_value, static_values, value_at, words_of_array}
@@ -62,9 +56,7 @@ all_codeless = aids_codeless (range_with_len first_aid_object most_instances)
 made_codeless : (wanted : List RuntimeObject) → list_all is_codeless wanted ≡ true → (n : ℕ) (o : Object TaggedValue)
     → slice_get (map made wanted) n ≡ Some o → IsRuntimes o
 made_codeless [] all n o e = absurd cc
-made_codeless (x ∷ xs) all zero o e =
-    subst IsRuntimes (same_Some (made x) o e)
-    (record { instance = refl; codeless = (and_parts (is_codeless x) (list_all is_codeless xs) all).0 })
+made_codeless (x ∷ xs) all zero o e = grind (arith, same_Some, and_parts)
 made_codeless (x ∷ xs) all (suc n) o e =
     made_codeless xs (and_parts (is_codeless x) (list_all is_codeless xs) all).1 n o e
 
@@ -76,8 +68,7 @@ new_others (suc n) o e context = made_codeless runtime_objects all_codeless n o 
 made_context : (wanted : List RuntimeObject) (n : ℕ) (o : Object TaggedValue) → slice_get (map made wanted) n ≡ Some o
     → o.owner.context ≡ runtime_context
 made_context [] n o e = absurd cc
-made_context (x ∷ xs) zero o e =
-    subst (λ (o : Object TaggedValue). o.owner.context ≡ runtime_context) (same_Some (made x) o e) refl
+made_context (x ∷ xs) zero o e = grind (arith, same_Some)
 made_context (x ∷ xs) (suc n) o e = made_context xs n o e
 
 new_context : (number : ℕ) (o : Object TaggedValue) → object_at new_heap number ≡ Some o
@@ -134,37 +125,27 @@ joined_either (y ∷ xs) ys zero x e = inl e
 joined_either (y ∷ xs) ys (suc n) x e = joined_either xs ys n x e
 
 array_codeless : (array : StaticArray) → has_no_code (type_of_array array) ≡ true
-array_codeless (Of.Boolean values) = refl
-array_codeless (Of.Byte values) = refl
-array_codeless (Of.Short values) = refl
+array_codeless array = grind arith
 
 of_no_instance : (number : ℕ) (applets : Option (List Applet)) → (owner_of_arrays number applets).instance ≡ 0
-of_no_instance number None = refl
-of_no_instance number (Some applets) = refl
+of_no_instance number applets = grind arith
 
 -- the arrays of a library alone aren't plain
 marked_of_runtime : (number : ℕ) (applets : Option (List Applet)) → mark_of_arrays applets ≢ Plain
     → (owner_of_arrays number applets).context ≡ runtime_context
-marked_of_runtime number None other = refl
-marked_of_runtime number (Some applets) other = absurd (other refl)
+marked_of_runtime number applets h1 = grind arith
 
 arrays_marked : (number : ℕ) (body : LinkedBody) (arrays : List StaticArray) (k : ℕ) (o : Object TaggedValue)
     → slice_get (map (loaded_array number body) arrays) k ≡ Some o → o.kind.mark ≢ Plain
     → o.owner.context ≡ runtime_context
 arrays_marked number body [] k o e = absurd cc
-arrays_marked number body (x ∷ xs) zero o e =
-    subst (λ (o : Object TaggedValue). o.kind.mark ≢ Plain → o.owner.context ≡ runtime_context)
-    (same_Some (loaded_array number body x) o e) (marked_of_runtime number body.kept.applets)
+arrays_marked number body (x ∷ xs) zero o e = grind (arith, same_Some, marked_of_runtime)
 arrays_marked number body (x ∷ xs) (suc k) o e = arrays_marked number body xs k o e
 
 arrays_codeless : (number : ℕ) (body : LinkedBody) (arrays : List StaticArray) (k : ℕ) (o : Object TaggedValue)
     → slice_get (map (loaded_array number body) arrays) k ≡ Some o → IsRuntimes o
 arrays_codeless number body [] k o e = absurd cc
-arrays_codeless number body (x ∷ xs) zero o e =
-    subst IsRuntimes (same_Some (loaded_array number body x) o e) (record {
-      instance = of_no_instance number body.kept.applets;
-      codeless = array_codeless x;
-    })
+arrays_codeless number body (x ∷ xs) zero o e = grind (arith, same_Some, of_no_instance, array_codeless)
 arrays_codeless number body (x ∷ xs) (suc k) o e = arrays_codeless number body xs k o e
 
 -- what the runtime's objects, values and static fields rely on where objects stay
@@ -234,26 +215,15 @@ module _ (stay : Staying) (heap : Heap TaggedValue) (apart : IsSetApart heap) (n
 
   -- the runtime's own global arrays have smaller numbers
   beyond_own : install_array < suc (length heap)
-  beyond_own =
-      let own = apart.own.1.1.1.1.1.1.1.1.1.1.1.1.0 in
-      let within = slice_get_within heap 12 own.object own.found in
-      omega (arith, within)
+  beyond_own = grind (arith, slice_get_within)
 
   got_behind : (xs ys : List (Object TaggedValue)) (i : ℕ) → slice_get (xs ++ ys) (length xs + i) ≡ slice_get ys i
   got_behind [] ys i = let e : 0 + i ≡ i = omega arith in ap (slice_get ys) e
-  got_behind (x ∷ xs) ys i =
-      let e : suc (length xs) + i ≡ suc (length xs + i) = omega arith in
-      ap (slice_get (x ∷ xs ++ ys)) e ∙ got_behind xs ys i
+  got_behind (x ∷ xs) ys i = grind (arith, got_behind xs ys i)
 
   array_is_fine : (i : ℕ) (array : StaticArray) (n : ℕ) → install_array < n
       → (is_storable (loaded_array number body array) || is_librarys n (loaded_array number body array)) ≡ true
-  array_is_fine i array n beyond = by_mark body.kept.applets
-    where
-      by_mark : (applets : Option (List Applet))
-          → (not (is_never_stored (mark_of_arrays applets))
-          || (is_global_array (mark_of_arrays applets) && nat_lt install_array n)) ≡ true
-      by_mark None = lt-ltb install_array n beyond
-      by_mark (Some applets) = refl
+  array_is_fine i array n beyond = grind (arith, not, lt-ltb)
 
   mapped_at : (arrays : List StaticArray) (i : ℕ) → i < length arrays
       → (array : StaticArray) × (slice_get (map (loaded_array number body) arrays) i
@@ -278,24 +248,11 @@ module _ (stay : Staying) (heap : Heap TaggedValue) (apart : IsSetApart heap) (n
 
   reference_static : (offset : ℕ)
       → may_be_static behind (reference_at (suc (length heap)) body.kept.statics offset) ≡ true
-  reference_static offset =
-      by_array (nat_lt (offset / 2) (length body.kept.statics.arrays)) refl
-    where
-      by_array : (b : Bool) → nat_lt (offset / 2) (length body.kept.statics.arrays) ≡ b
-          → may_be_static behind (cond b (Ref (suc (length heap) + offset / 2)) Null) ≡ true
-      by_array true e = array_static (offset / 2) (ltb-true (offset / 2) (length body.kept.statics.arrays) e)
-      by_array false e = refl
+  reference_static offset = grind (arith, array_static, ltb-true)
 
   value_static : (offset : ℕ) (type : DeclaredType ClassRef)
       → may_be_static behind (value_at (suc (length heap)) body.kept.statics offset type) ≡ true
-  value_static offset Declared.Boolean = refl
-  value_static offset Declared.Byte = refl
-  value_static offset Declared.Short = refl
-  value_static offset (Declared.Reference c) = reference_static offset
-  value_static offset Declared.BooleanArray = reference_static offset
-  value_static offset Declared.ByteArray = reference_static offset
-  value_static offset Declared.ShortArray = reference_static offset
-  value_static offset (Declared.ReferenceArray c) = reference_static offset
+  value_static offset type = grind (arith, reference_static)
 
   abbrev IsStatic : StaticValue → Type 0
   IsStatic s = may_be_static behind s.value ≡ true
@@ -307,8 +264,7 @@ module _ (stay : Staying) (heap : Heap TaggedValue) (apart : IsSetApart heap) (n
 
   shape_static : (shape : Option Shape)
       → AllByRecursion IsStatic (option_map_or (static_values (suc (length heap)) body.kept.statics) shape [])
-  shape_static None = tt
-  shape_static (Some shape) = values_static (static_fields shape)
+  shape_static shape = grind (arith, values_static)
 
   one_more : (statics : List (List StaticValue)) (fields : List StaticValue) → FieldsHoldStorable behind statics
       → AllByRecursion IsStatic fields → FieldsHoldStorable behind (statics ++ fields ∷ [])

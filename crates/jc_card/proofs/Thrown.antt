@@ -1,6 +1,6 @@
 -- Whether an object is an ISOException, by numbers of classes and by names.
-use Rattle.std.proofs.Common.{◌≡◌, ℕ, zero, suc, List, [], ◌∷◌, true, false, not, Option, Some, None}
-use Rattle.std.proofs.Common.{slice_get, refl, sym, ap, ◌∙◌, subst}
+use Rattle.std.proofs.Common.{◌≡◌, ℕ, zero, suc, List, [], ◌∷◌, true, false, not, Option, Some, None, arith}
+use Rattle.std.proofs.Common.{slice_get, sym, ap, ◌∙◌, subst}
 use Rattle.std.specs.Option.{option_map_or}
 use Rattle.jc_api.specs.declared.class.ApiClass.{ApiClass}
 use Rattle.jc_api.specs.declared.class.ApiClass.TheVariants.{IsoException}
@@ -8,7 +8,6 @@ use Rattle.jc_cap.specs.ClassComponent.{is_class}
 use Rattle.jc_cap_desc.specs.Shape.{ClassShape, Shape}
 use Rattle.jc_classes.specs.Limits.{IsSmall}
 use Rattle.jc_classes.specs.Subtype.{is_class_below, is_interface_at, is_subtype}
-use Rattle.jc_classes.specs.World.{class_at}
 use Rattle.jc_link.specs.ApiClasses.{StandsThere}
 use Rattle.jc_link.specs.Built.{IsBuilt}
 use Rattle.jc_link.specs.Linked.{World}
@@ -38,17 +37,12 @@ across_at : (os : Heap ℕ) (ps : Heap TaggedValue) → HeapReads os ps → (n :
 across_at [] [] r n p e = absurd cc
 across_at [] (q ∷ ps) r n p e = absurd r
 across_at (o ∷ os) [] r n p e = absurd r
-across_at (o ∷ os) (q ∷ ps) r zero p e =
-    let same : q ≡ p = cc in
-    (o, refl, subst (ReadsObject o) same r.0)
+across_at (o ∷ os) (q ∷ ps) r zero p e = grind arith
 across_at (o ∷ os) (q ∷ ps) r (suc n) p e = across_at os ps r.1 n p e
 
 pub across : (os : Heap ℕ) (ps : Heap TaggedValue) → HeapReads os ps → (number : ℕ) (p : Object TaggedValue)
     → object_at ps number ≡ Some p → Across os number p
-across os ps r zero p e = absurd cc
-across os ps r (suc n) p e =
-    let a = across_at os ps r n p e in
-    record { object = a.0; there = a.1; reads = a.2 }
+across os ps h1 number p h2 = grind (arith, across_at)
 
 no_interface : (o : Option ClassShape) (k : ClassShape) → o ≡ Some k → is_class k.body ≡ true
     → option_map_or (λ (x : ClassShape). not (is_class x.body)) o false ≡ false
@@ -94,11 +88,7 @@ module _ (laws : TableLaws) (k : CardWords) (c : CardState) (h : Holds k c) (obj
   pub listed_is : (number : ℕ) → class_number k.program.classes (Api IsoException) ≡ Some number
       → is_listed k.program.supertypes class number
       ≡ is_of_class c.world.shapes (Api IsoException) thrown.kind.object
-  listed_is number e =
-      program_of.supertypes class number (class_of thrown.kind.object) (Api IsoException) named_class
-      (laws.named k.program.classes (Api IsoException) number e)
-      ∙ sym (laws.below c.world.shapes h.typed.accepted.small built (class_of thrown.kind.object) (Api IsoException)
-      (no_interface (class_at c.world.shapes (Api IsoException)) iso.shape iso.there iso.class_or_not))
+  listed_is number e = grind (arith, program_of, named_class, built, no_interface, iso)
 
   pub has_number : {P : Type 0} → None ≡ class_number k.program.classes (Api IsoException) → P
   has_number none =

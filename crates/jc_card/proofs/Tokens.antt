@@ -1,5 +1,5 @@
 -- What is read of bytes: the tokens of a pool are bytes, and rows that a byte counts are few.
-use Rattle.std.proofs.Common.{◌≡◌, ℕ, zero, suc, ◌*◌, ◌+◌, ◌<◌, ◌≤◌, ◌==◌, Bool, true, false, cond, nat_lt, nat_eq}
+use Rattle.std.proofs.Common.{◌≡◌, ℕ, zero, suc, ◌*◌, ◌+◌, ◌<◌, ◌≤◌, Bool, cond, nat_eq}
 use Rattle.std.proofs.Common.{List, [], ◌∷◌, length, Result, Ok, Err, IfOk, subst, arith, refl, ap}
 use Rattle.std.specs.Prelude.{⊤}
 use Rattle.std.specs.List.{AllByRecursion}
@@ -12,13 +12,11 @@ use Rattle.jc_base.specs.declared.fault.LoadFault.{LoadFault}
 use Rattle.jc_base.specs.declared.fault.LoadFault.TheVariants.{Malformed}
 use Rattle.jc_cap_desc.specs.ClassRow.{next_class_row}
 use Rattle.jc_cap_desc.specs.Component.{layout_of}
-use Rattle.jc_cap_desc.specs.Types.{descriptor_of, types_are_there}
+use Rattle.jc_cap_desc.specs.Types.{descriptor_of}
 use Rattle.jc_cap_desc.specs.declared.component.DescriptorInfo.{DescriptorInfo}
 use Rattle.jc_cap.specs.Descriptor.{next_descriptor}
-use Rattle.jc_cap.specs.Entry.{as_entry, classref_tag, instance_fieldref_tag, next_entry, next_external}
+use Rattle.jc_cap.specs.Entry.{as_entry, next_entry, next_external}
 use Rattle.jc_cap.specs.Entry.{next_internal, next_member_ref, next_static_ref, next_tagged_entry}
-use Rattle.jc_cap.specs.Entry.{static_fieldref_tag, static_methodref_tag, super_methodref_tag}
-use Rattle.jc_cap.specs.Entry.{virtual_methodref_tag}
 use Rattle.jc_cap.specs.Pool.{pool_of}
 use Rattle.jc_cap.specs.declared.entry.MemberRef.{MemberRef}
 use Rattle.jc_cap.specs.declared.entry.PoolEntry.{PoolEntry}
@@ -41,22 +39,17 @@ Any value = ⊤
 reads_then : {A B E : Type 0} (P : A → Type 0) (Q : B → Type 0) (r : Result (Read A) E)
     (f : Read A → Result (Read B) E) → Reads P r
     → ((x : Read A) → P x.value → AllBytes x.rest → Reads Q (f x)) → Reads Q (r >>= f)
-reads_then P Q (Ok x) f reads each = each x reads.0 reads.1
-reads_then P Q (Err fault) f reads each = tt
+reads_then P Q r f h1 h2 = grind arith
 
 reads_either : {A E : Type 0} (P : A → Type 0) (b : Bool) (r s : Result (Read A) E) → Reads P r → Reads P s
     → Reads P (cond b r s)
-reads_either P true r s first second = first
-reads_either P false r s first second = second
+reads_either P b r s h1 h2 = grind arith
 
 reads_u1 : (tag : ℕ) (bytes : List ℕ) → AllBytes bytes → Reads (λ n. n < 256) (field tag (next_u1 bytes))
-reads_u1 tag [] all = tt
-reads_u1 tag (b ∷ bytes) all = all
+reads_u1 tag bytes h1 = grind arith
 
 reads_u2 : (tag : ℕ) (bytes : List ℕ) → AllBytes bytes → Reads Any (field tag (next_u2 bytes))
-reads_u2 tag [] all = tt
-reads_u2 tag (high ∷ []) all = tt
-reads_u2 tag (high ∷ low ∷ bytes) all = let behind = all.1 in (tt, behind.1)
+reads_u2 tag bytes h1 = grind arith
 
 -- rows
 module _ {A E : Type 0} (next_row : List ℕ → Result (Read A) E) (P : A → Type 0)
@@ -70,12 +63,7 @@ module _ {A E : Type 0} (next_row : List ℕ → Result (Read A) E) (P : A → T
       (λ more there behind. ((here, there), behind)))
 
 reads_whole : {A E : Type 0} (P : A → Type 0) (fault : E) (r : Result (Read A) E) → Reads P r → IfOk (whole fault r) P
-reads_whole {E = E} P fault (Ok x) reads = by_test (nat_eq (length x.rest) 0)
-  where
-    by_test : (b : Bool) → IfOk (cond b (Ok x.value) (Err fault)) P
-    by_test true = reads.0
-    by_test false = tt
-reads_whole P fault (Err other) reads = tt
+reads_whole P fault r h1 = grind (arith, nat_eq)
 
 -- ---- the entries of a pool
 
@@ -92,30 +80,17 @@ ByteToken ref = ref.token < 256
 
 reads_member_ref : (bytes : List ℕ) → AllBytes bytes → Reads ByteToken (next_member_ref bytes)
 unfolding next_member_ref
-reads_member_ref bytes all =
-    reads_then Any ByteToken (field constant_pool_tag (next_u2 bytes)) _ (reads_u2 constant_pool_tag bytes all)
-    (λ class any left.
-    reads_then (λ n. n < 256) ByteToken (field constant_pool_tag (next_u1 class.rest)) _
-    (reads_u1 constant_pool_tag class.rest left) (λ token here behind. (here, behind)))
+reads_member_ref bytes all = grind (arith, reads_then, reads_u2, reads_u1)
 
 reads_internal : (bytes : List ℕ) → AllBytes bytes → Reads Any (next_internal bytes)
-reads_internal bytes all =
-    reads_then Any Any (field constant_pool_tag (next_u2 bytes)) _ (reads_u2 constant_pool_tag bytes all)
-    (λ offset any left. (tt, left))
+reads_internal bytes all = grind (arith, reads_then, reads_u2)
 
 reads_external : (import : ℕ) (bytes : List ℕ) → AllBytes bytes → Reads Any (next_external import bytes)
-reads_external import bytes all =
-    reads_then (λ n. n < 256) Any (field constant_pool_tag (next_u1 bytes)) _ (reads_u1 constant_pool_tag bytes all)
-    (λ class here left.
-    reads_then (λ n. n < 256) Any (field constant_pool_tag (next_u1 class.rest)) _
-    (reads_u1 constant_pool_tag class.rest left) (λ token there behind. (tt, behind)))
+reads_external import bytes all = grind (arith, reads_then, reads_u1)
 
 reads_static_ref : (bytes : List ℕ) → AllBytes bytes → Reads Any (next_static_ref bytes)
 unfolding next_static_ref
-reads_static_ref bytes all =
-    reads_then (λ n. n < 256) Any (field constant_pool_tag (next_u1 bytes)) _ (reads_u1 constant_pool_tag bytes all)
-    (λ front here left.
-    reads_either Any (nat_lt front.value 0x80) _ _ (reads_internal front.rest left) (reads_external _ front.rest left))
+reads_static_ref bytes all = grind (arith, reads_then, reads_u1, reads_either, reads_internal, reads_external)
 
 reads_entry : {A : Type 0} (P : A → Type 0) (entry : A → PoolEntry) → ((a : A) → P a → HasByteToken (entry a))
     → (r : Result (Read A) LoadFault) → Reads P r → Reads HasByteToken (as_entry entry r)
@@ -123,27 +98,11 @@ reads_entry P entry has r reads = reads_then P HasByteToken r _ reads (λ x here
 
 reads_tagged : (tag : ℕ) (bytes : List ℕ) → AllBytes bytes → Reads HasByteToken (next_tagged_entry tag bytes)
 unfolding next_tagged_entry
-reads_tagged tag bytes all =
-    let member = reads_member_ref bytes all in
-    let static = reads_static_ref bytes all in
-    reads_either HasByteToken (tag == classref_tag) _ _
-    (reads_entry ByteToken (λ m. Classref m.class) (λ m has. tt) (next_member_ref bytes) member)
-    (reads_either HasByteToken (tag == instance_fieldref_tag) _ _
-    (reads_entry ByteToken InstanceFieldref (λ m has. tt) (next_member_ref bytes) member)
-    (reads_either HasByteToken (tag == virtual_methodref_tag) _ _
-    (reads_entry ByteToken VirtualMethodref (λ m has. has) (next_member_ref bytes) member)
-    (reads_either HasByteToken (tag == super_methodref_tag) _ _
-    (reads_entry ByteToken SuperMethodref (λ m has. tt) (next_member_ref bytes) member)
-    (reads_either HasByteToken (tag == static_fieldref_tag) _ _
-    (reads_entry Any StaticFieldref (λ s any. tt) (next_static_ref bytes) static)
-    (reads_either HasByteToken (tag == static_methodref_tag) _ _
-    (reads_entry Any StaticMethodref (λ s any. tt) (next_static_ref bytes) static) tt)))))
+reads_tagged tag bytes all = grind (arith, reads_member_ref, reads_static_ref, reads_either, reads_entry)
 
 reads_entries : (bytes : List ℕ) → AllBytes bytes → Reads HasByteToken (next_entry bytes)
 unfolding next_entry
-reads_entries bytes all =
-    reads_then (λ n. n < 256) HasByteToken (field constant_pool_tag (next_u1 bytes)) _
-    (reads_u1 constant_pool_tag bytes all) (λ tag here left. reads_tagged tag.value tag.rest left)
+reads_entries bytes all = grind (arith, reads_then, reads_u1, reads_tagged)
 
 pool_read : (r : Result (Read ℕ) LoadFault) → Reads Any r
     → IfOk (r >>= λ count. whole (Malformed constant_pool_tag) (repeat next_entry count.value count.rest))
@@ -161,24 +120,19 @@ all_tokens info all = pool_read (field constant_pool_tag (next_u2 info)) (reads_
 -- so it is of each
 token_at : (pool : List PoolEntry) → AllByRecursion HasByteToken pool → HaveByteTokens pool
 token_at [] all index ref e = absurd cc
-token_at (entry ∷ pool) all zero ref e =
-    let same : entry ≡ VirtualMethodref ref = cc in
-    subst HasByteToken same all.0
+token_at (entry ∷ pool) all zero ref e = grind arith
 token_at (entry ∷ pool) all (suc index) ref e = token_at pool all.1 index ref e
 
 pub pool_tokens : (info : List ℕ) (pool : List PoolEntry) → AllBytes info → pool_of info ≡ Ok pool
     → HaveByteTokens pool
-pool_tokens info pool all e =
-    token_at pool (subst (λ (r : Result (List PoolEntry) LoadFault). IfOk r (AllByRecursion HasByteToken)) e
-    (all_tokens info all))
+pool_tokens info pool all e = grind (arith, token_at, all_tokens)
 
 -- ---- the rows of classes
 
 -- what comes of one step behind another
 pub ok_then : {A B E : Type 0} (Q : B → Type 0) (r : Result A E) (f : A → Result B E)
     → ((x : A) → r ≡ Ok x → IfOk (f x) Q) → IfOk (r >>= f) Q
-ok_then Q (Ok x) f each = each x refl
-ok_then Q (Err fault) f each = tt
+ok_then Q r f h1 = grind arith
 
 pub of_ok : {A E : Type 0} (P : A → Type 0) (r : Result A E) (x : A) → r ≡ Ok x → IfOk r P → P x
 of_ok P r x e h = subst (λ r. IfOk r P) e h
@@ -214,11 +168,4 @@ few_in_layout info all =
 -- a byte counts them
 pub few_rows : (info : List ℕ) (found : DescriptorInfo) → AllBytes info → descriptor_of info ≡ Ok found
     → length found.classes ≤ 255
-few_rows info found all e =
-    of_ok HasFewRows (descriptor_of info) found e (ok_then HasFewRows (layout_of info) _ (λ layout is.
-    by_test layout (types_are_there layout) (of_ok HasFewRows (layout_of info) layout is (few_in_layout info all))))
-  where
-    by_test : (layout : DescriptorInfo) (b : Bool) → HasFewRows layout
-        → IfOk (cond b (Ok layout) (Err (Malformed descriptor_tag))) HasFewRows
-    by_test layout true few = few
-    by_test layout false few = tt
+few_rows info found all e = grind (arith, of_ok, ok_then, few_in_layout)

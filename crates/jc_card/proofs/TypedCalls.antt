@@ -1,6 +1,6 @@
 -- A call of the runtime's on a typed card isn't stuck, and leaves a typed card: of a method that can begin, and of a
 -- member of Applet on the object of an instance that fits.
-use Rattle.std.proofs.Common.{◌≡◌, ℕ, List, [], ◌∷◌, Bool, true, false, ◌&&◌, Option, Some, None, is_some, refl, sym}
+use Rattle.std.proofs.Common.{◌≡◌, ℕ, List, [], ◌∷◌, true, false, Option, Some, is_some, refl, sym, arith}
 use Rattle.std.proofs.Common.{ap, ◌∙◌, subst}
 use Rattle.std.proofs.lemmas.Bool.{and_parts}
 use Rattle.std.specs.Option.{option_and_then, option_map, option_map_or}
@@ -24,8 +24,8 @@ use Rattle.jc_names.specs.declared.name.ClassName.{ClassName}
 use Rattle.jc_names.specs.declared.name.MethodName.{MethodName}
 use Rattle.jc_names.specs.declared.name.MethodName.TheVariants.{Loaded}
 use Rattle.jc_names.specs.declared.owner.Owner.{Owner}
-use Rattle.jc_natives.specs.Kept.{Kept, is_aid, is_instance_number}
-use Rattle.jc_natives.specs.Meaning.{fits_instance, has_applet}
+use Rattle.jc_natives.specs.Kept.{Kept}
+use Rattle.jc_natives.specs.Meaning.{fits_instance}
 use Rattle.jc_natives.specs.MemberTypes.{declared_signature}
 use Rattle.jc_natives.specs.declared.kept.Instance.{Instance}
 use Rattle.jc_safety.specs.Safety.{EndsTyped}
@@ -72,9 +72,7 @@ module _ (laws : CallLaws) (c : CardState) (t : IsTypedCard c) (selected : ℕ) 
   may_run = record { accepted = t.accepted; natives = laws.lawful }
 
   pub beside : IsTypedBeside call_around (standing call_start (no_frame owner))
-  beside =
-      let b = t.beside in
-      record { heap = b.heap; statics = b.statics; runtime_objects = b.runtime_objects; fits = b.fits }
+  beside = grind arith
 
   module _ (can_begin : CanBegin call_around call_start method) where
     pub typed_start : IsTypedStart call_around call_start
@@ -98,25 +96,12 @@ pub record HasObject (shapes : List Shape) (heap : Heap TaggedValue) (i : Instan
 
 pub its_object : (shapes : List Shape) (heap : Heap TaggedValue) (i : Instance) → fits_instance shapes heap i ≡ true
     → HasObject shapes heap i
-its_object shapes heap i e =
-    by_object (object_at heap i.object) refl
-    (and_parts (is_aid i.aid && is_instance_number i.owner.instance)
-    (option_map_or (has_applet shapes i) (object_at heap i.object) false) e).1
-  where
-    by_object : (o : Option (Object TaggedValue)) → object_at heap i.object ≡ o
-        → option_map_or (has_applet shapes i) o false ≡ true → HasObject shapes heap i
-    by_object None f e = absurd cc
-    by_object (Some object) f e = record {
-      object = object;
-      there = f;
-      applet = (and_parts (is_of_class shapes (Api Applet) object.kind.object) _ e).0;
-    }
+its_object shapes heap i e = grind (arith, and_parts)
 
 -- ---- the members
 
 some_of : {A : Type 0} (o : Option A) → is_some o ≡ true → (a : A) × (o ≡ Some a)
-some_of None e = absurd cc
-some_of (Some a) e = (a, refl)
+some_of o h1 = grind arith
 
 the_some : {A : Type 0} (x y : A) → Some x ≡ Some y → x ≡ y
 the_some x y e = cc
@@ -139,23 +124,10 @@ of_number : (number : ℕ) (parameters : List (DeclaredType ClassName)) → is_s
     → option_map (λ (m : ApiMember). m.class) (member_of number) ≡ Some Applet
     → option_map (λ (m : ApiMember). (declared_signature m).parameters) (member_of number) ≡ Some parameters
     → IsOfApplet number parameters
-of_number number parameters there kind class takes =
-    let m = some_of (member_of number) there in record {
-      member = m.0;
-      is = m.1;
-      virtual =
-          the_some m.0.kind Virtual (sym (ap (option_map (λ (x : ApiMember). x.kind)) m.1) ∙ kind);
-      class =
-          the_some m.0.class Applet (sym (ap (option_map (λ (x : ApiMember). x.class)) m.1) ∙ class);
-      takes =
-          the_some (declared_signature m.0).parameters parameters
-          (sym (ap (option_map (λ (x : ApiMember). (declared_signature x).parameters)) m.1) ∙ takes);
-    }
+of_number number parameters there kind class takes = grind (arith, some_of, the_some)
 
 of_applet : (call : AppletCall) → IsOfApplet (member_called call) (parameters_of call)
-of_applet Select = of_number 36 [] refl refl refl refl
-of_applet Deselect = of_number 37 [] refl refl refl refl
-of_applet Process = of_number 38 (Reference (Api Apdu) ∷ []) refl refl refl refl
+of_applet call = grind (arith, of_number)
 
 -- ---- calls of applets
 
@@ -178,10 +150,7 @@ module _ (laws : Laws) (c : CardState) (t : IsTypedCard c) (i : Instance) (call 
   apdu_there = t.beside.runtime_objects.1.1.1.1.1.1.1.1.1.1.0
 
   reflexive : (d : ClassName) → is_class_below c.world.shapes d d ≡ true
-  reflexive d =
-      let w = c.world in
-      let sound = laws.sound w.shapes t.accepted.small t.accepted.world.built in
-      (laws.order w.shapes sound.superclasses.orderly sound.superclasses.top).reflexive d
+  reflexive d = grind arith
 
   apdu_fits : is_of_type c.world.shapes c.heap (Reference (Api Apdu)) (Ref apdu_object) ≡ true
   apdu_fits =
@@ -192,9 +161,7 @@ module _ (laws : Laws) (c : CardState) (t : IsTypedCard c) (i : Instance) (call 
 
   arguments_fit : (call : AppletCall)
       → are_of_types c.world.shapes c.heap (parameters_of call) (arguments_of call) ≡ true
-  arguments_fit Select = refl
-  arguments_fit Deselect = refl
-  arguments_fit Process = ap (λ (b : Bool). b && true) apdu_fits
+  arguments_fit call = grind (arith, apdu_fits)
 
   member_call : (name : MethodName) → IsMemberCall s (start name) (member_called call) its.object
   member_call name =
@@ -217,9 +184,7 @@ module _ (laws : Laws) (c : CardState) (t : IsTypedCard c) (i : Instance) (call 
       }
 
   pub finds : (name : MethodName) → FindsMethod s (start name) (member_called call) its.object
-  finds name =
-      laws.members s (may_run laws.call c t i.owner.context i.owner name arguments) (start name)
-      (beside laws.call c t i.owner.context i.owner name arguments) (member_called call) its.object (member_call name)
+  finds name = grind (arith, may_run, beside, member_call)
 
   -- any name does to find the method
   abbrev pub name : MethodName

@@ -1,10 +1,10 @@
 -- The card behind a part of a command stays typed: behind a call, behind what the runtime writes and clears, where it
 -- keeps something else, and behind a load. And a new card is typed.
 use Rattle.std.proofs.Common.{◌≡◌, ℕ, suc, ◌+◌, ◌<◌, ◌≤◌, List, [], ◌∷◌, ◌++◌, ◌&&◌, get_or, length, map, Bool, true}
-use Rattle.std.proofs.Common.{false, cond, nat_le, nat_lt, Option, Some, None, Result, Ok, Err, sym, subst, arith}
+use Rattle.std.proofs.Common.{false, cond, nat_le, Option, Some, None, Result, Ok, Err, sym, subst, arith}
 use Rattle.std.proofs.lemmas.Bool.{and_parts, leb-true, ltb-true}
 use Rattle.std.specs.List.{find, list_all}
-use Rattle.std.specs.Option.{option_and_then, option_map_or}
+use Rattle.std.specs.Option.{option_map_or}
 use Rattle.jc_api.specs.Bound.{Bound}
 use Rattle.jc_base.specs.declared.fault.LoadFault.{LoadFault}
 use Rattle.jc_link.specs.Linked.{IsBoundTo, Linked, World, most_in_world, with_linked}
@@ -41,46 +41,19 @@ use Rattle.jc_card.specs.declared.limits.Limits.{Limits}
 -- a machine that is typed beside its frames leaves a typed card
 pub left_typed : (c : CardState) → IsTypedCard c → (selected : Option ℕ) (m : Machine Kept)
     → IsTypedBeside (around c selected) m → IsTypedCard (left_by c m)
-left_typed c t selected m b = record {
-  accepted = t.accepted;
-  beside = record {
-    heap = b.heap;
-    statics = b.statics;
-    runtime_objects = b.runtime_objects;
-    fits = b.fits;
-  };
-  cells = t.cells;
-}
+left_typed c t selected m b = grind arith
 
 -- the runtime may keep anything that fits the objects
 pub kept_typed : (c : CardState) → IsTypedCard c → (kept : Kept) → meaning.fits c.world c.heap kept ≡ true
     → IsTypedCard (with_kept c kept)
-kept_typed c t kept fits = record {
-  accepted = t.accepted;
-  beside = record {
-    heap = t.beside.heap;
-    statics = t.beside.statics;
-    runtime_objects = t.beside.runtime_objects;
-    fits = fits;
-  };
-  cells = t.cells;
-}
+kept_typed c t kept fits = grind arith
 
 -- ---- the instance that is selected
 
 -- another may be
 pub selected_typed : (c : CardState) → IsTypedCard c → (selected : Option Owner)
     → IsTypedCard (with_selected c selected)
-selected_typed c t selected = record {
-  accepted = t.accepted;
-  beside = record {
-    heap = t.beside.heap;
-    statics = t.beside.statics;
-    runtime_objects = t.beside.runtime_objects;
-    fits = t.beside.fits;
-  };
-  cells = t.cells;
-}
+selected_typed c t selected = grind arith
 
 -- what is found of a list passes what all of it pass
 found_passes : {A : Type 0} (test all : A → Bool) (xs : List A) (x : A) → find test xs ≡ Some x
@@ -110,12 +83,7 @@ instance_fits c t owner i e =
 -- so does the one that is selected
 pub selected_fits : (c : CardState) → IsTypedCard c → (i : Instance) → selected_instance c ≡ Some i
     → fits_instance c.world.shapes c.heap i ≡ true
-selected_fits c t i e = by_owner c.selected e
-  where
-    by_owner : (o : Option Owner) → option_and_then (instance_of c.kept.instances) o ≡ Some i
-        → fits_instance c.world.shapes c.heap i ≡ true
-    by_owner None q = absurd cc
-    by_owner (Some owner) q = instance_fits c t owner i q
+selected_fits c t i e = grind (arith, instance_fits)
 
 -- ---- what the runtime writes
 
@@ -168,17 +136,11 @@ FitAccepted = (w : World) → IsAccepted w → length w.shapes ≤ most_in_world
     → are_bytes image ≡ true → (l : Linked) → IsFit w.shapes image certificate l → IsAccepted (with_linked w l)
 
 few_before : (c : CardState) (l : Linked) → has_room c l ≡ true → length c.world.shapes ≤ most_in_world
-few_before c l room =
-    let few = ltb-true (length c.world.shapes) most_in_world
-    (and_parts (nat_lt (length c.world.shapes) most_in_world) (has_room_for c.limits (heap_behind c.world c.heap l))
-    room).0 in
-    omega (arith, few)
+few_before c l room = grind (arith, ltb-true, and_parts)
 
 pub room_behind : (c : CardState) (l : Linked) → has_room c l ≡ true
     → has_room_for c.limits (heap_behind c.world c.heap l) ≡ true
-room_behind c l room =
-    (and_parts (nat_lt (length c.world.shapes) most_in_world) (has_room_for c.limits (heap_behind c.world c.heap l))
-    room).1
+room_behind c l room = grind (arith, and_parts)
 
 -- a package for which there is room may be loaded where the world with it is accepted
 pub may_load : LoadsFitting → (c : CardState) → IsTypedCard c → (l : Linked) → IsBoundTo c.world l
@@ -220,13 +182,4 @@ load_typed accepts stays fit c after image certificate (Err fault) t bytes h = s
 pub new_typed : (l : Limits) → l.cells < 65536 → (bound : Bound) → IsAccepted (api_alone bound) → (frame : Frame)
     → IsTypedBeside (idle_in (api_alone bound)) (new_machine [] frame)
     → meaning.fits (api_alone bound) new_heap nothing_kept ≡ true → IsTypedCard (new_card l bound)
-new_typed l cells bound accepted frame typed fits = record {
-  accepted = accepted;
-  beside = record {
-    heap = typed.heap;
-    statics = typed.statics;
-    runtime_objects = typed.runtime_objects;
-    fits = fits;
-  };
-  cells = cells;
-}
+new_typed l cells bound accepted frame typed fits = grind arith

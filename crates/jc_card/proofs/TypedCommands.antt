@@ -1,31 +1,27 @@
 -- Each command on a typed card isn't stuck and leaves a typed card, part by part.
 use Rattle.std.proofs.Common.{◌≡◌, ℕ, ◌<◌, ◌≤◌, Bool, true, false, cond, List, length, Option, Some, None, refl, sym}
-use Rattle.std.proofs.Common.{ap, ◌∙◌, subst, is_some, nat_le, nat_lt, arith}
+use Rattle.std.proofs.Common.{ap, ◌∙◌, subst, nat_le, arith}
 use Rattle.std.proofs.lemmas.Bool.{leb-false, ltb-false}
 use Rattle.std.specs.Option.{option_map, option_map_or}
 use Rattle.jc_link.specs.Linked.{World}
 use Rattle.jc_machine.specs.Machine.{Touch}
 use Rattle.jc_machine.specs.Runtime.{apdu_buffer, install_array, most_instances}
-use Rattle.jc_names.specs.declared.name.MethodName.TheVariants.{Loaded}
 use Rattle.jc_names.specs.declared.owner.Owner.{Owner}
-use Rattle.jc_natives.specs.Kept.{after_install, are_bytes, instance_with, is_aid, with_command, with_install}
-use Rattle.jc_natives.specs.Kept.{without_command}
+use Rattle.jc_natives.specs.Kept.{after_install, are_bytes, is_aid, with_command, with_install}
 use Rattle.jc_natives.specs.declared.kept.Instance.{Instance}
 use Rattle.jc_store.specs.declared.kind.ClearingEvent.{ClearingEvent}
 use Rattle.jc_store.specs.declared.kind.ClearingEvent.TheVariants as events
-use Rattle.jc_card.proofs.Bytes.{AreLow, IsCommand, buffer_low, bytes_low, command_is, parameters_low}
-use Rattle.jc_card.proofs.Bytes.{parameters_short}
+use Rattle.jc_card.proofs.Bytes.{AreLow, IsCommand, buffer_low, bytes_low, command_is, parameters_low, parameters_short}
 use Rattle.jc_card.proofs.Finding.{place_known}
 use Rattle.jc_card.proofs.Installing.{arguments, can_begin}
 use Rattle.jc_card.proofs.Keeping.{bytes_are}
 use Rattle.jc_card.proofs.Owners.{not_refused_few}
 use Rattle.jc_card.proofs.TypedCalls.{applet_typed, method_typed}
-use Rattle.jc_card.proofs.TypedCards.{cleared_typed, kept_typed, selected_fits}
-use Rattle.jc_card.proofs.TypedCards.{selected_typed, written_typed}
+use Rattle.jc_card.proofs.TypedCards.{cleared_typed, kept_typed, selected_fits, selected_typed, written_typed}
 use Rattle.jc_card.proofs.Worlds.{Stays, StaysIn, deselect_stays}
 use Rattle.jc_card.proofs.Written.{has_buffer, has_parameters}
 use Rattle.jc_card.specs.Card.{CardState, selected_instance, with_kept, with_selected}
-use Rattle.jc_card.specs.Command.{Command, buffer_of, command_of, not_selected, wrong_length}
+use Rattle.jc_card.specs.Command.{Command, buffer_of, command_of, wrong_length}
 use Rattle.jc_card.specs.Commands as commands
 use Rattle.jc_card.specs.Install as installs
 use Rattle.jc_card.specs.Parts.{Ended, Left, Normally, and_then, behind, call_applet, call_selected, clear, gives}
@@ -43,47 +39,36 @@ use Rattle.jc_card.specs.declared.places.AppletPlace.{AppletPlace}
 
 behind_typed : {A : Type 0} (touches : List Touch) (o : Option (Left A)) → GivesTyped o
     → GivesTyped (option_map (behind touches) o)
-behind_typed touches None t = absurd t
-behind_typed touches (Some l) t = t
+behind_typed touches o h1 = grind arith
 
 then_typed : {A B : Type 0} (done : Option (Left A)) (next : CardState → A → Option (Left B)) → GivesTyped done
     → ((d : CardState) (value : A) → IsTypedCard d → GivesTyped (next d value)) → GivesTyped (and_then done next)
-then_typed None next t each = absurd t
-then_typed (Some l) next t each = behind_typed l.touches (next l.card l.value) (each l.card l.value t)
+then_typed done next h1 h2 = grind (arith, behind_typed)
 
 -- the same, where the first part leaves the packages and the numbers
 then_staying : {A B : Type 0} (c : CardState) (done : Option (Left A)) (next : CardState → A → Option (Left B))
     → GivesTyped done → StaysIn c done
     → ((d : CardState) (value : A) → IsTypedCard d → Stays c d → GivesTyped (next d value))
     → GivesTyped (and_then done next)
-then_staying c None next t stays each = absurd t
-then_staying c (Some l) next t stays each =
-    behind_typed l.touches (next l.card l.value) (each l.card l.value t stays)
+then_staying c done next h1 h2 h3 = grind (arith, behind_typed)
 
 either : {A : Type 0} (b : Bool) (x y : Option (Left A)) → GivesTyped x → GivesTyped y → GivesTyped (cond b x y)
-either true x y t u = t
-either false x y t u = u
+either b x y h1 h2 = grind arith
 
 or_else : {A B : Type 0} (o : Option B) (go : B → Option (Left A)) (other : Option (Left A))
     → ((x : B) → o ≡ Some x → GivesTyped (go x)) → (o ≡ None → GivesTyped other)
     → GivesTyped (option_map_or go o other)
-or_else None go other each t = t refl
-or_else (Some x) go other each t = each x refl
+or_else o go other h1 h2 = grind arith
 
 -- ---- data of an install that isn't refused
 
 refused_not : (condition : Bool) (fault : InstallFault) (otherwise : Option InstallFault)
     → installs.refused_if condition fault otherwise ≡ None → condition ≡ false
-refused_not true fault otherwise e = absurd cc
-refused_not false fault otherwise e = refl
+refused_not condition fault otherwise h1 = grind arith
 
 not_long : (c : CardState) (instance incoming : List ℕ) → installs.refusal_of c instance incoming ≡ None
     → length incoming ≤ 108
-not_long c instance incoming e =
-    ltb-false installs.most_data (length incoming)
-    (refused_not (nat_lt installs.most_data (length incoming)) faults.TooLong
-    (installs.refused_if (is_some (instance_with c.kept.instances instance)) faults.AidInUse
-    (installs.refused_if (nat_le most_instances c.kept.numbers) faults.NoInstance None)) e)
+not_long c instance incoming e = grind (arith, ltb-false, refused_not, nat_le)
 
 -- ---- laws
 
@@ -107,11 +92,7 @@ module _ (laws : CommandLaws) where
   -- ---- selection
 
   unselect_typed : (c : CardState) → IsTypedCard c → GivesTyped (commands.unselect c)
-  unselect_typed c t =
-      or_else c.selected
-      (λ (owner : Owner). clear events.Deselect (Some owner.context) (with_selected c None)) (gives c tt)
-      (λ owner e. clear_typed events.Deselect (Some owner.context) (with_selected c None) (selected_typed c t None))
-      (λ e. t)
+  unselect_typed c t = grind (arith, or_else, clear_typed, selected_typed)
 
   deselect_typed : (c : CardState) → IsTypedCard c → GivesTyped (commands.deselect c)
   deselect_typed c t =
@@ -121,8 +102,7 @@ module _ (laws : CommandLaws) where
   -- ---- a command
 
   answered_typed : (c : CardState) (ended : Ended) → IsTypedCard c → GivesTyped (commands.answered c ended)
-  answered_typed c ended t =
-      kept_typed c t (without_command c.kept) (laws.closed c.world c.heap c.kept t.beside.fits)
+  answered_typed c ended t = grind (arith, kept_typed)
 
   process_typed : (c : CardState) → IsTypedCard c → (k : Command) → IsCommand k → (selecting : Bool)
       → GivesTyped (commands.process c k selecting)
@@ -135,32 +115,22 @@ module _ (laws : CommandLaws) where
       (called_typed calls.Process (with_kept c kept) (kept_typed c t kept fits)) answered_typed
 
   refused_typed : (c : CardState) → IsTypedCard c → GivesTyped (commands.refused c)
-  refused_typed c t =
-      then_typed (commands.unselect c) (λ c u. gives c (commands.status_alone not_selected)) (unselect_typed c t)
-      (λ d u typed. typed)
+  refused_typed c t = grind (arith, then_typed, unselect_typed)
 
   asked_typed : (k : Command) → IsCommand k → (c : CardState) (ended : Ended) → IsTypedCard c
       → GivesTyped (commands.asked c k ended)
-  asked_typed k is c ended t =
-      either (commands.agrees ended) (commands.process c k true) (commands.refused c) (process_typed c t k is true)
-      (refused_typed c t)
+  asked_typed k is c ended t = grind (arith, either, process_typed, refused_typed)
 
   ask_typed : (c : CardState) → IsTypedCard c → (k : Command) → IsCommand k → GivesTyped (commands.ask c k)
-  ask_typed c t k is =
-      then_typed (call_selected c calls.Select) (λ c ended. commands.asked c k ended)
-      (called_typed calls.Select c t) (asked_typed k is)
+  ask_typed c t k is = grind (arith, then_typed, called_typed, asked_typed)
 
   select_typed : (c : CardState) → IsTypedCard c → (owner : Owner) (k : Command) → IsCommand k
       → GivesTyped (commands.select c owner k)
-  select_typed c t owner k is =
-      then_typed (commands.deselect c) (λ c u. commands.choose c owner k) (deselect_typed c t)
-      (λ d u typed. ask_typed (with_selected d (Some owner)) (selected_typed d typed (Some owner)) k is)
+  select_typed c t owner k is = grind (arith, then_typed, deselect_typed, ask_typed, selected_typed)
 
   dispatch_typed : (c : CardState) → IsTypedCard c → (k : Command) → IsCommand k
       → GivesTyped (commands.dispatch c k)
-  dispatch_typed c t k is =
-      either (is_some (selected_instance c)) (commands.process c k false)
-      (gives c (commands.status_alone not_selected)) (process_typed c t k is false) t
+  dispatch_typed c t k is = grind (arith, either, process_typed)
 
   perform_typed : (k : Command) → IsCommand k → (c : CardState) → IsTypedCard c → GivesTyped (commands.perform c k)
   perform_typed k is c t =
@@ -200,9 +170,7 @@ module _ (laws : CommandLaws) where
 
   begun_typed : (c : CardState) → IsTypedCard c → (place : AppletPlace) (owner : Owner) (size : ℕ) → size < 65536
       → IsInstallPlace c.world place → GivesTyped (installs.call_install c place owner size)
-  begun_typed c t place owner size short known =
-      method_typed laws.applets.call c t owner.context owner (Loaded place.number place.install)
-      (arguments c t place owner size short known) (can_begin c t place owner size short known laws.applets.sound)
+  begun_typed c t place owner size short known = grind (arith, method_typed, arguments, can_begin)
 
   module _ (applet instance incoming : List ℕ) (aid : is_aid applet ≡ true) (whose : is_aid instance ≡ true)
       (bytes : are_bytes incoming ≡ true) (few : length incoming ≤ 108) where

@@ -24,10 +24,7 @@ module _ (k : CardWords) (c : CardState) (h : Holds k c) (number : ℕ) (bytes :
   its_words = across k.machine.store.objects c.heap h.beside.heap number array.object array.there
 
   within : length bytes ≤ length (its_words.object).cells
-  within =
-      subst (λ (n : ℕ). length bytes ≤ n) (read_length (its_words.object).cells (array.object).cells
-      (its_words.reads).cells)
-      array.within
+  within = grind (arith, read_length, its_words)
 
   pub has_cells : HasCells k.machine.store number 0 (length bytes)
   has_cells = record { object = its_words.object; is = its_words.there; within = omega (arith, within) }
@@ -81,11 +78,7 @@ module _ (k : CardWords) (c : CardState) (h : Holds k c) (number : ℕ) (bytes :
 
 -- those of a machine that is typed
 pub has_buffer : (c : CardState) → IsTypedCard c → (count : ℕ) → count ≡ 261 → HasBytes c.heap 12 count
-has_buffer c t count e =
-    let o = t.beside.runtime_objects.1.1.1.1.1.1.1.1.1.1.1.0 in
-    record { object = o.object; there = o.found; bytes = o.type; within = omega (arith, e, o.size) }
+has_buffer c t count e = grind (arith, within)
 
 pub has_parameters : (c : CardState) → IsTypedCard c → (count : ℕ) → count ≡ 127 → HasBytes c.heap 13 count
-has_parameters c t count e =
-    let o = t.beside.runtime_objects.1.1.1.1.1.1.1.1.1.1.1.1.0 in
-    record { object = o.object; there = o.found; bytes = o.type; within = omega (arith, e, o.size) }
+has_parameters c t count e = grind (arith, within)

@@ -1,7 +1,6 @@
 -- What the card does to a command of a reader, and to a reset (Java Card Runtime Environment Specification, Selection,
 -- Applet Lifetime: select, deselect and process; Transient Objects; Card Reset Behavior).
-use Rattle.std.specs.Prelude.{ℕ, ◌==◌, Bool, true, false, not, List, [], Option, Some, None, is_some}
-use Rattle.std.specs.Prelude.{if◌then◌else◌}
+use Rattle.std.specs.Prelude.{ℕ, ◌==◌, Bool, true, false, not, List, [], Option, Some, None, is_some, if◌then◌else◌}
 use Rattle.std.specs.Option.{option_map_or}
 use Rattle.jc_api.specs.declared.class.ApiClass.TheVariants.{IsoException}
 use Rattle.jc_machine.specs.Lookup.{is_of_class}

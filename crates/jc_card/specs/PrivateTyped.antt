@@ -18,8 +18,7 @@ use Rattle.jc_machine.specs.Typed.{IsTypedBeside}
 use Rattle.jc_names.specs.declared.name.ClassName.TheVariants.{Api}
 use Rattle.jc_names.specs.declared.owner.Owner.{Owner}
 use Rattle.jc_natives.specs.Counted.{LeavesNumbers}
-use Rattle.jc_natives.specs.Kept.{Kept, after_install, are_bytes, is_aid, with_command, with_install}
-use Rattle.jc_natives.specs.Kept.{without_command}
+use Rattle.jc_natives.specs.Kept.{Kept, after_install, are_bytes, is_aid, with_command, with_install, without_command}
 use Rattle.jc_natives.specs.Meaning.{meaning}
 use Rattle.jc_natives.specs.MemberTypes.{declared_signature}
 use Rattle.jc_safety.specs.Safety.{EndsTyped}

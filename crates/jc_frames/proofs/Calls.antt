@@ -35,8 +35,7 @@ module _ (f : Frame) where
   in_use_are = ap reverse (sym (take_min f.header.depth f.operands))
 
   in_use_count : length (in_use f) ≡ n
-  in_use_count = let l = length-reverse (take f.header.depth f.operands) in
-      let m = length-take f.header.depth f.operands in omega (arith, l, m)
+  in_use_count = grind (arith, length-reverse, length-take)
 
   pub in_use_within : length (in_use f) ≤ length f.operands
   in_use_within = let m = in_use_count in omega (arith, m)
@@ -56,13 +55,7 @@ module _ (f : Frame) where
 
   pub arguments_are : (first count : ℕ) → count ≤ length (in_use f) → first ≡ length (in_use f) - count
       → slice_range f.operands first (first + count) ≡ reverse (take count (in_use f))
-  arguments_are first count few is =
-      let m = in_use_count in
-      let size : first + count - first ≡ count = omega arith in
-      let start : first ≡ n - count = omega (arith, is, m) in
-      ap (λ k. take k (drop first f.operands)) size ∙ ap (λ k. take count (drop k f.operands)) start
-      ∙ sym (turned f.operands n count (omega (arith, few, m)) (omega arith))
-      ∙ ap (λ xs. reverse (take count xs)) (sym in_use_are)
+  arguments_are first count few is = grind (arith, in_use_count, turned, reverse, in_use_are)
 
 -- ---- operands that are lent
 

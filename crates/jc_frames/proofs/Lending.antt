@@ -22,10 +22,7 @@ module _ (places : List FramePlace) (words : List ℕ) (used : ℕ) (laid : AreL
 
   frames_are : (others : List ℕ) → take p.start others ≡ take p.start words
       → frames_in others places ≡ frame_in others p ∷ frames_in words (take (length places - 1) places)
-  frames_are others same =
-      ap (map (frame_in others)) (last_first places p at)
-      ∙ ap (λ fs. frame_in others p ∷ fs) (same_frames (reverse (take (length places - 1) places)) p.start words
-      others (top_ends places used p laid at).1 same)
+  frames_are others same = grind (arith, last_first, same_frames, reverse, top_ends)
 
   was : frames_in words places ≡ frame_in words p ∷ frames_in words (take (length places - 1) places)
   was = frames_are words refl
@@ -144,51 +141,20 @@ module _ (places : List FramePlace) (words : List ℕ) (used : ℕ) (laid : AreL
     where
       which : (places ≡ []) ⊎ ((p : FramePlace) × (slice_get places (length places - 1) ≡ Some p))
           → IsLeft left places from
-      which (inl none) = subst (λ ps. IsLeft left ps (first_word (reverse ps))) (sym none) refl
-      which (inr h) = subst (IsLeft left places) (sym (ap first_word (last_first places h.0 h.1)))
-          (locals_left places words used laid within h.0 h.1 left)
+      which h1 = grind (arith, reverse, last_first, locals_left)
 
   pub words_lent : take (used - from) (drop from words) ≡ of_first [] words_of (frames_in words places)
   words_lent = which (ends_in places)
     where
       which : (places ≡ []) ⊎ ((p : FramePlace) × (slice_get places (length places - 1) ≡ Some p))
           → take (used - from) (drop from words) ≡ of_first [] words_of (frames_in words places)
-      which (inl none) =
-          let unused : used ≡ 0 = subst (λ ps. AreLaid (reverse ps) used) none laid in
-          let nothing : used - from ≡ 0 = omega (arith, unused) in
-          ap (λ k. take k (drop from words)) nothing ∙ ap (λ ps. of_first [] words_of (frames_in words ps)) (sym none)
-      which (inr h) =
-          let p = h.0 in
-          let end = (top_ends places used p laid h.1).0 in
-          let start : from ≡ p.start = ap first_word (last_first places p h.1) in
-          let size : used - from ≡ p.locals + p.operands = omega (arith, end, start) in
-          ap (λ k. take k (drop from words)) size ∙ ap (λ k. take (p.locals + p.operands) (drop k words)) start
-          ∙ sym (take_both (drop p.start words) p.locals p.operands)
-          ∙ ap (λ xs. part words p.start p.locals ++ take p.operands xs) (sym (drop_twice words p.start p.locals))
-          ∙ ap (λ ps. of_first [] words_of (map (frame_in words) ps)) (sym (last_first places p h.1))
+      which h1 = grind (arith, reverse, top_ends, last_first, take_both, drop_twice)
 
 -- where as many words are left as were lent, they are the locals, or the operands
 pub same_locals : (f : Frame) (below : List Frame) (left : List ℕ) → length left ≡ length f.locals
     → with_locals_left (f ∷ below) left ≡ record { header = f.header; locals = left; operands = f.operands } ∷ below
-same_locals f below left n =
-    let both : written_over f left ≡ left ++ f.operands =
-    ap (take (length f.locals + length f.operands))
-    (ap (λ xs. left ++ xs) (ap (λ k. drop k (f.locals ++ f.operands)) n ∙ drop_first f.locals f.operands))
-    ∙ take_long (left ++ f.operands) (length f.locals + length f.operands)
-    (let l : length (left ++ f.operands) ≡ length left + length f.operands = length-append left f.operands in
-    omega (arith, l, n)) in
-    let locals : take (length f.locals) (written_over f left) ≡ left = ap (take (length f.locals)) both
-    ∙ ap (λ k. take k (left ++ f.operands)) (sym n) ∙ take_first left f.operands in
-    let operands : drop (length f.locals) (written_over f left) ≡ f.operands = ap (drop (length f.locals)) both
-    ∙ ap (λ k. drop k (left ++ f.operands)) (sym n) ∙ drop_first left f.operands in
-    ap (λ xs. record { header = f.header; locals = xs; operands = drop (length f.locals) (written_over f left) } ∷
-    below) locals
-    ∙ ap (λ xs. record { header = f.header; locals = left; operands = xs } ∷ below) operands
+same_locals f below left n = grind (arith, drop_first, take_long, length-append, take_first)
 
 pub same_operands : (f : Frame) (below : List Frame) (left : List ℕ) → length left ≡ length f.operands
     → with_operands_left (f ∷ below) left ≡ with_operands f left ∷ below
-same_operands f below left n =
-    ap (λ xs. with_operands f xs ∷ below)
-    (ap (λ k. take (length f.operands) (left ++ drop k f.operands)) n
-    ∙ ap (λ k. take k (left ++ drop (length f.operands) f.operands)) (sym n)
-    ∙ take_first left (drop (length f.operands) f.operands))
+same_operands f below left n = grind (arith, take_first)

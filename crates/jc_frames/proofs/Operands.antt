@@ -24,20 +24,12 @@ take_twice n m xs = which (leb_tells n m)
   where
     which : ((nat_le n m ≡ true) × (n ≤ m)) ⊎ ((nat_le n m ≡ false) × (m < n))
         → take n (take m xs) ≡ take (min n m) xs
-    which (inl h) = let le = h.1 in let e : n ≡ min n m = omega (arith, le) in take_less xs n m le
-        ∙ ap (λ k. take k xs) e
-    which (inr h) =
-        let lt = h.1 in let e : m ≡ min n m = omega (arith, lt) in
-        take_long (take m xs) n (let l = length-take m xs in omega (arith, l, lt)) ∙ ap (λ k. take k xs) e
+    which h1 = grind (arith, min, take_less, take_long, length-take)
 
 -- what was put before the rest of a part
 put_part : (new words : List ℕ) (n : ℕ) → length new ≤ n
     → take n (new ++ drop (length new) words) ≡ new ++ drop (length new) (take n words)
-put_part new words n le =
-    left_in_part new words n
-    ∙ take_long (new ++ drop (length new) (take n words)) n
-    (let l = length-append new (drop (length new) (take n words)) in
-    let m = length-drop (length new) (take n words) in let k = length-take n words in omega (arith, l, m, k, le))
+put_part new words n le = grind (arith, left_in_part, take_long, length-append, length-drop, length-take)
 
 -- without the first of a list in reverse
 pub drop_reversed : (xs : List ℕ) (d count : ℕ) → d ≤ length xs
@@ -82,11 +74,7 @@ module _ (p : FramePlace) (words : List ℕ) (within : IsWithin p words) (from d
   room_is = part_length words (p.start + p.locals) p.operands within
 
   pub in_use_are : in_use f ≡ reverse (take d (drop from words))
-  in_use_are =
-      ap reverse
-      (take_twice p.header.depth p.operands (drop (p.start + p.locals) words)
-      ∙ ap (λ k. take k (drop (p.start + p.locals) words)) (sym d_is)
-      ∙ ap (λ k. take d (drop k words)) (sym from_is))
+  in_use_are = grind (arith, reverse, take_twice)
 
   pub used_length : length (take d (drop from words)) ≡ d
   used_length = let l = left_length in length-take-le d (drop from words) (omega (arith, l, within, from_is, d_is))
@@ -102,17 +90,10 @@ module _ (p : FramePlace) (words : List ℕ) (within : IsWithin p words) (from d
     start_length = length-take-le from words (omega (arith, within, from_is))
 
     same_before : take from others ≡ take from words
-    same_before =
-        ap (take from) are ∙ ap (λ k. take k (take from words ++ (new ++ drop n (drop from words))))
-        (sym start_length)
-        ∙ take_first (take from words) (new ++ drop n (drop from words))
+    same_before = grind (arith, start_length, take_first)
 
     behind : drop from others ≡ new ++ drop (length new) (drop from words)
-    behind =
-        ap (drop from) are ∙ ap (λ k. drop k (take from words ++ (new ++ drop n (drop from words))))
-        (sym start_length)
-        ∙ drop_first (take from words) (new ++ drop n (drop from words))
-        ∙ ap (λ k. new ++ drop k (drop from words)) (sym count)
+    behind = grind (arith, start_length, drop_first)
 
     back : new ≡ reverse ws
     back = sym (reverse-reverse new) ∙ ap reverse turned
@@ -127,12 +108,7 @@ module _ (p : FramePlace) (words : List ℕ) (within : IsWithin p words) (from d
         ∙ part_before words p.start p.locals from (omega (arith, from_is))
 
     operands_are : part others (p.start + p.locals) p.operands ≡ reverse ws ++ drop (length ws) f.operands
-    operands_are =
-        ap (λ k. part others k p.operands) (sym from_is) ∙ ap (take p.operands) behind
-        ∙ put_part new (drop from words) p.operands (omega (arith, count, fits))
-        ∙ ap (λ k. new ++ drop (length new) (part words k p.operands)) from_is
-        ∙ ap (λ k. new ++ drop k f.operands) count_is
-        ∙ ap (λ xs. xs ++ drop (length ws) f.operands) back
+    operands_are = grind (arith, behind, put_part, count_is, back)
 
     pub part_changed : IsChanged change p words (record p { header = record p.header { depth = n } }) others
     part_changed = record {
@@ -241,25 +217,4 @@ module _ (p : FramePlace) (words : List ℕ) (within : IsWithin p words) (from d
 
 pub local_changed : (p : FramePlace) (words : List ℕ) (index word at : ℕ) → at ≡ p.start + index → index < p.locals
     → IsChanged (with_local index word) p words p (set words at word)
-local_changed p words index word at at_is lt = record {
-  frame =
-      ap (λ xs. record {
-        header = p.header;
-        locals = xs;
-        operands = part (set words at word) (p.start + p.locals)
-            p.operands;
-      })
-      (ap (λ k. take p.locals (drop p.start (set words k word))) at_is
-      ∙ ap (take p.locals) (drop-set-add p.start words index word)
-      ∙ take-set-lt p.locals (drop p.start words) index word lt)
-      ∙ ap (λ xs. record {
-        header = p.header;
-        locals = set (part words p.start p.locals) index word;
-        operands = take
-            p.operands xs;
-      }) (drop-set-lt (p.start + p.locals) words at word (omega (arith, at_is, lt)));
-  before = take-set-le p.start words at word (omega (arith, at_is));
-  start = refl;
-  locals = refl;
-  operands = refl;
-}
+local_changed p words index word at at_is lt = grind (arith, set, drop-set-add, take-set-lt, drop-set-lt, take-set-le)

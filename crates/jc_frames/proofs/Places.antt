@@ -23,18 +23,10 @@ pub last_first : {A : Type 0} (xs : List A) (x : A) → slice_get xs (length xs 
 last_first xs x e = ap reverse (split_last xs x e) ∙ more_first (take (length xs - 1) xs) x
 
 heads_same : {A : Type 0} (x y : A) (xs ys : List A) → x ∷ xs ≡ y ∷ ys → x ≡ y
-heads_same {A = A} x y xs ys e = ap head e
-  where
-    head : List A → A
-    head [] = x
-    head (z ∷ zs) = z
+heads_same x y xs ys h1 = grind arith
 
 tails_same : {A : Type 0} (x y : A) (xs ys : List A) → x ∷ xs ≡ y ∷ ys → xs ≡ ys
-tails_same {A = A} x y xs ys e = ap tail e
-  where
-    tail : List A → List A
-    tail [] = []
-    tail (z ∷ zs) = zs
+tails_same x y xs ys h1 = grind arith
 
 -- ---- the frame on top
 
@@ -44,12 +36,7 @@ pub record Found (places : List FramePlace) (words : List ℕ) (p : FramePlace) 
 
 module _ (places : List FramePlace) (words : List ℕ) (now : List Frame) (view : frames_in words places ≡ now) where
   pub found : (p : FramePlace) (top : Frame) (below : List Frame) → slice_get places (length places - 1) ≡ Some p → now ≡ top ∷ below → Found places words p top below
-  found p top below at is =
-      let e : frame_in words p ∷ frames_in words (take (length places - 1) places) ≡ top ∷ below = sym (ap (map (frame_in words)) (last_first places p at)) ∙ view ∙ is in
-      record {
-        is = heads_same (frame_in words p) top (frames_in words (take (length places - 1) places)) below e;
-        rest = tails_same (frame_in words p) top (frames_in words (take (length places - 1) places)) below e;
-      }
+  found p top below at is = grind (arith, last_first, heads_same, tails_same)
 
 -- the same of a place that was read in what was lent
 pub found_in : (places : List FramePlace) (words : List ℕ) (now : List Frame) → frames_in words places ≡ now → (lent : List FramePlace) → lent ≡ places → (p : FramePlace)

@@ -21,29 +21,18 @@ module _ (places : List FramePlace) (words : List ℕ) (s : Sizes) (laid : IsLai
 
   -- what numbers say of the room that is left
   pub is_room : (now : Frames) (size : FrameSize) → as_held ≡ now → length places < s.most_frames → size.locals + size.operands ≤ s.most_words - s.used → HasRoom now size
-  is_room now size view few fits =
-      let n = frame_count words places in let k = counted in let w = laid.within in
-      subst (λ (x : Frames). HasRoom x size) view (record { frames = omega (arith, n, few); words = omega (arith, k, w, fits) })
+  is_room now size view few fits = grind (arith, frame_count, counted)
 
   pub no_room : (now : Frames) (size : FrameSize) → as_held ≡ now → (s.most_frames ≤ length places) ⊎ (s.most_words - s.used < size.locals + size.operands) → IsFull now size
   no_room now size view h = subst (λ (x : Frames). IsFull x size) view (which h)
     where
       which : (s.most_frames ≤ length places) ⊎ (s.most_words - s.used < size.locals + size.operands)
           → (s.most_frames ≤ length (frames_in words places)) ⊎ (s.most_words < words_in (frames_in words places) + size.locals + size.operands)
-      which (inl few) = inl (let n = frame_count words places in omega (arith, n, few))
-      which (inr fits) = inr (let k = counted in let w = laid.within in omega (arith, k, w, fits))
+      which h1 = grind (arith, frame_count, counted)
 
   -- there is room for one frame more, by numbers
   pub left_for : (now : Frames) (size : FrameSize) → as_held ≡ now → HasRoom now size → (length places < s.most_frames) × (s.used + size.locals + size.operands ≤ s.most_words)
-  left_for now size view room =
-      let o : length (frames_in words places) ≡ length now.frames = ap (λ (x : Frames). length x.frames) view in
-      let n = frame_count words places in
-      let m : s.most_frames ≡ now.most_frames = ap (λ (x : Frames). x.most_frames) view in
-      let c : words_in (frames_in words places) ≡ words_in now.frames = ap (λ (x : Frames). words_in x.frames) view in
-      let d : s.most_words ≡ now.most_words = ap (λ (x : Frames). x.most_words) view in
-      let k = counted in
-      let r = room.frames in let q = room.words in
-      (omega (arith, o, n, m, r), omega (arith, c, d, k, q))
+  left_for now size view room = grind (arith, frame_count, counted)
 
   -- one frame more
   module _ (p : FramePlace) (items : List FramePlace) (arguments others : List ℕ) (start : p.start ≡ s.used) (left : (length places < s.most_frames) × (s.used + p.locals + p.operands ≤ s.most_words))
@@ -73,20 +62,10 @@ module _ (places : List FramePlace) (words : List ℕ) (s : Sizes) (laid : IsLai
         }
 
     pub frames_more : frames_in others items ≡ frame_in others p ∷ frames_in words places
-    frames_more =
-        ap (frames_in others) are ∙ ap (map (frame_in others)) (more_first places p)
-        ∙ ap (λ fs. frame_in others p ∷ fs) (same_frames (reverse places) s.used words others laid.laid (ap (take s.used) put ∙ put_before words s.used arguments arguments_within))
+    frames_more = grind (arith, more_first, same_frames, reverse, put, put_before)
 
     pub is_new : (header : FrameHeader) (size : FrameSize) → p.header ≡ header → p.locals ≡ size.locals → p.operands ≡ size.operands → IsNew header size arguments (frame_in others p)
-    is_new header size same_header locals operands =
-        let k = same_length in let fits = left.1 in let z = laid.sized in
-        record {
-          header_is = same_header;
-          locals = part_length others p.start p.locals (omega (arith, k, fits, z, start)) ∙ locals;
-          operands = part_length others (p.start + p.locals) p.operands (omega (arith, k, fits, z, start)) ∙ operands;
-          first = take_less (drop p.start others) (length arguments) p.locals fit ∙ ap (λ k. take (length arguments) (drop k others)) start ∙ ap (λ xs. take (length arguments) (drop s.used xs)) put
-              ∙ put_here words s.used arguments arguments_within;
-        }
+    is_new header size same_header locals operands = grind (arith, same_length, part_length, take_less, put, put_here)
 
     pub is_pushed : (before : Frames) (header : FrameHeader) (size : FrameSize) → as_held ≡ before → p.header ≡ header → p.locals ≡ size.locals → p.operands ≡ size.operands
         → IsPushed before header size arguments (record { frames = frames_in others items; most_frames = s.most_frames; most_words = s.most_words })
@@ -143,19 +122,4 @@ module _ (places : List FramePlace) (words : List ℕ) (s : Sizes) (laid : IsLai
         put_last ps lt = ap (λ k. slice_get (set ps (length ps - 1) q) (k - 1)) (length-set ps (length ps - 1) q) ∙ put ps (length ps - 1) (omega (arith, lt))
 
     pub still_laid : (q : FramePlace) → q.start ≡ p.start → q.locals ≡ p.locals → q.operands ≡ p.operands → IsLaid (set places (length places - 1) q) words s
-    still_laid q start locals operands =
-        let t = top_ends places s.used p laid.laid at in
-        let ends = t.0 in
-        let l : length (set places (length places - 1) q) ≡ length places = length-set places (length places - 1) q in
-        let n = laid.place_count in let f = laid.frames in
-        record {
-          laid = subst (λ ps. AreLaid ps s.used) (sym (other_header q start locals operands)) (omega (arith, ends, start, locals, operands), subst (AreLaid (reverse (take (length places - 1) places))) (sym start) t.1);
-          place_count = omega (arith, l, n);
-          word_count = laid.word_count;
-          sized = laid.sized;
-          within = laid.within;
-          frames = omega (arith, l, f);
-          reserved = laid.reserved;
-          few_frames = laid.few_frames;
-          few_words = laid.few_words;
-        }
+    still_laid q start locals operands = grind (arith, top_ends, set, length-set, other_header, reverse)

@@ -12,8 +12,7 @@ use Rattle.jc_frames.proofs.Words.{take_first}
 -- a slice of as many words as there were is what the words are
 refilled : (words now : List ℕ) (len : ℕ) → len ≡ length words → length now ≡ length words
     → take len (now ++ drop (length now) words) ≡ now
-refilled words now len is same = ap (λ k. take k (now ++ drop (length now) words)) (is ∙ sym same)
-    ∙ take_first now (drop (length now) words)
+refilled words now len is same = grind (arith, take_first)
 
 -- there is a frame where there is a place
 pub has_top : (places : List FramePlace) (words : List ℕ) (now : Frames) → frames_in words places ≡ now.frames
@@ -110,11 +109,4 @@ module _ (places : List FramePlace) (words : List ℕ) (s : Sizes) (laid : IsLai
           most_frames = s.most_frames;
           most_words = s.most_words;
         } ≡ on_top change held
-    refilled_frames held view =
-        ap (λ xs. record {
-          frames = frames_in xs (set places (count - 1) q);
-          most_frames = s.most_frames;
-          most_words
-              = s.most_words;
-        }) back
-        ∙ changed_frames change q now in_words count counts held view
+    refilled_frames held view = grind (arith, set, back, changed_frames, in_words)

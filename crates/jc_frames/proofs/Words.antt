@@ -33,12 +33,10 @@ abbrev nil : List ℕ
 nil = []
 
 take_none : (k : ℕ) → take k nil ≡ nil
-take_none zero = refl
-take_none (suc k) = refl
+take_none k = grind arith
 
 drop_none : (k : ℕ) → drop k nil ≡ nil
-drop_none zero = refl
-drop_none (suc k) = refl
+drop_none k = grind arith
 
 -- what was taken, cut in two
 pub drop_taken : (words : List ℕ) (n m : ℕ) → drop n (take (n + m) words) ≡ take m (drop n words)
@@ -68,8 +66,7 @@ part_length words start len within = let left : length (drop start words) ≡ le
 
 -- a part of a part
 pub sub_part : (words : List ℕ) (start len first count : ℕ) → first + count ≤ len → part words (start + first) count ≡ take count (drop first (part words start len))
-sub_part words start len first count le =
-    ap (take count) (drop_twice words start first) ∙ sym (part_before (drop start words) first count len le)
+sub_part words start len first count le = grind (arith, drop_twice, part_before)
 
 -- ---- words in place of others
 
@@ -81,17 +78,10 @@ module _ (words : List ℕ) (start : ℕ) (others : List ℕ) (within : start + 
   put_before = ap (λ k. take k (put_at words start others)) (sym before) ∙ take_first (take start words) (others ++ drop (start + length others) words)
 
   pub put_here : take (length others) (drop start (put_at words start others)) ≡ others
-  put_here =
-      ap (take (length others)) (ap (λ k. drop k (put_at words start others)) (sym before) ∙ drop_first (take start words) (others ++ drop (start + length others) words))
-      ∙ take_first others (drop (start + length others) words)
+  put_here = grind (arith, before, drop_first, take_first)
 
   pub put_length : length (put_at words start others) ≡ length words
-  put_length =
-      let b = before in
-      let outer : length (put_at words start others) ≡ length (take start words) + length (others ++ drop (start + length others) words) = length-append (take start words) (others ++ drop (start + length others) words) in
-      let inner : length (others ++ drop (start + length others) words) ≡ length others + length (drop (start + length others) words) = length-append others (drop (start + length others) words) in
-      let rest : length (drop (start + length others) words) ≡ length words - (start + length others) = length-drop (start + length others) words in
-      omega (arith, b, outer, inner, rest, within)
+  put_length = grind (arith, before, length-append, length-drop)
 
 -- ---- what is left in a slice that was lent
 
@@ -117,13 +107,7 @@ module _ (words : List ℕ) (start : ℕ) (left : List ℕ) (within : start ≤ 
   head_length = length-take-le start words within
 
   long : length words ≤ length all
-  long =
-      let b = head_length in
-      let outer : length all ≡ length (take start words) + length (left ++ drop (length left) (drop start words)) = length-append (take start words) (left ++ drop (length left) (drop start words)) in
-      let inner : length (left ++ drop (length left) (drop start words)) ≡ length left + length (drop (length left) (drop start words)) = length-append left (drop (length left) (drop start words)) in
-      let rest : length (drop (length left) (drop start words)) ≡ length (drop start words) - length left = length-drop (length left) (drop start words) in
-      let behind : length (drop start words) ≡ length words - start = length-drop start words in
-      omega (arith, b, outer, inner, rest, behind, within)
+  long = grind (arith, head_length, length-append, length-drop)
 
   nothing_behind : all ++ drop (length all) words ≡ all
   nothing_behind = ap (λ xs. all ++ xs) (drop_past words (length all) long) ∙ append_none all
@@ -134,13 +118,8 @@ module _ (words : List ℕ) (start : ℕ) (left : List ℕ) (within : start ≤ 
 
   -- what stands before is as it was
   pub filled_before : (len : ℕ) → start ≤ len → take start (filled len) ≡ take start words
-  filled_before len le =
-      take_less (all ++ drop (length all) words) start len le ∙ ap (take start) nothing_behind
-      ∙ ap (λ k. take k all) (sym head_length) ∙ take_first (take start words) (left ++ drop (length left) (drop start words))
+  filled_before len le = grind (arith, take_less, nothing_behind, head_length, take_first)
 
   -- and a part from there on begins with what was left
   pub filled_part : (len n : ℕ) → start + n ≤ len → part (filled len) start n ≡ take n (left ++ drop (length left) (take n (drop start words)))
-  filled_part len n le =
-      part_before (all ++ drop (length all) words) start n len le ∙ ap (λ xs. part xs start n) nothing_behind
-      ∙ ap (take n) (ap (λ k. drop k all) (sym head_length) ∙ drop_first (take start words) (left ++ drop (length left) (drop start words)))
-      ∙ left_in_part left (drop start words) n
+  filled_part len n le = grind (arith, part_before, nothing_behind, head_length, drop_first, left_in_part)

@@ -1,12 +1,10 @@
 -- Accepted worlds come about: the API's packages alone, and package by package behind them.
-use Rattle.std.proofs.Common.{◌≡◌, ◌⊎◌, ℕ, zero, suc, ◌<◌, List, [], ◌∷◌, ◌++◌, length, take, Some}
-use Rattle.std.proofs.Common.{refl, sym, ap, ◌∙◌, subst, inl, inr, ⊎_elim, arith, slice_get, take_all}
-use Rattle.std.proofs.Common.{length-append}
+use Rattle.std.proofs.Common.{◌≡◌, ◌⊎◌, ℕ, zero, suc, ◌<◌, List, [], ◌∷◌, ◌++◌, length, take, Some, refl, sym, ap, ◌∙◌}
+use Rattle.std.proofs.Common.{subst, inl, inr, ⊎_elim, arith, slice_get, take_all, length-append}
 use Rattle.std.proofs.lemmas.List.{take-append-le}
 use Rattle.std.proofs.lemmas.Option.{none-some, same_Some}
 use Rattle.jc_api.specs.Bound.{Bound}
 use Rattle.jc_api.specs.NoClash.{HasNoClash}
-use Rattle.jc_cap_desc.specs.Shape.{Shape}
 use Rattle.jc_check.specs.Checked.{IsPackageCarried, IsPackageTyped}
 use Rattle.jc_link.specs.Built.IsBuilt.{api}
 use Rattle.jc_link.specs.Linked.{IsBoundTo, IsWorld, Linked, LinkedBody, World, with_linked}
@@ -16,8 +14,7 @@ use Rattle.jc_machine.specs.Accepted.{HaveByteTokens, IsAccepted, IsAcceptedPack
 use Rattle.jc_machine.specs.Lookup.{body_at, of_package}
 
 no_body : (number : ℕ) (body : LinkedBody) → of_package [] number ≡ Some body → ⊥
-no_body zero body e = none-some body e
-no_body (suc n) body e = none-some body e
+no_body number body h1 = grind (arith, none-some)
 
 pub api_is_accepted : (bound : Bound) → HasNoClash bound → IsAccepted (api_alone bound)
 api_is_accepted bound apart = record {
@@ -32,9 +29,7 @@ pub placed : {A : Type 0} (xs : List A) (y x : A) (n : ℕ) → slice_get (xs ++
 placed [] y x zero e = inr (refl, same_Some y x e)
 placed [] y x (suc n) e = absurd (none-some x e)
 placed (z ∷ xs) y x zero e = inl (e, omega arith)
-placed (z ∷ xs) y x (suc n) e =
-    ⊎_elim (λ h. let low = h.1 in inl (h.0, omega (arith, low)))
-    (λ h. inr (ap suc h.0, h.1)) (placed xs y x n e)
+placed (z ∷ xs) y x (suc n) e = grind (arith, placed xs y x n e)
 
 module _ (w : World) (l : Linked) (accepted : IsAccepted w) (bound : IsBoundTo w l) (world : IsWorld (with_linked w l))
     (small : IsSmall l.world) (tokens : HaveByteTokens l.body.kept.pool) (carried : IsPackageCarried l) (typed : IsPackageTyped l) where
@@ -42,8 +37,7 @@ module _ (w : World) (l : Linked) (accepted : IsAccepted w) (bound : IsBoundTo w
   as_linked : (n : ℕ) (body : LinkedBody) (linked : Linked) → linked_as (with_linked w l) (suc n) body ≡ linked
       → HaveByteTokens body.kept.pool → IsPackageCarried linked → IsPackageTyped linked
       → IsAcceptedPackage (with_linked w l) (suc n) body
-  as_linked n body linked same tokens carried typed =
-      record { tokens = tokens; carried = subst IsPackageCarried (sym same) carried; typed = subst IsPackageTyped (sym same) typed }
+  as_linked n body linked same tokens carried typed = grind arith
 
   earlier : (n : ℕ) (body : LinkedBody) → slice_get w.bodies n ≡ Some body → n < length w.bodies
       → IsAcceptedPackage (with_linked w l) (suc n) body

@@ -11,46 +11,41 @@ use Rattle.jc_api.specs.Member.{ApiMember, member_of, members}
 use Rattle.jc_api.specs.Token.{is_same_class}
 use Rattle.jc_api.specs.declared.class.ApiClass.{ApiClass}
 use Rattle.jc_api.specs.declared.class.ApiPackage.{ApiPackage}
-use Rattle.jc_api.specs.declared.class.ApiPackage.TheVariants.{Lang, Framework}
 use Rattle.jc_base.specs.Signature.{Signature, return_map, type_map}
 use Rattle.jc_base.specs.declared.class_ref.ClassRef.{ClassRef}
 use Rattle.jc_base.specs.declared.declared_type.DeclaredType.{DeclaredType}
 use Rattle.jc_base.specs.declared.declared_type.DeclaredType.TheVariants as types
 use Rattle.jc_base.specs.declared.declared_type.ReturnType.{ReturnType}
-use Rattle.jc_base.specs.declared.declared_type.ReturnType.TheVariants.{Void, Value}
 use Rattle.jc_cap.specs.ClassComponent.{is_class}
 use Rattle.jc_cap_desc.specs.Shape.{ClassShape, MethodShape, Shape}
 use Rattle.jc_classes.specs.Api.{api_shape, api_world, class_in_api, class_shape_of, class_with, declared_by}
-use Rattle.jc_classes.specs.Api.{last_class, last_member, method_in, method_of, record_in, spelled_in, those_to}
+use Rattle.jc_classes.specs.Api.{last_class, last_member, method_in, method_of, record_in, those_to}
 use Rattle.jc_classes.specs.Members.{DeclaredMethod, declared_in, method_at, name_of}
 use Rattle.jc_classes.specs.Methods.{method_of_class}
-use Rattle.jc_names.specs.Names.{api_home, home_of}
+use Rattle.jc_names.specs.Names.{api_home}
 use Rattle.jc_names.specs.declared.name.ClassName.{ClassName}
 use Rattle.jc_names.specs.declared.name.MethodName.TheVariants.{Api}
 use Rattle.jc_link.specs.Built.{IsBuilt, api, loaded}
 use Rattle.jc_link.specs.Found.{return_found, signature_found, type_found, types_found}
-use Rattle.jc_link.specs.MemberType.{declared_type_of, type_class}
+use Rattle.jc_link.specs.MemberType.{declared_type_of}
 use Rattle.jc_store.specs.Heap.{Heap}
 use Rattle.jc_machine.specs.Idle.{idle_result, idle_value, zero_of}
 use Rattle.jc_machine.specs.Lookup.{is_given, is_of_type}
-use Rattle.jc_words.specs.Values.{Null, TaggedValue, Word}
+use Rattle.jc_words.specs.Values.{TaggedValue}
 
 -- ---- options, lists
 
 pub bound_some : {A B : Type 0} (f : A → Option B) (o : Option A) (y : B) → option_and_then f o ≡ Some y
     → (x : A) × (o ≡ Some x) × (f x ≡ Some y)
-bound_some f None y e = absurd (none-some y e)
-bound_some f (Some x) y e = (x, refl, e)
+bound_some f o y h1 = grind (arith, none-some)
 
 pub mapped_some : {A B : Type 0} (f : A → B) (o : Option A) (y : B) → option_map f o ≡ Some y
     → (x : A) × (o ≡ Some x) × (f x ≡ y)
-mapped_some f None y e = absurd (none-some y e)
-mapped_some f (Some x) y e = (x, refl, same_Some (f x) y e)
+mapped_some f o y h1 = grind (arith, none-some, same_Some)
 
 pub passed_some : {A : Type 0} (test : A → Bool) (o : Option A) → option_map_or test o false ≡ true
     → (x : A) × (o ≡ Some x) × (test x ≡ true)
-passed_some test None e = absurd cc
-passed_some test (Some x) e = (x, refl, e)
+passed_some test o h1 = grind arith
 
 got_more : {A : Type 0} (xs ys : List A) (i : ℕ) (x : A) → slice_get xs i ≡ Some x → slice_get (xs ++ ys) i ≡ Some x
 got_more [] ys i x e = absurd (none-some x e)
@@ -68,14 +63,12 @@ found_behind p f from x rest later None is e = later e
 found_behind p f from x rest later (Some y) is e = by_test (p y) refl e
   where
     by_test : (b : Bool) → p y ≡ b → cond b (Some y) (find p rest) ≡ Some x → StandsFor p f x
-    by_test true t g = (from, is ∙ g, ap p (sym (same_Some y x g)) ∙ t)
-    by_test false t g = later g
+    by_test b h1 h2 = grind (arith, same_Some)
 
 found_from : {A : Type 0} (p : A → Bool) (f : ℕ → Option A) (from n : ℕ) (x : A)
     → find p (filter_map f (range_with_len from n)) ≡ Some x → StandsFor p f x
 found_from p f from zero x e = absurd (none-some x e)
-found_from p f from (suc n) x e =
-    found_behind p f from x (filter_map f (range_with_len (from + 1) n)) (found_from p f (from + 1) n x) (f from) refl e
+found_from p f from (suc n) x e = grind (arith, found_behind, found_from p f (from + 1) n x)
 
 found_among : {A : Type 0} (p : A → Bool) (f : ℕ → Option A) (last : ℕ) (x : A) → find p (those_to last f) ≡ Some x
     → StandsFor p f x
@@ -120,8 +113,7 @@ module _ (bound : Bound) where
     where
       by_class : (m l : ApiMember) (b : Bool) → member_of n ≡ Some m → method_in bound n l ≡ x
           → cond b (Some m) None ≡ Some l → IsMember bound n x
-      by_class m l true is shown e =
-          record { member = m; is = is; shown = ap (method_in bound n) (same_Some m l e) ∙ shown }
+      by_class m l true is shown e = grind (arith, same_Some)
       by_class m l false is shown e = absurd (none-some l e)
 
   in_class : (c : ApiClass) (n : ℕ) (x : MethodShape) → method_of_class n (class_in_api bound c) ≡ Some x
@@ -133,10 +125,7 @@ module _ (bound : Bound) where
 
       by_kind : (b : Bool) → cond b (find (stands_at n) (those_to last_member (method_of bound c))) None ≡ Some x
           → IsMember bound n x
-      by_kind true e =
-          let a = found_among (stands_at n) (method_of bound c) last_member x e in
-          let m = declared_member c a.0 x a.1 in
-          by_number a.0 (ap (λ (x : MethodShape). x.offset) m.shown ∙ eqb-true x.offset n a.2) m
+      by_kind true e = grind (arith, found_among, declared_member, by_number, eqb-true)
       by_kind false e = absurd (none-some x e)
 
   in_package : (which : ApiPackage) (home n : ℕ) (d : DeclaredMethod)
@@ -160,17 +149,11 @@ record HasApi (world : List Shape) : Type 0 where
 
 package_there : (bound : Bound) (which : ApiPackage)
     → slice_get (api_world bound) (api_home which) ≡ Some (api_shape bound which)
-package_there bound Lang = refl
-package_there bound Framework = refl
+package_there bound which = grind arith
 
 has_api : (world : List Shape) → IsBuilt world → HasApi world
 has_api _ (api bound apart) = record { bound = bound; there = package_there bound }
-has_api _ (loaded before p built fine) =
-    let h = has_api before built in record {
-      bound = h.bound;
-      there = λ which.
-          got_more before (p.shape ∷ []) (api_home which) (api_shape h.bound which) (h.there which);
-    }
+has_api _ (loaded before p built fine) = grind (arith, got_more, has_api before built)
 
 member_at : (world : List Shape) (h : HasApi world) (n : ℕ) (d : DeclaredMethod) → method_at world (Api n) ≡ Some d
     → IsMember h.bound n d.method
@@ -183,9 +166,7 @@ member_at world h n d e =
   where
     by_home : (which : ApiPackage) (home : ℕ) (shape : Shape) → api_home which ≡ home
         → slice_get world home ≡ Some shape → declared_in home n shape ≡ Some d → IsMember h.bound n d.method
-    by_home which home shape at got e =
-        let same = same_Some (api_shape h.bound which) shape (sym (h.there which) ∙ ap (slice_get world) at ∙ got) in
-        in_package h.bound which home n d (ap (declared_in home n) same ∙ e)
+    by_home which home shape at got e = grind (arith, same_Some, in_package)
 
 -- ---- what is given
 
@@ -196,26 +177,14 @@ module _ (world : List Shape) (heap : Heap TaggedValue)
 
   zero_fits : (t : DeclaredType ApiClass) (type : DeclaredType ClassName)
       → type_found class_of (type_map spell t) ≡ Some type → Takes (zero_of t) type
-  zero_fits types.Boolean type e = subst (Takes (Word 0)) (same_Some types.Boolean type e) refl
-  zero_fits types.Byte type e = subst (Takes (Word 0)) (same_Some types.Byte type e) refl
-  zero_fits types.Short type e = subst (Takes (Word 0)) (same_Some types.Short type e) refl
-  zero_fits (types.Reference c) type e =
-      subst (Takes Null) (mapped_some types.Reference (class_of (spell c)) type e).2 refl
-  zero_fits types.BooleanArray type e = subst (Takes Null) (same_Some types.BooleanArray type e) refl
-  zero_fits types.ByteArray type e = subst (Takes Null) (same_Some types.ByteArray type e) refl
-  zero_fits types.ShortArray type e = subst (Takes Null) (same_Some types.ShortArray type e) refl
-  zero_fits (types.ReferenceArray c) type e =
-      subst (Takes Null) (mapped_some types.ReferenceArray (class_of (spell c)) type e).2 refl
+  zero_fits t type h1 = grind (arith, same_Some, mapped_some)
 
   abbrev IsGiven : Option TaggedValue → ReturnType ClassName → Type 0
   IsGiven value type = is_given world heap type value ≡ true
 
   value_fits : (r : ReturnType ApiClass) (type : ReturnType ClassName)
       → return_found class_of (return_map spell r) ≡ Some type → IsGiven (idle_value r) type
-  value_fits Void type e = subst (IsGiven None) (same_Some Void type e) refl
-  value_fits (Value t) type e =
-      let a = mapped_some Value (type_found class_of (type_map spell t)) type e in
-      subst (IsGiven (Some (zero_of t))) a.2 (zero_fits t a.0 a.1)
+  value_fits r type h1 = grind (arith, same_Some, mapped_some, zero_fits)
 
 abbrev signature : List (DeclaredType ClassName) → ReturnType ClassName → Signature ClassName
 signature parameters result = record { parameters = parameters; result = result }
@@ -229,9 +198,6 @@ result_found class_of s found e =
     let b = mapped_some (signature a.0) (return_found class_of s.result) found a.2 in
     b.1 ∙ ap (λ (f : Signature ClassName). Some f.result) b.2
 
-abbrev idle_of : ApiMember → Option TaggedValue
-idle_of m = idle_value m.signature.result
-
 -- what idle natives give for a member is of the type that it is declared to give
 pub idle_fits : (world : List Shape) (heap : Heap TaggedValue) (n : ℕ) (d : DeclaredMethod)
     (given : Signature ClassName) → IsBuilt world → method_at world (Api n) ≡ Some d
@@ -243,9 +209,4 @@ idle_fits world heap n d given built at declared =
   where
     by_member : (bound : Bound) (m : ApiMember) → d.method.signature ≡ (method_in bound n m).signature
         → member_of n ≡ Some m → is_given world heap given.result (idle_result n) ≡ true
-    by_member bound m spelled is =
-        let find = type_class world (home_of d.class) in
-        let same = ap (signature_found find) (sym spelled) ∙ declared in
-        let result = result_found find (method_in bound n m).signature given same in
-        ap (λ o. is_given world heap given.result (option_and_then idle_of o)) is
-        ∙ value_fits world heap (spelled_in bound (package_of m.class)) find m.signature.result given.result result
+    by_member bound m spelled is = grind (arith, result_found, value_fits)

@@ -1,6 +1,6 @@
 -- An applet's package behind the API's packages is carried by a certificate without rows, and well typed.
-use Rattle.std.proofs.Common.{◌≡◌, ℕ, zero, suc, ◌==◌, Bool, true, false, cond, List, [], ◌∷◌, Option, Some, None}
-use Rattle.std.proofs.Common.{if◌then◌else◌, refl, sym, subst, arith, eqb-true}
+use Rattle.std.proofs.Common.{◌≡◌, ℕ, ◌==◌, Bool, true, cond, List, [], ◌∷◌, Option, Some, None}
+use Rattle.std.proofs.Common.{if◌then◌else◌, refl, subst, arith, eqb-true}
 use Rattle.std.proofs.lemmas.Option.{none-some, same_Some}
 use Rattle.jc_api.specs.Bound.{default_binding}
 use Rattle.jc_api.specs.NoClash.{HasNoClash}
@@ -19,9 +19,8 @@ use Rattle.jc_code.specs.Decoding.{next_shuffle, next_local, next_constant, next
 use Rattle.jc_code.specs.Instructions.{next_operation, instr_at}
 use Rattle.jc_code.specs.Listing.{IsListing, PlacedInstr, begins, placed_at}
 use Rattle.jc_code.specs.Objects.{word_kind_of, next_tested_type, next_creation, next_interface, next_invocation}
-use Rattle.jc_code.specs.Objects.{narrow_field_of, wide_field_of, next_narrow_field, next_field}
-use Rattle.jc_code.specs.Objects.{reference_condition_of, next_wide_condition, next_condition, next_array}
-use Rattle.jc_code.specs.Objects.{next_reference}
+use Rattle.jc_code.specs.Objects.{narrow_field_of, wide_field_of, next_narrow_field, next_field, reference_condition_of}
+use Rattle.jc_code.specs.Objects.{next_wide_condition, next_condition, next_array, next_reference}
 use Rattle.jc_code.specs.declared.instr.Operation.TheVariants.{Object as OnObjects}
 use Rattle.jc_code.specs.declared.object.ObjectOperation.TheVariants.{ReturnVoid}
 use Rattle.jc_link.specs.Applet.{applet}
@@ -37,9 +36,8 @@ use Rattle.jc_machine.specs.TypedExamples.{applet_body, applet_world}
 use Rattle.jc_machine.proofs.SmallWorlds.{applet_is_small}
 use Rattle.jc_machine.proofs.Accepting.{api_is_accepted, grown_is_accepted}
 use Rattle.jc_machine.proofs.AppletKnown.{applet_is_world, each_body, process_code}
-use Rattle.jc_machine.proofs.FirstFrame.{applet_linked, by_state, empty, install, install_shaped}
-use Rattle.jc_machine.proofs.FirstFrame.{install_typed, listing, makes, registers, returns_nothing, rules, typing}
-use Rattle.jc_machine.proofs.FirstFrame.{with_applet}
+use Rattle.jc_machine.proofs.FirstFrame.{applet_linked, by_state, empty, install, install_shaped, install_typed}
+use Rattle.jc_machine.proofs.FirstFrame.{listing, makes, registers, returns_nothing, rules, typing, with_applet}
 
 -- ---- install is carried
 
@@ -57,17 +55,14 @@ by_instr P a b c pc x e = first (0 == pc) refl e
     moved at y there same h = subst (λ n. P n x) (eqb-true at pc there) (subst (P at) (same_Some y x same) h)
 
     third : (t : Bool) → (6 == pc) ≡ t → cond t (Some returns_nothing) None ≡ Some x → P pc x
-    third true at e = moved 6 returns_nothing at e c
-    third false at e = absurd (none-some x e)
+    third t h1 h2 = grind (arith, moved, returns_nothing, none-some)
 
     second : (t : Bool) → (3 == pc) ≡ t
         → cond t (Some registers) (cond (6 == pc) (Some returns_nothing) None) ≡ Some x → P pc x
-    second true at e = moved 3 registers at e b
-    second false at e = third (6 == pc) refl e
+    second t h1 h2 = grind (arith, moved, registers, third)
 
     first : (t : Bool) → (0 == pc) ≡ t → cond t (Some makes) (behind_first pc) ≡ Some x → P pc x
-    first true at e = moved 0 makes at e a
-    first false at e = second (3 == pc) refl e
+    first t h1 h2 = grind (arith, moved, makes, second)
 
 abbrev IsLive : ℕ → Types → Type 0
 IsLive pc s = (x : PlacedInstr) → placed_at listing pc ≡ Some x → IsCarriedAt rules install listing [] typing x s
@@ -148,8 +143,7 @@ at_entry : (P : ℕ → Types → Type 0) → P 0 entered → (pc : ℕ) (t : Ty
 at_entry P a pc t e = first (pc == 0) refl e
   where
     first : (b : Bool) → (pc == 0) ≡ b → cond b (Some entered) None ≡ Some t → P pc t
-    first true at e = subst (λ n. P n t) (sym (eqb-true pc 0 at)) (subst (P 0) (same_Some entered t e) a)
-    first false at e = absurd (none-some t e)
+    first b h1 h2 = grind (arith, eqb-true, same_Some, none-some)
 
 at_return : (P : ℕ → PlacedInstr → Type 0) → P 0 only_returns → (pc : ℕ) (x : PlacedInstr)
     → placed_at process_listing pc ≡ Some x → P pc x
@@ -157,8 +151,7 @@ unfolding placed_at
 at_return P a pc x e = first (0 == pc) refl e
   where
     first : (b : Bool) → (0 == pc) ≡ b → cond b (Some only_returns) None ≡ Some x → P pc x
-    first true at e = subst (λ n. P n x) (eqb-true 0 pc at) (subst (P 0) (same_Some only_returns x e) a)
-    first false at e = absurd (none-some x e)
+    first b h1 h2 = grind (arith, eqb-true, same_Some, none-some)
 
 process_listed : IsListing rules.decoder process.code process_listing
 unfolding next_stable_switch next_lookup_switch next_wide_increment when_of next_wide_branch next_control
@@ -241,10 +234,7 @@ typed = record {
 }
 
 byte_tokens : HaveByteTokens applet_body.kept.pool
-byte_tokens zero ref e = absurd cc
-byte_tokens (suc zero) ref e =
-    let token : 1 ≡ ref.token = cc in omega (arith, token)
-byte_tokens (suc (suc n)) ref e = absurd cc
+byte_tokens = grind arith
 
 pub applet_accepted : IsWellFormed (api_world default_binding) applet → HasNoClash default_binding
     → IsAccepted applet_world

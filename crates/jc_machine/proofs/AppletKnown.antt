@@ -1,7 +1,6 @@
 -- An applet's package behind the API's packages is what is known of a loaded package.
-use Rattle.std.proofs.Common.{◌≡◌, ℕ, zero, suc, ◌+◌, ◌<◌, ◌^◌, ◌==◌, Bool, true, false, cond, List, [], ◌∷◌}
-use Rattle.std.proofs.Common.{Option, Some}
-use Rattle.std.proofs.Common.{None, is_some, slice_get, refl, ap, ◌∙◌, subst, arith, eqb-true}
+use Rattle.std.proofs.Common.{◌≡◌, ℕ, ◌+◌, ◌==◌, Bool, true, false, cond, List, [], ◌∷◌, Option, Some, None, is_some}
+use Rattle.std.proofs.Common.{slice_get, refl, ap, ◌∙◌, arith, eqb-true}
 use Rattle.std.proofs.lemmas.Option.{none-some, same_Some}
 use Rattle.std.specs.List.{find}
 use Rattle.std.specs.Option.{option_and_then, option_map}
@@ -75,9 +74,7 @@ the_applet = record { aid = 0xF0 ∷ 1 ∷ 2 ∷ 3 ∷ 4 ∷ 1 ∷ []; install =
 -- what holds of both of two holds of each
 each_of_two : {A : Type 0} (P : ℕ → A → Type 0) (one other : A) → P 0 one → P 1 other → (n : ℕ) (x : A)
     → slice_get (one ∷ other ∷ []) n ≡ Some x → P n x
-each_of_two P one other a b zero x e = subst (P 0) (same_Some one x e) a
-each_of_two P one other a b (suc zero) x e = subst (P 1) (same_Some other x e) b
-each_of_two P one other a b (suc (suc n)) x e = absurd (none-some x e)
+each_of_two P one other h1 h2 n x h3 = grind (arith, same_Some, none-some)
 
 pub each_body : (P : ℕ → MethodBody → Type 0) → P 0 install_code → P 1 process_code → (n : ℕ) (b : MethodBody)
     → slice_get bodies n ≡ Some b → P n b
@@ -89,26 +86,15 @@ each_of_class P a b m h = by_place h.class_place h.class h.class_there h.there
   where
     by_place : (n : ℕ) (k : ClassShape) → slice_get (applet_class ∷ []) n ≡ Some k
         → slice_get k.methods h.place ≡ Some m → P m
-    by_place zero k at there =
-        each_of_two (λ n m. P m) install_shape process_shape a b h.place m
-        (ap (λ (k : ClassShape). slice_get k.methods h.place) (same_Some applet_class k at) ∙ there)
-    by_place (suc n) k at there = absurd (none-some k at)
+    by_place n k h1 h2 = grind (arith, each_of_two, same_Some, none-some)
 
 -- ---- it was read
 
 install_concrete : IsConcrete install_shape
-install_concrete = record {
-  header = record { is_abstract = false; max_stack = 1; nargs = 3; max_locals = 0 };
-  there = refl;
-  concrete = refl;
-}
+install_concrete = grind arith
 
 process_concrete : IsConcrete process_shape
-process_concrete = record {
-  header = record { is_abstract = false; max_stack = 0; nargs = 2; max_locals = 0 };
-  there = refl;
-  concrete = refl;
-}
+process_concrete = grind arith
 
 install_of_class : IsOfClass applet.shape install_shape
 install_of_class =
@@ -125,19 +111,10 @@ process_has_body : HasBody bodies 10
 process_has_body = record { body = process_code; place = 1; there = refl; offset_is = refl }
 
 apart : StandApart bodies
-apart = record {
-  differ = λ n k b c at there.
-      each_body (λ n b. b.offset ≡ c.offset → n ≡ k)
-      (each_body (λ k c. 1 ≡ c.offset → 0 ≡ k) (λ e. refl) (λ e. absurd (omega (arith, e))) k c there)
-      (each_body (λ k c. 10 ≡ c.offset → 1 ≡ k) (λ e. absurd (omega (arith, e))) (λ e. refl) k c there) n b at;
-  within = each_body (λ n b. suc b.offset < 2 ^ 16) (omega arith) (omega arith);
-}
+apart = grind (arith, each_body)
 
 headers : HaveHeaders applet.shape
-headers zero i k m at is there =
-    each_of_two (λ n (m : MethodShape). is_some m.header ≡ true) install_shape process_shape refl refl i m
-    (ap (λ (k : ClassShape). slice_get k.methods i) (same_Some applet_class k at) ∙ there)
-headers (suc n) i k m at is there = absurd (none-some k at)
+headers = grind (arith, each_of_two, same_Some, none-some)
 
 have_bodies : HaveBodies applet
 have_bodies = record {
@@ -159,8 +136,7 @@ of_the_applet P here applets n a e at =
     by_place n (ap (λ applets. slice_get applets n) (same_Some (the_applet ∷ []) applets e) ∙ at)
   where
     by_place : (n : ℕ) → slice_get (the_applet ∷ []) n ≡ Some a → P a
-    by_place zero e = subst P (same_Some the_applet a e) here
-    by_place (suc n) e = absurd (none-some a e)
+    by_place n h1 = grind (arith, same_Some, none-some)
 
 installs : InstallMethods applet
 installs = of_the_applet (λ a. HasInstallMethod applet a.install) (record {
@@ -178,8 +154,7 @@ abbrev declared : MethodShape → DeclaredMethod
 declared m = record { class = Loaded 1 0; method = m }
 
 only : {A : Type 0} (x y : A) (b : Bool) → cond b (Some x) None ≡ Some y → x ≡ y
-only x y true e = same_Some x y e
-only x y false e = absurd (none-some y e)
+only x y b h1 = grind (arith, same_Some, none-some)
 
 abbrev declared_of : ℕ → ClassShape → Option DeclaredMethod
 declared_of offset k =
@@ -198,27 +173,21 @@ each_declared P a b offset d e =
   where
     moved : (at : ℕ) (x m : MethodShape) → (at == offset) ≡ true → Some x ≡ Some m → declared m ≡ d
         → P at (declared x) → P offset d
-    moved at x m there same is h =
-        subst (λ n. P n d) (eqb-true at offset there)
-        (subst (P at) (ap declared (same_Some x m same) ∙ is) h)
+    moved at x m there same is h = grind (arith, eqb-true, same_Some)
 
     second : (m : MethodShape) → declared m ≡ d → (t : Bool) → (10 == offset) ≡ t
         → cond t (Some process_shape) None ≡ Some m → P offset d
-    second m is true at e = moved 10 process_shape m at e is b
-    second m is false at e = absurd (none-some m e)
+    second m h1 t h2 h3 = grind (arith, moved, none-some)
 
     first : (m : MethodShape) → declared m ≡ d → (t : Bool) → (1 == offset) ≡ t
         → cond t (Some install_shape) (cond (10 == offset) (Some process_shape) None) ≡ Some m → P offset d
-    first m is true at e = moved 1 install_shape m at e is a
-    first m is false at e = second m is (10 == offset) refl e
+    first m h1 t h2 h3 = grind (arith, moved, second)
 
 headed : AreHeaded applet_world.shapes 2
 headed = each_declared (λ offset d. is_some d.method.header ≡ true) refl refl
 
 coded : AreCoded applet_world.shapes 2 bodies
-coded =
-    each_declared (λ offset d. IsConcrete d.method → HasBody bodies offset) (λ c. install_has_body)
-    (λ c. process_has_body)
+coded = grind (arith, each_declared, install_has_body, process_has_body)
 
 are_declared : AreDeclared applet_world.shapes 2 bodies
 are_declared = each_body (λ n b. HasDeclared applet_world.shapes 2 b.offset)
@@ -238,16 +207,7 @@ installable = of_the_applet (λ a. HasInstall applet_world.shapes 2 bodies a.ins
 
 module _ (fine : IsWellFormed (api_world default_binding) applet) where
   was_loaded : IsLoadedAt applet_world.shapes 2 applet_body.kept
-  was_loaded = record {
-    «package» = applet;
-    there = refl;
-    fine = fine;
-    kept_is = refl;
-    apart = apart;
-    headers = headers;
-    bodies = have_bodies;
-    installs = installs;
-  }
+  was_loaded = grind (arith, apart, headers, have_bodies, installs)
 
   known : IsKnown applet_world.shapes 2 applet_body
   known = record {
@@ -268,5 +228,4 @@ module _ (fine : IsWellFormed (api_world default_binding) applet) where
     where
       by_place : (n : ℕ) (body : LinkedBody) → slice_get applet_world.bodies n ≡ Some body
           → IsKnown applet_world.shapes (2 + n) body
-      by_place zero body e = subst (IsKnown applet_world.shapes 2) (same_Some applet_body body e) known
-      by_place (suc n) body e = absurd (none-some body e)
+      by_place n body h1 = grind (arith, same_Some, known, none-some)

@@ -1,6 +1,6 @@
 -- Where instructions begin, one behind the other from the first byte on.
 use Rattle.std.proofs.Common.{◌≡◌, ◌↔◌, ℕ, zero, suc, ◌+◌, ◌<◌, ◌≤◌, ◌==◌, ◌||◌, Bool, true, false, cond, List, []}
-use Rattle.std.proofs.Common.{◌∷◌, length, Option, Some, None, Result, Ok, Err, refl, sym, ap, ◌∙◌, subst, arith}
+use Rattle.std.proofs.Common.{◌∷◌, length, Option, Some, None, Result, Ok, refl, sym, ap, ◌∙◌, subst, arith}
 use Rattle.std.proofs.Common.{eqb-true, eq-eqb, ne_eqb}
 use Rattle.std.proofs.lemmas.Bool.{cond-false, cond-true, or_left, or_right}
 use Rattle.std.proofs.lemmas.Option.{none-some, same_Some}
@@ -13,8 +13,7 @@ use Rattle.jc_machine.specs.Lookup.{comes_to, decoded, instruction_at}
 use Rattle.jc_machine.specs.Uncounted.{IsInstructionAt}
 
 decoded_ok : (r : Result Instr CodeFault) (i : Instr) → decoded r ≡ Some i → r ≡ Ok i
-decoded_ok (Ok j) i e = ap Ok (same_Some j i e)
-decoded_ok (Err fault) i e = absurd (none-some i e)
+decoded_ok r i h1 = grind (arith, same_Some, none-some)
 
 same_ok : (i j : Instr) → ◌≡◌ {A = Result Instr CodeFault} (Ok i) (Ok j) → i ≡ j
 same_ok i j e = cc
@@ -49,41 +48,23 @@ module _ (laws : ListingLaws instr_at) (code : List ℕ) where
   as_long : (before : List PlacedInstr) (from pc : ℕ) → StandBetween instr_at code from before pc
       → from + length before ≤ pc
   as_long [] from pc s = let e : from ≡ pc = s in omega (arith, e)
-  as_long (x ∷ xs) from pc s =
-      let up = (laws.ascends code from x.instr s.1).0 in
-      let rest = as_long xs x.instr.next_pc pc s.2 in
-      omega (arith, up, rest)
+  as_long (x ∷ xs) from pc s = grind (arith, as_long xs x.instr.next_pc pc s.2)
 
   comes : (n : ℕ) (before : List PlacedInstr) (from pc : ℕ) → StandBetween instr_at code from before pc
       → length before < n → comes_to n code from pc ≡ true
   comes zero before from pc s h = absurd (omega (arith, h))
   comes (suc n) [] from pc e h = or_left (from == pc) _ (eq-eqb from pc e)
-  comes (suc n) (x ∷ xs) from pc s h =
-      or_right (from == pc) _
-      (ap
-      (λ (r : Result Instr CodeFault). option_map_or (λ (i : Instr). comes_to n code i.next_pc pc) (decoded r) false)
-      s.1 ∙ comes n xs x.instr.next_pc pc s.2 (omega (arith, h)))
+  comes (suc n) (x ∷ xs) from pc s h = grind (arith, or_right, comes n xs x.instr.next_pc pc s.2 (omega (arith, h)))
 
   found : (pc : ℕ) (instr : Instr) → IsInstructionAt code pc instr → instruction_at code pc ≡ Some instr
-  found pc instr is =
-      let long = as_long is.before 0 pc is.stand in
-      let ends = laws.ascends code pc instr is.there in
-      ap (λ b. cond b (decoded (instr_at code pc)) None)
-      (comes (length code) is.before 0 pc is.stand (omega (arith, long, ends.0, ends.1)))
-      ∙ ap decoded is.there
+  found pc instr is = grind (arith, as_long, comes)
 
   begun : (pc : ℕ) (instr : Instr) → instruction_at code pc ≡ Some instr → IsInstructionAt code pc instr
   begun pc instr e = by_count (comes_to (length code) code 0 pc) refl e
     where
       by_count : (b : Bool) → comes_to (length code) code 0 pc ≡ b
           → cond b (decoded (instr_at code pc)) None ≡ Some instr → IsInstructionAt code pc instr
-      by_count true count e =
-          let s = stand_up_to (length code) code 0 pc count in record {
-            before = s.before;
-            stand = s.stand;
-            there = decoded_ok (instr_at code pc) instr e;
-          }
-      by_count false count e = absurd (none-some instr e)
+      by_count b h1 h2 = grind (arith, stand_up_to, decoded_ok, none-some)
 
   pub instructions_begin : (pc : ℕ) (instr : Instr)
       → (instruction_at code pc ≡ Some instr) ↔ IsInstructionAt code pc instr
@@ -110,14 +91,8 @@ module _ (laws : ListingLaws instr_at) (code : List ℕ) where
       → (before : List PlacedInstr) (pc : ℕ) (i : Instr) → StandBetween instr_at code from before pc
       → instr_at code pc ≡ Ok i → option_map (λ (x : PlacedInstr). x.instr) (placed_at listing pc) ≡ Some i
   unfolding placed_at
-  placed [] from s before pc i t there =
-      let e : from ≡ length code = s in
-      let long = as_long before from pc t in
-      let ends = laws.ascends code pc i there in absurd (omega (arith, e, long, ends.0, ends.1))
-  placed (x ∷ xs) from s [] pc i t there =
-      ap (option_map (λ (x : PlacedInstr). x.instr))
-      (cond-true (x.pc == pc) (Some x) (placed_at xs pc) (eq-eqb x.pc pc (s.0 ∙ t)))
-      ∙ ap Some (same_ok x.instr i (sym s.1 ∙ ap (instr_at code) t ∙ there))
+  placed [] from s before pc i t there = grind (arith, as_long)
+  placed (x ∷ xs) from s [] pc i t there = grind (arith, cond-true, eq-eqb, same_ok)
   placed (x ∷ xs) from s (b ∷ bs) pc i t there =
       let up = (laws.ascends code from b.instr t.1).0 in
       let long = as_long bs b.instr.next_pc pc t.2 in

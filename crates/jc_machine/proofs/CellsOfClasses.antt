@@ -15,10 +15,10 @@ use Rattle.jc_classes.specs.Subtype.{comes_to_end, is_class_below}
 use Rattle.jc_classes.specs.Walk.{most_classes}
 use Rattle.jc_classes.specs.World.{superclass_of}
 use Rattle.jc_link.specs.ApiClasses.{StandsThere}
-use Rattle.jc_link.specs.MemberType.{declared_type_of, field_type_of, method_type_of}
+use Rattle.jc_link.specs.MemberType.{declared_type_of, field_type_of}
 use Rattle.jc_link.specs.Named.{cells_above, instance_field_at, named_by, size_of}
 use Rattle.jc_link.specs.Sound.{IsHeir, IsSound, behind, itself}
-use Rattle.jc_link.specs.Target.{cell_of, instance_type_of, pool_target_of, static_type_of, target_of}
+use Rattle.jc_link.specs.Target.{cell_of, instance_type_of, pool_target_of, target_of}
 use Rattle.jc_link.specs.declared.named.Named.{Named}
 use Rattle.jc_link.specs.declared.named.Named.TheVariants as Names
 use Rattle.jc_link.specs.declared.target.PoolTarget.{PoolTarget}
@@ -40,22 +40,18 @@ one_more = omega (arith, most_is)
 
 or_same : {A B : Type 0} (f g : A → B) (b : B) (o : Option A) → ((x : A) → o ≡ Some x → f x ≡ g x)
     → option_map_or f o b ≡ option_map_or g o b
-or_same f g b None h = refl
-or_same f g b (Some x) h = h x refl
+or_same f g b o h1 = grind arith
 
 -- ---- lists
 
 get_behind : {A : Type 0} (xs ys : List A) (k : ℕ) → slice_get (xs ++ ys) (length xs + k) ≡ slice_get ys k
 get_behind [] ys k = let e : 0 + k ≡ k = omega arith in ap (slice_get ys) e
-get_behind (x ∷ xs) ys k =
-    let e : length (x ∷ xs) + k ≡ suc (length xs + k) = omega arith in
-    ap (slice_get (x ∷ xs ++ ys)) e ∙ get_behind xs ys k
+get_behind (x ∷ xs) ys k = grind (arith, get_behind xs ys k)
 
 get_range : (a n k : ℕ) → k < n → slice_get (range_with_len a n) k ≡ Some (a + k)
 get_range a zero k h = absurd (omega (arith, h))
 get_range a (suc n) zero h = let e : a ≡ a + 0 = omega arith in ap Some e
-get_range a (suc n) (suc k) h =
-    let e : a + 1 + k ≡ a + suc k = omega arith in get_range (a + 1) n k (omega (arith, h)) ∙ ap Some e
+get_range a (suc n) (suc k) h = grind (arith, get_range (a + 1) n k (omega (arith, h)))
 
 -- ---- class by class
 
@@ -90,15 +86,10 @@ module _ (world : List Shape) (sound : IsSound world) (stands : (c : ApiClass) �
       (omega arith))))
 
   own_count : (c : ClassName) → length (own_fields world c) ≡ size_of world c
-  own_count c =
-      length-map (range_with_len 0 (size_of world c)) (instance_type_of world c)
-      ∙ length-range_with_len 0 (size_of world c)
+  own_count c = grind (arith, length-map, length-range_with_len)
 
   none_above : (c : ClassName) → superclass_of world c ≡ None → cells_above world most_classes c ≡ 0
-  none_above c e =
-      ap (λ n. cells_above world n c) one_more
-      ∙ ap
-      (λ (o : Option ClassName). option_map_or (λ d. size_of world d + cells_above world (most_classes - 1) d) o 0) e
+  none_above c e = grind (arith, one_more)
 
   -- the cells above a class are as many as are counted
   above_count : (c : ClassName) (o : Option ClassName) → superclass_of world c ≡ o
@@ -179,31 +170,22 @@ module _ (world : List Shape) (sound : IsSound world) (stands : (c : ApiClass) �
   not_mapped : {A : Type 0} (f : A → PoolTarget) (o : Option A) (class : ClassName) (cell : ℕ)
       (declared : DeclaredType ClassName) → ((a : A) → f a ≡ To.InstanceField class cell declared → ⊥)
       → option_map f o ≡ Some (To.InstanceField class cell declared) → IsField class cell declared
-  not_mapped f None class cell declared h e = absurd (none-some (To.InstanceField class cell declared) e)
-  not_mapped f (Some a) class cell declared h e =
-      absurd (h a (same_Some (f a) (To.InstanceField class cell declared) e))
+  not_mapped f o class cell declared h1 h2 = grind (arith, none-some, same_Some)
 
   by_method : (m : MethodName) (o : Option DeclaredMethod) (class : ClassName) (cell : ℕ)
       (declared : DeclaredType ClassName)
       → option_and_then
       (λ (d : DeclaredMethod). option_map (To.StaticMethod d.class m d.method.is_static) (declared_type_of world d)) o
       ≡ Some (To.InstanceField class cell declared) → IsField class cell declared
-  by_method m None class cell declared e = absurd (none-some (To.InstanceField class cell declared) e)
-  by_method m (Some d) class cell declared e =
-      not_mapped (To.StaticMethod d.class m d.method.is_static) (declared_type_of world d) class cell declared
-      (λ a e. cc) e
+  by_method m o class cell declared h1 = grind (arith, none-some, not_mapped)
 
   by_named : (n : Named) (class : ClassName) (cell : ℕ) (declared : DeclaredType ClassName)
       → target_of world n ≡ Some (To.InstanceField class cell declared) → IsField class cell declared
   by_named (Names.Class c) class cell declared e = absurd cc
-  by_named (Names.InstanceField c token) class cell declared e =
-      by_type c token (instance_type_of world c token) class cell declared refl e
-  by_named (Names.StaticField place) class cell declared e =
-      not_mapped (To.StaticField place) (static_type_of world place) class cell declared (λ a e. cc) e
-  by_named (Names.VirtualMethod c token m) class cell declared e =
-      not_mapped (To.VirtualMethod c token) (method_type_of world m) class cell declared (λ a e. cc) e
-  by_named (Names.SuperMethod c m) class cell declared e =
-      not_mapped (To.SuperMethod c m) (method_type_of world m) class cell declared (λ a e. cc) e
+  by_named (Names.InstanceField c token) class cell declared e = grind (arith, by_type)
+  by_named (Names.StaticField place) class cell declared e = grind (arith, not_mapped)
+  by_named (Names.VirtualMethod c token m) class cell declared e = grind (arith, not_mapped)
+  by_named (Names.SuperMethod c m) class cell declared e = grind (arith, not_mapped)
   by_named (Names.StaticMethod m) class cell declared e = by_method m (method_at world m) class cell declared e
 
   -- a class below another one along its superclasses; classes of the API have no fields

@@ -1,5 +1,5 @@
 -- The frame that begins an applet's install is well typed, by computing.
-use Rattle.std.proofs.Common.{◌≡◌, ℕ, zero, suc, ◌==◌, Bool, true, false, cond, List, [], ◌∷◌, Some, None}
+use Rattle.std.proofs.Common.{◌≡◌, ℕ, ◌==◌, Bool, true, cond, List, [], ◌∷◌, Some, None}
 use Rattle.std.proofs.Common.{if◌then◌else◌, refl, sym, ap, ◌∙◌, subst, arith, eqb-true}
 use Rattle.std.proofs.lemmas.Option.{none-some, same_Some}
 use Rattle.std.specs.List.{AllByRecursion}
@@ -9,7 +9,7 @@ use Rattle.jc_cap_desc.specs.Shape.{MethodBody}
 use Rattle.jc_check.specs.Method.{Method}
 use Rattle.jc_check.specs.Package.{method_of, package_rules}
 use Rattle.jc_check.specs.Rules.{Rules}
-use Rattle.jc_check.specs.Typing.{HasShape, IsFineAt, IsShaped, IsTyping, Typing}
+use Rattle.jc_check.specs.Typing.{IsFineAt, IsShaped, IsTyping, Typing}
 use Rattle.jc_classes.specs.Api.{each_below, number_to, room_to, those_to}
 use Rattle.jc_classes.specs.Walk.{most_classes}
 use Rattle.jc_code.specs.Decoding.{next_stable_switch, next_lookup_switch, next_wide_increment, when_of}
@@ -18,9 +18,8 @@ use Rattle.jc_code.specs.Decoding.{next_shuffle, next_local, next_constant, next
 use Rattle.jc_code.specs.Instructions.{next_operation, instr_at}
 use Rattle.jc_code.specs.Listing.{PlacedInstr, placed_at}
 use Rattle.jc_code.specs.Objects.{word_kind_of, next_tested_type, next_creation, next_interface, next_invocation}
-use Rattle.jc_code.specs.Objects.{narrow_field_of, wide_field_of, next_narrow_field, next_field}
-use Rattle.jc_code.specs.Objects.{reference_condition_of, next_wide_condition, next_condition, next_array}
-use Rattle.jc_code.specs.Objects.{next_reference}
+use Rattle.jc_code.specs.Objects.{narrow_field_of, wide_field_of, next_narrow_field, next_field, reference_condition_of}
+use Rattle.jc_code.specs.Objects.{next_wide_condition, next_condition, next_array, next_reference}
 use Rattle.jc_code.specs.declared.instr.Operation.TheVariants.{Object as OnObjects}
 use Rattle.jc_code.specs.declared.object.Creation.TheVariants as creations
 use Rattle.jc_code.specs.declared.object.Invocation.TheVariants.{Virtual}
@@ -99,19 +98,16 @@ by_state P a b c pc t e = first (pc == 0) refl e
     moved q s at same h = subst (λ n. P n t) (sym (eqb-true pc q at)) (subst (P q) (same_Some s t same) h)
 
     third : (x : Bool) → (pc == 6) ≡ x → cond x (Some empty) None ≡ Some t → P pc t
-    third true at e = moved 6 empty at e c
-    third false at e = absurd (none-some t e)
+    third x h1 h2 = grind (arith, moved, none-some)
 
     second : (x : Bool) → (pc == 3) ≡ x → cond x (Some with_applet) (cond (pc == 6) (Some empty) None) ≡ Some t
         → P pc t
-    second true at e = moved 3 with_applet at e b
-    second false at e = third (pc == 6) refl e
+    second x h1 h2 = grind (arith, moved, third)
 
     first : (x : Bool) → (pc == 0) ≡ x
         → cond x (Some empty) (cond (pc == 3) (Some with_applet) (cond (pc == 6) (Some empty) None)) ≡ Some t
         → P pc t
-    first true at e = moved 0 empty at e a
-    first false at e = second (pc == 3) refl e
+    first x h1 h2 = grind (arith, moved, second)
 
 abbrev IsFineHere : ℕ → Types → Type 0
 IsFineHere pc s = IsFineAt rules install typing listing pc s
@@ -170,9 +166,7 @@ install_typed = record {
 
 pub install_shaped : IsShaped install typing
 unfolding most_classes those_to each_below room_to number_to is_at_or_above chain
-install_shaped =
-    by_state (λ pc t. HasShape install t) (record { locals = refl; operands = omega arith })
-    (record { locals = refl; operands = omega arith }) (record { locals = refl; operands = omega arith })
+install_shaped = grind (arith, by_state)
 
 first_frame_runs : RunsTyped applet_world new_heap install_frame
 unfolding most_classes those_to each_below room_to number_to is_at_or_above chain
@@ -200,10 +194,7 @@ applet_fits = refl
 
 no_static : (home offset : ℕ) → static_field_at applet_world.shapes (record { home = home; offset = offset }) ≡ None
 unfolding those_to
-no_static zero offset = refl
-no_static (suc zero) offset = refl
-no_static (suc (suc zero)) offset = refl
-no_static (suc (suc (suc home))) offset = refl
+no_static home offset = grind arith
 
 applet_statics : StaticsTyped applet_world new_heap ([] ∷ [])
 applet_statics = record {
@@ -216,10 +207,7 @@ applet_statics = record {
   where
     by_number : (number : ℕ) (fields : List StaticValue) → of_package ([] ∷ []) number ≡ Some fields
         → AllByRecursion (StaticTyped applet_world.shapes new_heap (home_at number)) fields
-    by_number zero fields e = absurd (none-some fields e)
-    by_number (suc zero) fields e =
-        subst (AllByRecursion (StaticTyped applet_world.shapes new_heap (home_at 1))) (same_Some [] fields e) tt
-    by_number (suc (suc n)) fields e = absurd (none-some fields e)
+    by_number number fields h1 = grind (arith, none-some, same_Some)
 
 pub first_machine_typed : IsTyped (idle_in applet_world) (new_machine ([] ∷ []) install_frame)
 first_machine_typed = record {

@@ -1,6 +1,6 @@
 -- A world with a package behind it that was bound to it is a world.
-use Rattle.std.proofs.Common.{◌≡◌, ℕ, ◌+◌, ◌-◌, ◌<◌, ◌≤◌, List, [], ◌∷◌, length, map, take, Some, slice_get}
-use Rattle.std.proofs.Common.{sym, ap, ◌∙◌, subst, ⊎_elim, arith, length-append, take_all, take-take}
+use Rattle.std.proofs.Common.{◌≡◌, ℕ, ◌+◌, ◌-◌, ◌<◌, ◌≤◌, List, [], ◌∷◌, length, Some, slice_get}
+use Rattle.std.proofs.Common.{sym, ap, ◌∙◌, ⊎_elim, arith, length-append, take_all, take-take}
 use Rattle.std.proofs.Math.Path.{fun_ext}
 use Rattle.std.proofs.lemmas.List.{take-append-le}
 use Rattle.jc_cap_desc.specs.Shape.{MethodBody, Shape}
@@ -11,7 +11,6 @@ use Rattle.jc_link.specs.Growth.{KeepsAllLinking}
 use Rattle.jc_link.specs.Kept.{Kept}
 use Rattle.jc_link.specs.Linked.{AreCoded, AreDeclared, AreHeaded, AreInstallable, IsBoundTo, IsKnown, IsLast}
 use Rattle.jc_link.specs.Linked.{IsLoadedAt, IsResolved, IsWorld, Linked, LinkedBody, World, with_linked}
-use Rattle.jc_link.specs.WellFormed.{IsWellFormed}
 use Rattle.jc_machine.proofs.Accepting.{placed}
 
 -- ---- what is known of a package stays known
@@ -24,23 +23,11 @@ module _ (before after : List Shape) (lies : LiesWithin before after) (lookups :
 
   still_loaded : (home : ℕ) (kept : Kept) → home < length before → IsLoadedAt before home kept
       → IsLoadedAt after home kept
-  still_loaded home kept low was =
-      let first : take home after ≡ take home before
-      = sym (take-take home (length before) after (omega (arith, low))) ∙ ap (take home) lies in record {
-        «package» = was.«package»;
-        there = lookups.packages home low ∙ was.there;
-        fine = subst (λ world. IsWellFormed world was.«package») (sym first) was.fine;
-        kept_is = was.kept_is;
-        apart = was.apart;
-        headers = was.headers;
-        bodies = was.bodies;
-        installs = was.installs;
-      }
+  still_loaded home kept low was = grind (arith, take-take, lies)
 
   still_resolved : (home : ℕ) (b : LinkedBody) → home < length before → IsResolved before home b
       → IsResolved after home b
-  still_resolved home b low resolved =
-      resolved ∙ ap (λ f. map f b.kept.pool) (fun_ext (λ entry. sym (linking.targets home entry has low)))
+  still_resolved home b low resolved = grind (arith, fun_ext)
 
   still_headed : (home : ℕ) → home < length before → AreHeaded before home → AreHeaded after home
   still_headed home low headed offset d there = headed offset d (sym (same_method home offset low) ∙ there)
@@ -83,10 +70,7 @@ module _ (lookups : (before after : List Shape) → LiesWithin before after → 
     (within : (world : List Shape) → StandWithin world)
     (w : World) (l : Linked) (is : IsWorld w) (bound : IsBoundTo w l) (last : IsLast l) where
   lies : LiesWithin w.shapes l.world
-  lies =
-      ap (take (length w.shapes)) bound.1
-      ∙ take-append-le (length w.shapes) w.shapes (bound.0 ∷ []) (omega arith)
-      ∙ take_all (length w.shapes) w.shapes (omega arith)
+  lies = grind (arith, take-append-le, take_all)
 
   one_more : length l.world ≡ length w.shapes + 1
   one_more = ap (λ world. length world) bound.1 ∙ length-append w.shapes (bound.0 ∷ [])
@@ -99,12 +83,7 @@ module _ (lookups : (before after : List Shape) → LiesWithin before after → 
       (within w.shapes) (omega (arith, count)) (2 + n) body (omega (arith, count, low)) (is.known n body there)
 
   last_known : (n : ℕ) (body : LinkedBody) → n ≡ length w.bodies → l.body ≡ body → IsKnown l.world (2 + n) body
-  last_known n body at same =
-      let count = is.count in
-      let one = one_more in
-      let home : length l.world - 1 ≡ 2 + n = omega (arith, one, count, at) in
-      subst (λ home. IsKnown l.world home body) home
-      (subst (λ b. IsKnown l.world (length l.world - 1) b) same last.known)
+  last_known n body at same = grind (arith, one_more)
 
   pub grown_is_world : IsWorld (with_linked w l)
   grown_is_world =

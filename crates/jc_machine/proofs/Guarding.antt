@@ -1,5 +1,5 @@
 -- The law of accesses, of a part of a step: each test that an instruction makes keeps it. What is apart stays so too.
-use Rattle.std.proofs.Common.{◌≡◌, ℕ, Bool, true, false, not, List, [], ◌∷◌, ◌++◌, Option, Some, None, refl, sym, ap}
+use Rattle.std.proofs.Common.{◌≡◌, ℕ, Bool, true, false, not, List, [], ◌∷◌, ◌++◌, Option, Some, None, refl, sym, ap, arith}
 use Rattle.std.proofs.Common.{◌∙◌, subst, append-nil, append_assoc, length, nat_lt, ℤ, pos, negsuc}
 use Rattle.std.proofs.lemmas.Option.{none-some, same_Some}
 use Rattle.std.specs.List.{AllByRecursion}
@@ -20,8 +20,7 @@ use Rattle.jc_machine.specs.Going.{gives, goes_on, goes_to, judged, jumps, leave
 use Rattle.jc_machine.specs.Going.{on_reference, on_reference_local, on_some, on_target, on_top, on_word, on_word_local}
 use Rattle.jc_machine.specs.Going.{plain, pushed, require, storing, stuck, throws, touch_of, touched}
 use Rattle.jc_machine.specs.Guarded.{AreGuarded, AreMade, IsJudged, KeepsStatics, allowed, are_allowed, as_they_were}
-use Rattle.jc_machine.specs.Guarded.{by_frame, denied, one_written}
-use Rattle.jc_machine.specs.Guarded.{is_allowed, is_last_denied, machine_of, setting_of}
+use Rattle.jc_machine.specs.Guarded.{by_frame, denied, one_written, is_allowed, machine_of, setting_of}
 use Rattle.jc_machine.specs.Lookup.{target_at}
 use Rattle.jc_machine.specs.Machine.{Asked, Machine, Next, Outcome, Stepped, Surroundings, Throws, Touch}
 use Rattle.jc_machine.specs.Runtime.{security_exception}
@@ -84,14 +83,7 @@ stays {C = C} {m = m} {before = before} o x e same a =
 
 pub is_stuck : {C : Type 0} {around : Surroundings C} {m : Machine C} {before : List Touch}
     → KeepsLaw around m before stuck
-is_stuck {before = before} = record {
-  made = made_so before;
-  accesses = allowed refl;
-  changes = λ after f. absurd (none-some after f);
-  apart = λ keeps p. record { spares = tt; after = λ after f. absurd (none-some after f) };
-  kept = λ keeps q after f. absurd (none-some after f);
-  statics = λ after f. absurd (none-some after f);
-}
+is_stuck = grind (arith, made_so, none-some)
 
 -- another machine with the same static fields
 pub still_kept : {C : Type 0} {around : Surroundings C} {m x y : Machine C} → KeepsStatics around m x
@@ -145,8 +137,7 @@ branches_still h false offset vs = leaves_still h vs
 pub at_check : {C : Type 0} {around : Surroundings C} {m : Machine C} {before : List Touch} (b : Bool) (s : Stepped C)
     → KeepsLaw around m before s
     → KeepsLaw around m before (check b s)
-at_check true s k = k
-at_check false s k = is_stuck
+at_check b s h1 = grind (arith, is_stuck)
 
 -- what goes on knows that the test passed
 pub at_checked : {C : Type 0} {around : Surroundings C} {m : Machine C} {before : List Touch} (b : Bool)
@@ -259,14 +250,11 @@ module _ {C : Type 0} {around : Surroundings C} {m : Machine C} (before ts : Lis
   by_guard : AreGuarded ts (s ≡ plain (Throws m security_exception))
       → AreGuarded (ts ++ s.touches) (s.outcome ≡ Throws m security_exception)
   by_guard (allowed h) = guarded_behind ts s.touches (s.outcome ≡ Throws m security_exception) h k.accesses
-  by_guard (denied h e) =
-      subst (λ (x : Stepped C). AreGuarded (ts ++ x.touches) (x.outcome ≡ Throws m security_exception)) (sym e)
-      (denied (subst (λ (l : List Touch). is_last_denied l ≡ true) (sym (append-nil ts)) h) refl)
+  by_guard (denied h e) = grind (arith, append-nil)
 
   joined : (after : Machine C) → KeepsHeap m.top.active ((before ++ ts) ++ s.touches) m.heap after.heap
       → KeepsHeap m.top.active (before ++ (ts ++ s.touches)) m.heap after.heap
-  joined after h =
-      subst (λ (l : List Touch). KeepsHeap m.top.active l m.heap after.heap) (append_assoc before ts s.touches) h
+  joined after h = grind (arith, append_assoc)
 
   -- where it is known how they were made
   pub behind_made : (AllByRecursion (IsJudged (setting_of around m)) before
@@ -285,10 +273,7 @@ module _ {C : Type 0} {around : Surroundings C} {m : Machine C} (before ts : Lis
 
   -- by the frame
   pub behind_judged : AllByRecursion (IsJudged (setting_of around m)) ts → KeepsLaw around m before (touched ts s)
-  behind_judged judges =
-      behind_made (λ all.
-      subst (AreMade around m) (append_assoc before ts s.touches)
-      (k.made (all_joined (IsJudged (setting_of around m)) before ts all judges)))
+  behind_judged judges = grind (arith, behind_made, append_assoc, all_joined)
 
 pub behind : {C : Type 0} {around : Surroundings C} {m : Machine C} {before : List Touch} (ts : List Touch)
     (s : Stepped C) → AllByRecursion (IsJudged (setting_of around m)) ts

@@ -1,5 +1,5 @@
 -- Instructions on fields keep the law of accesses.
-use Rattle.std.proofs.Common.{◌≡◌, ◌∙◌, ℕ, List, [], length, nat_lt, slice_get, inl, refl, ap, Option, Some, None}
+use Rattle.std.proofs.Common.{◌≡◌, ◌∙◌, ℕ, List, [], length, nat_lt, slice_get, inl, refl, ap, Option, Some, None, arith}
 use Rattle.std.proofs.Common.{true, false}
 use Rattle.jc_base.specs.declared.declared_type.DeclaredType.{DeclaredType}
 use Rattle.jc_code.specs.declared.instr.Operation.TheVariants as operations
@@ -12,7 +12,7 @@ use Rattle.jc_code.specs.declared.object.Holder.{Holder}
 use Rattle.jc_code.specs.declared.object.Holder.TheVariants as Holders
 use Rattle.jc_code.specs.declared.object.ObjectOperation.TheVariants as objects
 use Rattle.jc_firewall.specs.Verdict.{fields, row_of}
-use Rattle.jc_firewall.specs.declared.access.Access.TheVariants.{GetField, PutReferenceField, PutStaticReference}
+use Rattle.jc_firewall.specs.declared.access.Access.TheVariants.{GetField, PutStaticReference}
 use Rattle.jc_firewall.specs.declared.access.Facts.{Facts}
 use Rattle.jc_link.specs.declared.named.StaticPlace.{StaticPlace}
 use Rattle.jc_link.specs.declared.target.PoolTarget.{PoolTarget}
@@ -109,14 +109,10 @@ gets_keeps h form field v vs =
     loads_still h form value vs))))
 
 putting_row : (form : Form) (f : Facts) → row_of (putting form) f ≡ fields
-putting_row Forms.Reference f = refl
-putting_row Forms.Byte f = refl
-putting_row Forms.Short f = refl
+putting_row form f = grind arith
 
 putting_changes : (form : Form) → may_change (putting form) ≡ true
-putting_changes Forms.Reference = refl
-putting_changes Forms.Byte = refl
-putting_changes Forms.Short = refl
+putting_changes form = grind arith
 
 -- what a put of a field stores, of the field's type
 put_held : {C : Type 0} (h : Here C) (form : Form) (field : InstanceField) (value : TaggedValue)
@@ -124,15 +120,7 @@ put_held : {C : Type 0} (h : Here C) (form : Form) (field : InstanceField) (valu
     → is_of_type h.around.world.shapes h.machine.heap field.declared value ≡ true
     → (number : ℕ) (o : Object TaggedValue) → is_allowed (verdict_in h (storing (putting form) number value) o) ≡ true
     → IsHeld h.around h.machine (stored_as form value)
-put_held h Forms.Reference field value of_form typed number o fine keeps p =
-    asked_held h PutReferenceField number value o (top_isnt_runtime keeps h.machine p.machine) refl
-    (typed_leads h.around.world.shapes h.machine.heap field.declared value of_form typed) fine
-put_held h Forms.Byte field (Word n) of_form typed number o fine keeps p = refl
-put_held h Forms.Byte field (Ref n) of_form typed number o fine keeps p = refl
-put_held h Forms.Byte field Null of_form typed number o fine keeps p = refl
-put_held h Forms.Byte field Unset of_form typed number o fine keeps p = refl
-put_held h Forms.Short field value of_form typed number o fine keeps p =
-    short_held h.around.world.shapes h.machine.heap field.declared value of_form typed
+put_held h form field value h1 h2 number o h3 = grind (arith, asked_held, top_isnt_runtime, typed_leads, short_held)
 
 puts_keeps : {C : Type 0} (h : Here C) (form : Form) (field : InstanceField) (v value : TaggedValue)
     (vs : List TaggedValue) → is_form_of form field.declared ≡ true

@@ -1,12 +1,12 @@
 -- Lists of accesses, and what changes of objects by them.
-use Rattle.std.proofs.Common.{◌≡◌, ℕ, zero, suc, true, List, [], ◌∷◌, ◌++◌, Option, Some, inl, inr, refl, sym, ap, ◌∙◌}
+use Rattle.std.proofs.Common.{◌≡◌, ℕ, zero, suc, true, List, [], ◌∷◌, ◌++◌, Option, Some, refl, sym, ◌∙◌, arith}
 use Rattle.std.proofs.Common.{slice_get}
 use Rattle.std.proofs.lemmas.Bool.{and_from, and_parts}
 use Rattle.std.proofs.lemmas.Option.{none-some, same_Some}
 use Rattle.std.specs.List.{AllByRecursion}
 use Rattle.jc_names.specs.declared.owner.Owner.{Owner}
 use Rattle.jc_store.specs.Heap.{Heap, Object, object_at}
-use Rattle.jc_machine.specs.Guarded.{AddsFor, AreGuarded, ChangesAccessed, IsAccessed, allowed, are_allowed, denied}
+use Rattle.jc_machine.specs.Guarded.{AddsFor, AreGuarded, ChangesAccessed, IsAccessed, allowed, are_allowed}
 use Rattle.jc_machine.specs.Guarded.{is_allowed, is_last_denied}
 use Rattle.jc_machine.specs.Machine.{Touch}
 use Rattle.jc_machine.specs.Natives.{IsStill, KeepsObjects}
@@ -41,8 +41,7 @@ all_allowed (x ∷ xs) ys h k =
 
 one_before : (x : Touch) (ys : List Touch) → is_allowed x.verdict ≡ true → is_last_denied ys ≡ true
     → is_last_denied (x ∷ ys) ≡ true
-one_before x [] h k = absurd cc
-one_before x (y ∷ ys) h k = and_from (is_allowed x.verdict) (is_last_denied (y ∷ ys)) h k
+one_before x ys h1 h2 = grind (arith, and_from)
 
 last_denied : (xs ys : List Touch) → are_allowed xs ≡ true → is_last_denied ys ≡ true
     → is_last_denied (xs ++ ys) ≡ true
@@ -53,12 +52,10 @@ last_denied (x ∷ xs) ys h k =
 
 pub guarded_behind : (xs ys : List Touch) (R : Type 0) → are_allowed xs ≡ true → AreGuarded ys R
     → AreGuarded (xs ++ ys) R
-guarded_behind xs ys R h (allowed k) = allowed (all_allowed xs ys h k)
-guarded_behind xs ys R h (denied k r) = denied (last_denied xs ys h k) r
+guarded_behind xs ys R h1 h2 = grind (arith, all_allowed, last_denied)
 
 pub mapped : (xs : List Touch) (R S : Type 0) → (R → S) → AreGuarded xs R → AreGuarded xs S
-mapped xs R S f (allowed h) = allowed h
-mapped xs R S f (denied h r) = denied h (f r)
+mapped xs R S h1 h2 = grind arith
 
 -- ---- what is accessed
 
@@ -70,16 +67,7 @@ get_first (y ∷ xs) ys (suc k) x e = get_first xs ys k x e
 
 accessed_first : (active : ℕ) (xs ys : List Touch) (n : ℕ) (o : Object TaggedValue) → IsAccessed active xs n o
     → IsAccessed active (xs ++ ys) n o
-accessed_first active xs ys n o a = record {
-  place = a.place;
-  touch = a.touch;
-  listed = get_first xs ys a.place a.touch a.listed;
-  is = a.is;
-  changes = a.changes;
-  allowed = a.allowed;
-  who = a.who;
-  own = a.own;
-}
+accessed_first active xs ys n o a = grind (arith, get_first)
 
 accessed_later : (active : ℕ) (xs ys : List Touch) (n : ℕ) (o : Object TaggedValue) → IsAccessed active ys n o
     → IsAccessed active (xs ++ ys) n o
@@ -100,23 +88,11 @@ accessed_later active (x ∷ xs) ys n o a =
 
 pub changes_first : (owner : Owner) (xs ys : List Touch) (a b : Heap TaggedValue) → KeepsHeap owner xs a b
     → KeepsHeap owner (xs ++ ys) a b
-changes_first owner xs ys a b h = record {
-  changes = λ n o p e f.
-      elim (h.changes n o p e f)
-      [ inl same ↦ inl same | inr accessed ↦ inr (accessed_first owner.context xs ys n o accessed) ];
-  kept = h.kept;
-  adds = h.adds;
-}
+changes_first owner xs ys a b h = grind (arith, accessed_first)
 
 pub changes_later : (owner : Owner) (xs ys : List Touch) (a b : Heap TaggedValue) → KeepsHeap owner ys a b
     → KeepsHeap owner (xs ++ ys) a b
-changes_later owner xs ys a b h = record {
-  changes = λ n o p e f.
-      elim (h.changes n o p e f)
-      [ inl same ↦ inl same | inr accessed ↦ inr (accessed_later owner.context xs ys n o accessed) ];
-  kept = h.kept;
-  adds = h.adds;
-}
+changes_later owner xs ys a b h = grind (arith, accessed_later)
 
 one_object : (found : Option (Object TaggedValue)) (o p : Object TaggedValue) → found ≡ Some o → found ≡ Some p
     → p ≡ o
@@ -128,9 +104,4 @@ pub is_still : (heap : Heap TaggedValue) (n : ℕ) (o : Object TaggedValue) → 
 is_still heap n o e = record { object = o; found = e; kind = refl; owner = refl; size = refl }
 
 pub nothing_changes : (owner : Owner) (xs : List Touch) (heap : Heap TaggedValue) → KeepsHeap owner xs heap heap
-nothing_changes owner xs heap = record {
-  changes = λ n o p e f.
-      inl (ap (λ (x : Object TaggedValue). x.cells) (one_object (object_at heap n) o p e f));
-  kept = λ n o e. is_still heap n o e;
-  adds = λ n o e f. absurd (none-some o (sym f ∙ e));
-}
+nothing_changes owner xs heap = grind (arith, one_object, is_still, none-some)

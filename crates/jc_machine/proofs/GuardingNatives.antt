@@ -1,6 +1,6 @@
 -- New frames, and native members and what they call, keep the law of accesses, where native members keep theirs.
-use Rattle.std.proofs.Common.{◌≡◌, ℕ, ◌+◌, Bool, true, false, List, [], ◌∷◌, ◌++◌, length, Option, Some, None}
-use Rattle.std.proofs.Common.{cond, refl, sym, ap, ◌∙◌, subst, ◌&&◌, append-nil, eqb-true, nat_lt}
+use Rattle.std.proofs.Common.{◌≡◌, ℕ, ◌+◌, Bool, true, false, List, [], ◌∷◌, ◌++◌, length, Option, Some, None, arith}
+use Rattle.std.proofs.Common.{cond, refl, sym, ap, ◌∙◌, subst, ◌&&◌, append-nil, eqb-true}
 use Rattle.std.proofs.lemmas.Bool.{and_from, and_parts}
 use Rattle.std.specs.List.{AllByRecursion}
 use Rattle.std.specs.Option.{option_and_then}
@@ -19,15 +19,14 @@ use Rattle.jc_machine.specs.Calls.{entered, enters, frame_of, has_room, inner_na
 use Rattle.jc_machine.specs.Calls.{accepts, is_member_or_loaded, native_answer, native_call, native_ends, native_gives}
 use Rattle.jc_machine.specs.Calls.{native_may_begin, native_type, on_native, previous_in, takes, type_of_member}
 use Rattle.jc_machine.specs.Calls.{virtual_member, with_given}
-use Rattle.jc_machine.specs.Going.{Here, check, moved, plain, stuck, throws, touched, with_machine}
+use Rattle.jc_machine.specs.Going.{Here, check, moved, plain, stuck, throws, touched}
 use Rattle.jc_machine.specs.Guarded.{AreGuarded, AreMade, IsCalledBack, IsJudged, as_owner, as_they_were, by_callback}
 use Rattle.jc_machine.specs.Guarded.{by_frame, frame_answer, setting_of}
 use Rattle.jc_machine.specs.Lookup.{are_of_types, class_of, declared_at, is_given, is_of_class}
 use Rattle.jc_machine.specs.Machine.{Callback, Calls, Frame, Gives, IsStuck, Machine, MethodPlace, NativeAnswer}
 use Rattle.jc_machine.specs.Machine.{NativeCall, NativeEnd, Next, Stepped, Surroundings, Throws, ThrowsObject, Touch}
 use Rattle.jc_machine.specs.Machine.{UsedUp}
-use Rattle.jc_machine.specs.Natives.{AreNativesGuarded, IsGuardedAnswer, IsModest, IsOfReceiver, IsRefusedAnswer}
-use Rattle.jc_machine.specs.Natives.{shareable_member}
+use Rattle.jc_machine.specs.Natives.{AreNativesGuarded, IsGuardedAnswer, IsModest, IsOfReceiver, shareable_member}
 use Rattle.jc_machine.specs.Runtime.{security_exception}
 use Rattle.jc_words.specs.Values.{Ref, TaggedValue}
 use Rattle.jc_machine.proofs.Guarding.{KeepsLaw, at_check, at_checked, at_some, behind, behind_made, gives_changed}
@@ -124,13 +123,7 @@ refused_as : {C : Type 0} (h : Here C) (active : Owner) (previous : Option Owner
     (native_answer h active previous member arguments)
     → AreGuarded (native_answer h active previous member arguments).touches
     (IsRefusal h.machine (native_answer h active previous member arguments))
-refused_as {C = C} h active previous member arguments g =
-    let call : NativeCall C = native_call h.around h.machine active previous member arguments in
-    let a : NativeAnswer C = native_answer h active previous member arguments in
-    mapped a.touches (IsRefusedAnswer call a) (IsRefusal h.machine a) (λ r. record {
-      unchanged = record { heap = r.unchanged.heap; runtime = r.unchanged.runtime };
-      throws = r.throws;
-    }) g.guarded
+refused_as h active previous member arguments h1 = grind (arith, mapped)
 
 apart_as : {C : Type 0} (h : Here C) (active : Owner) (previous : Option Owner) (member : ℕ)
     (arguments : List TaggedValue) → RunsApplets h.around h.machine active
@@ -239,23 +232,7 @@ answer_apart h a fine = record {
 }
 
 same_place : {C : Type 0} (h : Here C) (a : NativeAnswer C) → IsAsWas h.machine a → after_native h a ≡ h
-same_place {C = C} h a same =
-    ap
-    (λ (heap : Heap TaggedValue). with_machine h (record {
-      heap = heap;
-      statics = h.machine.statics;
-      runtime = a.runtime;
-      top = h.machine.top;
-      waiting = h.machine.waiting;
-    })) same.heap
-    ∙ ap
-    (λ (runtime : C). with_machine h (record {
-      heap = h.machine.heap;
-      statics = h.machine.statics;
-      runtime = runtime;
-      top = h.machine.top;
-      waiting = h.machine.waiting;
-    })) same.runtime
+same_place h a h1 = grind arith
 
 same_machine : {C : Type 0} (h : Here C) (a : NativeAnswer C) → IsAsWas h.machine a
     → (after_native h a).machine ≡ h.machine
@@ -280,18 +257,15 @@ same_thrown ends number e f = cc
 -- ---- what makes no access
 
 check_none : {C : Type 0} (b : Bool) (s : Stepped C) → s.touches ≡ [] → (check b s).touches ≡ []
-check_none true s e = e
-check_none false s e = refl
+check_none b s h1 = grind arith
 
 given_none : {C : Type 0} (h : Here C) (value : Option TaggedValue) (operands : List TaggedValue)
     → (with_given h value operands).touches ≡ []
-given_none h None operands = refl
-given_none h (Some v) operands = check_none (nat_lt (length operands) h.max_stack) _ refl
+given_none h value operands = grind (arith, check_none)
 
 gives_none : {C : Type 0} (h : Here C) (signature : Signature ClassName) (value : Option TaggedValue)
     (operands : List TaggedValue) → (native_gives h signature value operands).touches ≡ []
-gives_none h signature value operands =
-    check_none (is_given h.around.world.shapes h.machine.heap signature.result value) _ (given_none h value operands)
+gives_none h signature value operands = grind (arith, check_none, given_none)
 
 -- ---- behind an answer
 
@@ -309,9 +283,7 @@ ends_behind {before = before} h a s none fine guarded k =
 unrefused : {C : Type 0} {before : List Touch} (h : Here C) (a : NativeAnswer C) (s : Stepped C)
     → IsFineAnswer h.around h.machine before a → (a.ends ≡ ThrowsObject security_exception → ⊥)
     → AreGuarded a.touches (s ≡ plain (Throws h.machine security_exception))
-unrefused h a s fine other =
-    mapped a.touches (IsRefusal h.machine a) (s ≡ plain (Throws h.machine security_exception)) (λ r.
-    absurd (other r.throws)) fine.guarded
+unrefused h a s fine other = grind (arith, mapped)
 
 -- it gives what it gives
 given_keeps : {C : Type 0} {around : Surroundings C} {m : Machine C} {before : List Touch} (h : Here C)
@@ -445,9 +417,7 @@ module _ {C : Type 0} (h : Here C) (natives : AreNativesGuarded h.around.natives
 
   guarded_so : IsGuardedAnswer h.around.natives h.around.world
       (native_call h.around h.machine h.machine.top.active h.machine.top.previous member arguments) a
-  guarded_so =
-      natives h.around.world
-      (native_call h.around h.machine h.machine.top.active h.machine.top.previous member arguments)
+  guarded_so = grind arith
 
   asks_keeps : {before : List Touch} (signature : Signature ClassName) (callback : Callback)
       → native_may_begin h.around.world.shapes h.machine.heap member arguments ≡ true → a.ends ≡ Calls callback

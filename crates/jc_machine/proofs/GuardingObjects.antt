@@ -1,6 +1,6 @@
 -- Objects that are made, cast and thrown, and references that are moved, keep the law of accesses.
-use Rattle.std.proofs.Common.{ℕ, ℤ, pos, Bool, true, false, cond, not, List, [], ◌∷◌, length, Some, None, ◌≡◌, inr}
-use Rattle.std.proofs.Common.{int_lt, nat_lt, refl, sym, ap, ◌∙◌, replicate, slice_get, slice_set}
+use Rattle.std.proofs.Common.{ℕ, ℤ, pos, Bool, true, false, cond, not, List, [], ◌∷◌, length, Some, None, ◌≡◌, inr, arith}
+use Rattle.std.proofs.Common.{int_lt, nat_lt, refl, replicate, slice_get, slice_set}
 use Rattle.std.proofs.lemmas.Option.{same_Some}
 use Rattle.std.specs.Option.{option_map_or}
 use Rattle.jc_classes.specs.Subtype.{is_subtype}
@@ -27,7 +27,6 @@ use Rattle.jc_store.specs.declared.kind.ObjectType.{ObjectType}
 use Rattle.jc_store.specs.declared.kind.ObjectType.TheVariants.{Instance, ReferenceArray}
 use Rattle.jc_words.specs.Shorts.{short}
 use Rattle.jc_words.specs.Values.{Null, Ref, TaggedValue, Unset, Word}
-use Rattle.jc_api.specs.declared.class.ApiClass.TheVariants.{SystemException}
 use Rattle.jc_machine.specs.Apart.{SparesPlain}
 use Rattle.jc_machine.specs.Going.{Here, gives, no_resource, runtime_touch, stored_in, throws, throws_system, wanting}
 use Rattle.jc_machine.specs.Guarded.{IsAccessed, StandsAt}
@@ -38,8 +37,7 @@ use Rattle.jc_machine.specs.Objects.{Test, act_branch, act_check_cast, act_creat
 use Rattle.jc_machine.specs.Objects.{act_throw, bit, cells_of, creates, creates_array, has_space, is_array_of_words}
 use Rattle.jc_machine.specs.Objects.{is_null, is_same, made, on_class, on_known, on_test, tested, word_array}
 use Rattle.jc_machine.specs.Arrays.{is_there}
-use Rattle.jc_machine.specs.Runtime.{HasRuntimeObject, HasRuntimeObjects, class_cast_exception, negative_size_exception}
-use Rattle.jc_machine.specs.Runtime.{system_exception, temporary}
+use Rattle.jc_machine.specs.Runtime.{HasRuntimeObjects, class_cast_exception, negative_size_exception, system_exception}
 use Rattle.jc_machine.proofs.Guarding.{KeepsLaw, at_accessed, at_check, at_judged, at_object, at_reference}
 use Rattle.jc_machine.proofs.Guarding.{at_reference_local, at_require, at_some, at_target, at_word, behind_allowed}
 use Rattle.jc_machine.proofs.Guarding.{branches_still, gives_changed, gives_still, goes_behind, is_stuck, leaves}
@@ -77,10 +75,7 @@ reason_accessed active object = record {
 
 -- to an object that isn't plain
 reason_spares : (heap : Heap TaggedValue) → HasRuntimeObjects heap → SparesPlain heap reason_touch
-reason_spares heap own e o there plain =
-    let s : HasRuntimeObject heap (temporary system_exception SystemException 1) = own.1.1.1.1.1.1.1.1.0 in
-    not_plain_too o.kind.mark
-    (ap (λ (x : Object TaggedValue). x.kind.mark) (same_Some o s.object (sym there ∙ s.found)) ∙ s.mark) plain
+reason_spares heap own e o there plain = grind (arith, not_plain_too, same_Some)
 
 system_keeps : {C : Type 0} (h : Here C) (reason : ℕ) → KeepsLaw h.around h.machine [] (throws_system h reason)
 system_keeps h reason =

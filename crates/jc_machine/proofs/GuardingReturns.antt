@@ -1,11 +1,10 @@
 -- Returns keep the law of accesses.
-use Rattle.std.proofs.Common.{◌≡◌, List, [], ◌∷◌, length, nat_lt, Option, Some, None, ℕ, true, refl, subst}
+use Rattle.std.proofs.Common.{◌≡◌, List, [], ◌∷◌, length, nat_lt, Option, Some, None, ℕ, refl, arith}
 use Rattle.jc_machine.specs.Going.{Here}
 use Rattle.jc_machine.specs.Lookup.{is_given}
 use Rattle.jc_machine.specs.Machine.{Ends, Frame, Machine, Next, Stepped, Surroundings, Touch}
 use Rattle.jc_machine.specs.Returns.{pc_behind_call, result_of, resumed, returns, returns_to, room_of, with_result}
 use Rattle.jc_words.specs.Values.{TaggedValue}
-use Rattle.jc_machine.specs.Guarded.{as_they_were}
 use Rattle.jc_machine.proofs.Guarding.{KeepsLaw, at_check, at_some, stays}
 use Rattle.jc_machine.proofs.StayingApart.{LeadsApart, are_applets, is_apart_itself, waiting_are_applets}
 
@@ -21,18 +20,7 @@ at_result h room (Some v) operands go k =
 -- the frame that waited is active as an applet
 resumed_apart : {C : Type 0} (h : Here C) (f : Frame) (waiting : List Frame) (pc : ℕ) (operands : List TaggedValue)
     → h.machine.waiting ≡ f ∷ waiting → LeadsApart h.around h.machine (resumed h.machine f waiting pc operands)
-resumed_apart h f waiting pc operands there = record {
-  apart = λ keeps p. record {
-    objects = p.machine.objects;
-    statics = p.machine.statics;
-    frames =
-        subst (λ (frames : List Frame). are_applets frames ≡ true) there
-        (waiting_are_applets keeps h.machine p.machine);
-    kept = p.machine.kept;
-  };
-  kept = λ keeps q. q.now;
-  statics = as_they_were refl;
-}
+resumed_apart h f waiting pc operands there = grind (arith, are_applets, waiting_are_applets)
 
 returns_still : {C : Type 0} {before : List Touch} (h : Here C) (result : Option TaggedValue) (waiting : List Frame)
     → h.machine.waiting ≡ waiting → KeepsLaw h.around h.machine before (returns_to h result waiting)

@@ -1,5 +1,5 @@
 -- Each step keeps the law of accesses, where native members keep theirs; and what is apart stays so.
-use Rattle.std.proofs.Common.{◌≡◌, ◌⊎◌, inl, inr, ℕ, zero, suc, ◌-◌, Bool, true, false, cond, List, [], ◌∷◌, Option}
+use Rattle.std.proofs.Common.{◌≡◌, ◌⊎◌, inl, inr, ℕ, zero, suc, ◌-◌, Bool, true, false, cond, List, [], ◌∷◌, Option, arith}
 use Rattle.std.proofs.Common.{Some, None, refl, sym, ap, ◌∙◌, subst, nat_lt, slice_get}
 use Rattle.std.proofs.lemmas.Bool.{and_parts, both_ways}
 use Rattle.std.proofs.lemmas.Option.{none-some, same_Some}
@@ -16,7 +16,7 @@ use Rattle.jc_store.specs.Heap.{Heap, Object, object_at}
 use Rattle.jc_machine.specs.Apart.{AreNativesApart, HaveApiMembers, IsApart, SparesPlain, StaysApart, is_applets}
 use Rattle.jc_machine.specs.Going.{Here, moved}
 use Rattle.jc_machine.specs.Guarded.{AreGuarded, ChangesAccessed, IsAccessed, IsGuarded, IsRefused, KeepsPlain}
-use Rattle.jc_machine.specs.Guarded.{KeepsStatics, StandsAt, allowed, are_allowed, denied, machine_of}
+use Rattle.jc_machine.specs.Guarded.{KeepsStatics, StandsAt, are_allowed, machine_of}
 use Rattle.jc_machine.specs.Keeping.{MembersKeep}
 use Rattle.jc_machine.specs.Lookup.{class_of, code_at, declared_at, instruction_at, is_throwable}
 use Rattle.jc_machine.specs.Machine.{Ends, Frame, Machine, Next, Outcome, Stuck, Surroundings, Throws, Touch, UsedUp}
@@ -69,17 +69,11 @@ of_machine {C = C} m o x e same kept statics a = record {
 }
 
 of_stuck : {C : Type 0} (m : Machine C) → LeavesHeap m Stuck
-of_stuck m = record {
-  same = λ after f. absurd (none-some after f);
-  apart = λ keeps p after f. absurd (none-some after f);
-  kept = λ after f. absurd (none-some after f);
-  statics = λ after f. absurd (none-some after f);
-}
+of_stuck m = grind (arith, none-some)
 
 either : {C : Type 0} (m : Machine C) (b : Bool) (o p : Outcome C) → LeavesHeap m o → LeavesHeap m p
     → LeavesHeap m (cond b o p)
-either m true o p h k = h
-either m false o p h k = k
+either m b o p h1 h2 = grind arith
 
 -- frames are active as applets, where those of a machine are
 abbrev AreOf : {C : Type 0} → Machine C → List Frame → Type 0
@@ -249,8 +243,7 @@ steps_keep_kept keeps s natives members m now after e =
 -- ---- what follows
 
 of_denied : (touches : List Touch) (R : Type 0) → AreGuarded touches R → are_allowed touches ≡ false → R
-of_denied touches R (allowed h) e = absurd (both_ways (are_allowed touches) e h)
-of_denied touches R (denied h r) e = r
+of_denied touches R h1 h2 = grind (arith, both_ways)
 
 pub denied_are_refused : {C : Type 0} (s : Surroundings C) → AreNativesGuarded s.natives → (m : Machine C)
     → are_allowed (defensive_step s m).touches ≡ false → IsRefused s m (defensive_step s m)

@@ -1,18 +1,15 @@
 -- What an allowed access changes: a component of its object, which is the active context's or open to all.
-use Rattle.std.proofs.Common.{◌≡◌, ◌⊎◌, inl, inr, ℕ, zero, suc, ◌==◌, ◌&&◌, ◌||◌, Bool, true, false, cond, refl, sym}
+use Rattle.std.proofs.Common.{◌≡◌, ◌⊎◌, inl, inr, ℕ, zero, suc, ◌||◌, Bool, true, false, cond, refl, sym, arith}
 use Rattle.std.proofs.Common.{ap, ◌∙◌, subst, eqb-true, List, [], ◌∷◌, Some, length-set, slice_get, set}
 use Rattle.std.proofs.lemmas.Option.{none-some, same_Some}
-use Rattle.std.specs.Option.{option_map_or}
-use Rattle.jc_firewall.specs.Verdict.{Row, components, fields, is_global_array, is_never_stored, is_own}
-use Rattle.jc_firewall.specs.Verdict.{is_out_of_selection, row_of, runtime_context, stores_reference}
-use Rattle.jc_firewall.specs.Verdict.{verdict_for_runtime, verdict_in as verdict_in_row, verdict_of}
+use Rattle.jc_firewall.specs.Verdict.{Row, components, fields, is_own, row_of, runtime_context}
+use Rattle.jc_firewall.specs.Verdict.{verdict_in as verdict_in_row, verdict_of}
 use Rattle.jc_firewall.specs.declared.access.Access.{Access}
 use Rattle.jc_firewall.specs.declared.access.Facts.{Facts}
 use Rattle.jc_firewall.specs.declared.access.Rule.TheVariants.{Components, Fields, Selection, Storing}
 use Rattle.jc_firewall.specs.declared.access.Verdict.{Verdict}
 use Rattle.jc_firewall.specs.declared.access.Verdict.TheVariants.{Allowed, Denied}
 use Rattle.jc_store.specs.Heap.{Heap, Object, object_at, with_cell, with_new, with_object}
-use Rattle.jc_store.specs.declared.kind.Mark.{Mark}
 use Rattle.jc_store.specs.declared.kind.Mark.TheVariants.{Plain}
 use Rattle.jc_machine.specs.Going.{Here, facts_of, leaves_operands, stored_in, with_heap}
 use Rattle.jc_machine.specs.Guarded.{ChangesAccessed, IsAccessed, IsPlainOf, as_they_were, is_allowed, may_change}
@@ -37,41 +34,24 @@ abbrev pub IsWritten : Access → Facts → Type 0
 IsWritten access f = (row_of access f ≡ fields) ⊎ (row_of access f ≡ components)
 
 own_field : (own : Bool) → is_allowed (cond own Allowed (Denied Fields)) ≡ true → own ≡ true
-own_field true e = refl
-own_field false e = absurd cc
+own_field own h1 = grind arith
 
 own_component : (out own : Bool)
     → is_allowed (cond out (Denied Selection) (cond (own || false) Allowed (Denied Components))) ≡ true
     → own ≡ true
-own_component true own e = absurd cc
-own_component false true e = refl
-own_component false false e = absurd cc
+own_component out own h1 = grind arith
 
 by_row : (active : ℕ) (f : Facts) (r : Row) → (r ≡ fields) ⊎ (r ≡ components) → f.mark ≡ Plain
     → is_allowed (verdict_in_row r active f) ≡ true → is_own active f ≡ true
-by_row active f r (inl e) plain h =
-    own_field (is_own active f) (subst (λ (r : Row). is_allowed (verdict_in_row r active f) ≡ true) e h)
-by_row active f r (inr e) plain h =
-    own_component (is_out_of_selection active f) (is_own active f)
-    (subst
-    (λ (mark : Mark). is_allowed
-    (cond (is_out_of_selection active f) (Denied Selection)
-    (cond (is_own active f || is_global_array mark) Allowed (Denied Components))) ≡ true) plain
-    (subst (λ (r : Row). is_allowed (verdict_in_row r active f) ≡ true) e h))
+by_row active f r h1 h2 h3 = grind (arith, own_field, own_component)
 
 by_table : (a b : Bool) (v w : Verdict) (P Q : Type 0) → (a ≡ true → Q) → (is_allowed w ≡ true → P)
     → is_allowed (cond a v (cond b (Denied Storing) w)) ≡ true → P ⊎ Q
-by_table true b v w P Q f g h = inr (f refl)
-by_table false true v w P Q f g h = absurd cc
-by_table false false v w P Q f g h = inl (g h)
+by_table a b v w P Q h1 h2 h3 = grind arith
 
 own_object : (access : Access) (active : ℕ) (f : Facts) → IsWritten access f
     → is_allowed (verdict_of access active f) ≡ true → f.mark ≡ Plain → IsOwn active f
-own_object access active f written fine plain =
-    by_table (active == runtime_context) (stores_reference access && option_map_or is_never_stored f.stored false)
-    (verdict_for_runtime (row_of access f) f) (verdict_in_row (row_of access f) active f) (active ≡ f.owner.context)
-    (active ≡ runtime_context) (eqb-true active runtime_context)
-    (λ h. sym (eqb-true f.owner.context active (by_row active f (row_of access f) written plain h))) fine
+own_object access active f written fine plain = grind (arith, by_table, eqb-true, by_row)
 
 -- an allowed access that writes
 pub is_accessed : {C : Type 0} (h : Here C) (asked : Asked) (object : Object TaggedValue)
@@ -160,14 +140,10 @@ module _ (owner : Owner) (touches : List Touch) (heap : Heap TaggedValue) (objec
 -- an object more
 more_changes_only : (active : ℕ) (touches : List Touch) (heap : Heap TaggedValue) (new : Object TaggedValue)
     → ChangesAccessed active touches heap (with_new heap new)
-more_changes_only active touches heap new zero o p e f = absurd (none-some o e)
-more_changes_only active touches heap new (suc i) o p e f =
-    inl (ap (λ (x : Object TaggedValue). x.cells) (same_Some p o (sym f ∙ get_first heap (new ∷ []) i o e)))
+more_changes_only active touches heap new = grind (arith, none-some, same_Some, get_first)
 
 all_stay : (heap : Heap TaggedValue) (new : Object TaggedValue) → KeepsObjects heap (with_new heap new)
-all_stay heap new zero o e = absurd (none-some o e)
-all_stay heap new (suc i) o e =
-    is_still (with_new heap new) (suc i) o (get_first heap (new ∷ []) i o e)
+all_stay heap new = grind (arith, none-some, is_still, get_first)
 
 pub more_changes : (owner : Owner) (touches : List Touch) (heap : Heap TaggedValue) (new : Object TaggedValue)
     → IsPlainOf owner new → KeepsHeap owner touches heap (with_new heap new)

@@ -1,5 +1,5 @@
 -- In a world methods that aren't abstract have code.
-use Rattle.std.proofs.Common.{◌≡◌, ℕ, zero, suc, ◌+◌, ◌-◌, ◌<◌, ◌==◌, Bool, true, false, cond, List, [], ◌∷◌, length, Option, Some, None}
+use Rattle.std.proofs.Common.{◌≡◌, ℕ, zero, suc, ◌+◌, ◌-◌, ◌<◌, ◌==◌, Bool, true, cond, List, [], ◌∷◌, length, Option, Some, None}
 use Rattle.std.proofs.Common.{refl, sym, ap, ◌∙◌, subst, arith, slice_get}
 use Rattle.std.proofs.lemmas.Bool.{eq-eqb, le-ltb}
 use Rattle.std.specs.List.{find}
@@ -7,7 +7,7 @@ use Rattle.std.specs.Option.{option_and_then, IsSome}
 use Rattle.jc_cap_desc.specs.Shape.{MethodBody, Shape}
 use Rattle.jc_classes.specs.Members.{DeclaredMethod, declared_in, method_at}
 use Rattle.jc_classes.specs.Methods.{method_name}
-use Rattle.jc_names.specs.declared.name.MethodName.TheVariants.{Api, Loaded}
+use Rattle.jc_names.specs.declared.name.MethodName.TheVariants.{Loaded}
 use Rattle.jc_link.specs.Linked.{IsWorld, LinkedBody, World}
 use Rattle.jc_machine.specs.Accepted.{HaveCode}
 use Rattle.jc_machine.specs.Lookup.{of_package}
@@ -31,14 +31,12 @@ found (x ∷ bodies) offset zero b at is = by_test (x.offset == offset) here
         the_same x y e = cc
 
     by_test : (t : Bool) → t ≡ true → IsSome (cond t (Some x) (find (λ x. x.offset == offset) bodies))
-    by_test true e = cc
-    by_test false e = absurd cc
+    by_test t h1 = grind arith
 found (x ∷ bodies) offset (suc n) b at is = by_test (x.offset == offset) (found bodies offset n b at is)
   where
     by_test : (t : Bool) → IsSome (find (λ x. x.offset == offset) bodies)
         → IsSome (cond t (Some x) (find (λ x. x.offset == offset) bodies))
-    by_test true rest = cc
-    by_test false rest = rest
+    by_test t h1 = grind arith
 
 there : {A : Type 0} (xs : List A) (n : ℕ) → n < length xs → (x : A) × (slice_get xs n ≡ Some x)
 there [] n h = absurd (omega (arith, h))
@@ -55,8 +53,7 @@ have_code w is place d header at its concrete = by_number place.number at
   where
     shape_there : (o : Option Shape) (f : Shape → Option DeclaredMethod) → option_and_then f o ≡ Some d
         → (s : Shape) × (o ≡ Some s)
-    shape_there None f e = absurd (none_some d e)
-    shape_there (Some s) f e = (s, refl)
+    shape_there o f h1 = grind (arith, none_some)
 
     by_number : (n : ℕ) → method_at w.shapes (Loaded n place.offset) ≡ Some d
         → IsSome (option_and_then (λ b. find (λ x. x.offset == place.offset) b.kept.methods) (of_package w.bodies n))
@@ -78,7 +75,4 @@ have_code w is place d header at its concrete = by_number place.number at
         (found (body.0).kept.methods place.offset its_code.place its_code.body its_code.there its_code.offset_is)
       where
         named : (n : ℕ) → method_name (suc (suc n)) place.offset ≡ Loaded (suc n) place.offset
-        named n =
-            let one : suc (suc n) - 1 ≡ suc n = omega arith in
-            ap (λ b. cond b (Api place.offset) (Loaded (suc (suc n) - 1) place.offset)) (le-ltb (suc (suc n)) 2 (omega arith))
-            ∙ ap (λ i. Loaded i place.offset) one
+        named n = grind (arith, le-ltb)

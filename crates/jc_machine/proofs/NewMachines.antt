@@ -38,8 +38,7 @@ use Rattle.jc_machine.specs.TypedExamples.{idle_in, new_machine}
 use Rattle.jc_words.specs.Values.{TaggedValue, Word}
 
 both : (a b : Bool) → (a && b) ≡ true → (a ≡ true) × (b ≡ true)
-both true b e = (refl, e)
-both false b e = absurd cc
+both a b h1 = grind arith
 
 -- ---- the cells of an object of a class of the API: as many as the API's tables say, and none is a field's
 
@@ -56,11 +55,7 @@ blank_joined [] ys a b = b
 blank_joined (x ∷ xs) ys a b = (a.0, blank_joined xs ys a.1 b)
 
 joined : (xs ys : Fields) (m n : ℕ) → AreBlank xs m → AreBlank ys n → AreBlank (xs ++ ys) (n + m)
-joined xs ys m n a b =
-    let one = a.counted in
-    let two = b.counted in
-    let whole = length-append xs ys in
-    record { blank = blank_joined xs ys a.blank b.blank; counted = omega (arith, one, two, whole) }
+joined xs ys m n a b = grind (arith, length-append, blank_joined)
 
 blank_each : (f : ℕ → Option (DeclaredType ClassName)) → ((n : ℕ) → f n ≡ None) → (xs : List ℕ)
     → AllByRecursion (λ f. f ≡ None) (map f xs)
@@ -81,8 +76,7 @@ module _ (world : List Shape) (there : (c : ApiClass) → StandsThere world c) w
   blank_above : (n : ℕ) → ((c : ApiClass) → AreBlank (fields_within world n (Api c)) (cells_within n c))
       → (o : Option ApiClass)
       → AreBlank (option_map_or (fields_within world n) (option_map Api o) []) (option_map_or (cells_within n) o 0)
-  blank_above n each None = record { blank = tt; counted = refl }
-  blank_above n each (Some d) = each d
+  blank_above n h1 o = grind arith
 
   all_blank : (n : ℕ) (c : ApiClass) → AreBlank (fields_within world n (Api c)) (cells_within n c)
   all_blank zero c = record { blank = tt; counted = refl }
@@ -123,24 +117,13 @@ module _ (world : List Shape) (heap : Heap TaggedValue) where
   zeros_fit : (n : ℕ) (fields : Fields) → AllByRecursion (λ f. f ≡ None) fields → length fields ≡ n
       → Pointwise (λ v field. is_cell world heap field v ≡ true) (replicate n (Word 0)) fields
   zeros_fit zero [] blank e = tt
-  zeros_fit (suc n) (f ∷ fields) blank e =
-      (ap (λ f. is_cell world heap f (Word 0)) blank.0, zeros_fit n fields blank.1 (omega (arith, e)))
+  zeros_fit (suc n) (f ∷ fields) blank e = grind (arith, zeros_fit n fields blank.1 (omega (arith, e)))
   zeros_fit zero (f ∷ fields) blank e = absurd (omega (arith, e))
   zeros_fit (suc n) [] blank e = absurd (omega (arith, e))
 
   by_type : (number : ℕ) (mark : Mark) (size : ℕ) (type : ObjectType) → FitsIn world type size
       → ObjectTyped world heap (made (record { number = number; type = type; mark = mark; size = size }))
-  by_type number mark size (Instance c) fits = record {
-    made = fits.0;
-    cells = zeros_fit size (fields_of world c) (fits.1).blank (fits.1).counted;
-    counted = λ is. absurd cc;
-  }
-  by_type number mark size BooleanArray fits = absurd fits
-  by_type number mark size ByteArray fits =
-      let count = length-replicate size (Word 0) in
-      record { made = refl; cells = zeros_are_bytes size; counted = λ is. omega (arith, fits, count) }
-  by_type number mark size ShortArray fits = absurd fits
-  by_type number mark size (ReferenceArray c) fits = absurd fits
+  by_type number mark size type h1 = grind (arith, zeros_fit, length-replicate, zeros_are_bytes)
 
   typed_each : (xs : List RuntimeObject) → AllByRecursion (λ (x : RuntimeObject). FitsIn world x.type x.size) xs
       → AllByRecursion (ObjectTyped world heap) (map made xs)
@@ -172,21 +155,7 @@ HaveObjects world =
 
 module _ (world : List Shape) (there : (c : ApiClass) → StandsThere world c) (have : HaveObjects world) where
   fits_by_tables : (type : ObjectType) (size : ℕ) → fits_api type size ≡ true → FitsIn world type size
-  fits_by_tables (Instance (Api c)) size e =
-      let b = both (not (tables.is_interface c) && not (tables.is_abstract c))
-      (cells_within most_classes c == size) e in
-      let fields = all_blank world there most_classes c in (
-        have c ∙ b.0,
-        record {
-          blank = fields.blank;
-          counted = fields.counted ∙ eqb-true (cells_within most_classes c) size b.1;
-        },
-      )
-  fits_by_tables (Instance (Loaded home offset)) size e = absurd cc
-  fits_by_tables BooleanArray size e = absurd cc
-  fits_by_tables ByteArray size e = ltb-true size 65536 e
-  fits_by_tables ShortArray size e = absurd cc
-  fits_by_tables (ReferenceArray c) size e = absurd cc
+  fits_by_tables type size h1 = grind (arith, both, not, all_blank, eqb-true, ltb-true)
 
   pub new_heap_typed : HeapTyped world new_heap
   new_heap_typed =
@@ -213,25 +182,11 @@ abbrev pub all_fit_in : List Shape → Bool
 all_fit_in world = list_all (λ (x : RuntimeObject). is_fit_in world x.type x.size) runtime_objects
 
 blank_is : (f : Option (DeclaredType ClassName)) → is_blank f ≡ true → f ≡ None
-blank_is None e = refl
-blank_is (Some declared) e = absurd cc
+blank_is f h1 = grind arith
 
 fits_by_computing : (world : List Shape) (type : ObjectType) (size : ℕ) → is_fit_in world type size ≡ true
     → FitsIn world type size
-fits_by_computing world (Instance c) size e =
-    let a = both (has_objects world c)
-    (list_all is_blank (fields_of world c) && length (fields_of world c) == size) e in
-    let b = both (list_all is_blank (fields_of world c)) (length (fields_of world c) == size) a.1 in (
-      a.0,
-      record {
-        blank = passed (λ f. f ≡ None) is_blank blank_is (fields_of world c) b.0;
-        counted = eqb-true (length (fields_of world c)) size b.1;
-      },
-    )
-fits_by_computing world BooleanArray size e = absurd cc
-fits_by_computing world ByteArray size e = ltb-true size 65536 e
-fits_by_computing world ShortArray size e = absurd cc
-fits_by_computing world (ReferenceArray c) size e = absurd cc
+fits_by_computing world type size h1 = grind (arith, both, passed, blank_is, eqb-true, ltb-true)
 
 pub computed_heap_typed : (world : List Shape) → all_fit_in world ≡ true → HeapTyped world new_heap
 computed_heap_typed world e =
@@ -287,9 +242,7 @@ new_heap_has_them =
 no_static : (bound : Bound) (home offset : ℕ)
     → static_field_at (api_world bound) (record { home = home; offset = offset }) ≡ None
 unfolding those_to
-no_static bound zero offset = refl
-no_static bound (suc zero) offset = refl
-no_static bound (suc (suc home)) offset = refl
+no_static bound home offset = grind arith
 
 api_statics : (bound : Bound) (heap : Heap TaggedValue) → StaticsTyped (api_alone bound) heap []
 api_statics bound heap = record {
@@ -301,8 +254,7 @@ api_statics bound heap = record {
 }
   where
     nothing : (number : ℕ) (fields : List StaticValue) → of_package [] number ≡ Some fields → ⊥
-    nothing zero fields e = none-some fields e
-    nothing (suc n) fields e = none-some fields e
+    nothing number fields h1 = grind (arith, none-some)
 
 pub new_machine_typed : (bound : Bound) → HeapTyped (api_world bound) new_heap → (frame : Frame)
     → IsTypedBeside (idle_in (api_alone bound)) (new_machine [] frame)

@@ -1,8 +1,7 @@
 -- The world of the API alone is small, and so is the one with the applet of the examples.
-use Rattle.std.proofs.Common.{◌≡◌, ℕ, zero, suc, ◌≤◌, List, [], ◌∷◌, length, Option, Some, None, slice_get}
-use Rattle.std.proofs.Common.{arith, subst}
+use Rattle.std.proofs.Common.{◌≡◌, ℕ, zero, suc, ◌≤◌, List, [], ◌∷◌, length, Option, Some, slice_get, arith}
 use Rattle.std.proofs.lemmas.List.FromFn.{length-range_with_len}
-use Rattle.std.specs.List.{AllByRecursion, cons_option, filter_map, range_with_len}
+use Rattle.std.specs.List.{AllByRecursion, cons_option, filter_map}
 use Rattle.jc_api.specs.Bound.{Bound, default_binding}
 use Rattle.jc_cap_desc.specs.Shape.{Shape}
 use Rattle.jc_api.specs.declared.class.ApiPackage.TheVariants.{Framework, Lang}
@@ -13,8 +12,7 @@ use Rattle.jc_machine.specs.TypedExamples.{applet_world}
 
 one_more : {A : Type 0} (found : Option A) (xs : List A) (n : ℕ) → length xs ≤ n
     → length (cons_option found xs) ≤ suc n
-one_more None xs n few = omega arith
-one_more (Some x) xs n few = omega arith
+one_more found xs n h1 = grind arith
 
 few_found : {A : Type 0} (f : ℕ → Option A) (xs : List ℕ) → length (filter_map f xs) ≤ length xs
 few_found f [] = omega arith
@@ -22,10 +20,7 @@ few_found f (x ∷ xs) = one_more (f x) (filter_map f xs) (length xs) (few_found
 
 few_to : {A : Type 0} (last : ℕ) (f : ℕ → Option A) → length (those_to last f) ≤ last
 unfolding those_to
-few_to last f =
-    let few = few_found f (range_with_len 1 last) in
-    let count = length-range_with_len 1 last in
-    omega (arith, few, count)
+few_to last f = grind (arith, few_found, length-range_with_len)
 
 abbrev IsFew : Shape → Type 0
 IsFew shape = length shape.classes ≤ most_classes_of_one
@@ -37,9 +32,7 @@ api_few shape few = omega (arith, few)
 few_at : (world : List Shape) → AllByRecursion IsFew world → (i : ℕ) (shape : Shape)
     → slice_get world i ≡ Some shape → IsFew shape
 few_at [] few i shape e = absurd cc
-few_at (x ∷ world) few zero shape e =
-    let same : x ≡ shape = cc in
-    subst IsFew same few.0
+few_at (x ∷ world) few zero shape e = grind arith
 few_at (x ∷ world) few (suc i) shape e = few_at world few.1 i shape e
 
 api_each : (bound : Bound) → IsFew (api_shape bound Lang) × IsFew (api_shape bound Framework)

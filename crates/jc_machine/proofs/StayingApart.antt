@@ -1,6 +1,6 @@
 -- Objects stay set apart where each stays and others are an applet's; and machines with the same frames stay apart.
-use Rattle.std.proofs.Common.{◌≡◌, ◌≢◌, ◌⊎◌, inl, inr, ℕ, zero, suc, ◌==◌, Bool, true, false, not, List, [], ◌∷◌, ◌++◌}
-use Rattle.std.proofs.Common.{Option, Some, None, refl, sym, ap, ◌∙◌, subst, eqb-true, slice_get, set}
+use Rattle.std.proofs.Common.{◌≡◌, ◌≢◌, ◌⊎◌, ℕ, zero, suc, ◌==◌, Bool, true, not, List, [], ◌∷◌, ◌++◌, arith}
+use Rattle.std.proofs.Common.{Option, Some, None, refl, sym, ap, ◌∙◌, eqb-true, slice_get, set}
 use Rattle.std.proofs.lemmas.Bool.{and_parts, both_ways}
 use Rattle.std.proofs.lemmas.Option.{none-some, same_Some}
 use Rattle.std.specs.List.{AllByRecursion, list_all}
@@ -12,7 +12,7 @@ use Rattle.jc_store.specs.declared.kind.Mark.TheVariants.{Plain}
 use Rattle.jc_machine.specs.Apart.{AreNativesApart, HaveApiMembers, IsApart, IsRuntimes, IsSetApart, SparesPlain}
 use Rattle.jc_machine.specs.Apart.{has_no_code, is_applets}
 use Rattle.jc_machine.specs.Going.{moved, with_top}
-use Rattle.jc_machine.specs.Guarded.{AddsFor, IsPlainOf, KeepsStatics, as_they_were, machine_of}
+use Rattle.jc_machine.specs.Guarded.{AddsFor, IsPlainOf, KeepsStatics, machine_of}
 use Rattle.jc_machine.specs.Keeping.{MembersKeep}
 use Rattle.jc_machine.specs.Machine.{Frame, Machine, Stepped, Surroundings, Touch}
 use Rattle.jc_machine.specs.Natives.{KeepsObjects}
@@ -23,16 +23,13 @@ use Rattle.jc_machine.proofs.Staying.{they_stay}
 -- ---- owners
 
 pub applets_not : (owner : Owner) → is_applets owner ≡ true → owner.context ≡ runtime_context → ⊥
-applets_not owner h e =
-    both_ways (is_applets owner) (ap (λ n. not (n == runtime_context)) e) h
+applets_not owner h e = grind (arith, both_ways, not)
 
 by_context : (n : ℕ) (b : Bool) → (b ≡ true → n ≡ runtime_context) → (not b ≡ true) ⊎ (n ≡ runtime_context)
-by_context n true f = inr (f refl)
-by_context n false f = inl refl
+by_context n b h1 = grind arith
 
 pub applets_or : (owner : Owner) → (is_applets owner ≡ true) ⊎ (owner.context ≡ runtime_context)
-applets_or owner =
-    by_context owner.context (owner.context == runtime_context) (eqb-true owner.context runtime_context)
+applets_or owner = grind (arith, by_context, eqb-true)
 
 -- ---- objects
 
@@ -58,8 +55,7 @@ module _ (before after : Heap TaggedValue) (owner : Owner) (apart : IsSetApart b
   -- a new one isn't the runtime's
   new_context : (number : ℕ) (o : Object TaggedValue) → object_at after number ≡ Some o
       → object_at before number ≡ None → o.owner.context ≡ runtime_context → ⊥
-  new_context number o e f c =
-      applets_not owner applets (ap (λ (x : Owner). x.context) (sym (adds number o e f).whose) ∙ c)
+  new_context number o e f c = grind (arith, applets_not)
 
   others_by : (number : ℕ) (o : Object TaggedValue) → object_at after number ≡ Some o
       → o.owner.context ≡ runtime_context → (found : Option (Object TaggedValue))
@@ -75,10 +71,7 @@ module _ (before after : Heap TaggedValue) (owner : Owner) (apart : IsSetApart b
       → (found : Option (Object TaggedValue)) → object_at before number ≡ found
       → o.owner.context ≡ runtime_context
   marked_by number o e marked None f = absurd (marked (adds number o e f).plain)
-  marked_by number o e marked (Some p) f =
-      old_context number o p e f
-      ∙ apart.marked number p f (λ plain.
-      marked (ap (λ (x : Kind). x.mark) (old_kind number o p e f) ∙ plain))
+  marked_by number o e marked (Some p) f = grind (arith, old_context, old_kind)
 
   pub set_apart_still : IsSetApart after
   set_apart_still = record {
@@ -107,9 +100,7 @@ set_none (z ∷ xs) (suc k) (suc i) x y e f = set_none xs k i x y e f
 -- an object in place of another one is none more
 none_more : (heap : Heap TaggedValue) (number n : ℕ) (x o : Object TaggedValue)
     → object_at (with_object heap number x) n ≡ Some o → object_at heap n ≡ None → ⊥
-none_more heap zero n x o e f = none-some o (sym f ∙ e)
-none_more heap (suc k) zero x o e f = none-some o e
-none_more heap (suc k) (suc i) x o e f = set_none heap k i x o e f
+none_more heap number n x o h1 h2 = grind (arith, none-some, set_none)
 
 pub adds_none : (owner : Owner) (heap : Heap TaggedValue) (number : ℕ) (x : Object TaggedValue)
     → AddsFor owner heap (with_object heap number x)
@@ -125,8 +116,7 @@ new_only (x ∷ xs) (suc i) new y e f = new_only xs i new y e f
 -- one more is the new one
 pub adds_one : (owner : Owner) (heap : Heap TaggedValue) (new : Object TaggedValue) → IsPlainOf owner new
     → AddsFor owner heap (with_new heap new)
-adds_one owner heap new h zero o e f = absurd (none-some o e)
-adds_one owner heap new h (suc i) o e f = subst (IsPlainOf owner) (sym (new_only heap i new o e f)) h
+adds_one owner heap new h1 = grind (arith, none-some, new_only)
 
 -- ---- machines
 
@@ -173,20 +163,17 @@ pub top_runs : {C : Type 0} (around : Surroundings C) (m : Machine C) → RunsAp
 top_runs around m keeps p = top_is_applets keeps m p.machine
 
 pub is_apart_itself : {C : Type 0} (around : Surroundings C) (m : Machine C) → LeadsApart around m m
-is_apart_itself around m =
-    record { apart = λ keeps p. p.machine; kept = λ keeps q. q.now; statics = as_they_were refl }
+is_apart_itself around m = grind arith
 
 -- its frame goes on
 pub moved_apart : {C : Type 0} (keeps : C → Bool) (m : Machine C) (pc : ℕ) (locals operands : List TaggedValue)
     → IsApart keeps m → IsApart keeps (with_top m (moved m.top pc locals operands))
-moved_apart keeps m pc locals operands a =
-    record { objects = a.objects; statics = a.statics; frames = a.frames; kept = a.kept }
+moved_apart keeps m pc locals operands a = grind arith
 
 -- an access in the context of the frame that runs
 pub own_spares : {C : Type 0} (around : Surroundings C) (m : Machine C) (t : Touch)
     → t.active ≡ m.top.active.context → (keeps : C → Bool) → IsApartIn keeps around m → SparesPlain m.heap t
-own_spares around m t e keeps p f o there plain =
-    applets_not m.top.active (top_is_applets keeps m p.machine) (sym e ∙ f)
+own_spares around m t e keeps p f o there plain = grind (arith, applets_not, top_is_applets)
 
 -- a value may be held there
 abbrev pub IsHeld : {C : Type 0} → Surroundings C → Machine C → TaggedValue → Type 0
@@ -195,5 +182,4 @@ IsHeld {C} around m v = (keeps : C → Bool) → IsApartIn keeps around m → ma
 -- the frame that runs isn't the runtime's
 pub top_isnt_runtime : {C : Type 0} (keeps : C → Bool) (m : Machine C) → IsApart keeps m
     → (m.top.active.context == runtime_context) ≡ true → ⊥
-top_isnt_runtime keeps m a e =
-    applets_not m.top.active (top_is_applets keeps m a) (eqb-true m.top.active.context runtime_context e)
+top_isnt_runtime keeps m a e = grind (arith, applets_not, top_is_applets, eqb-true)

@@ -28,11 +28,10 @@ use Rattle.jc_machine.specs.Arrays.{stored_as}
 use Rattle.jc_machine.specs.Fields.{with_static, with_value, with_value_in}
 use Rattle.jc_machine.specs.Going.{Here, facts_of, storing}
 use Rattle.jc_machine.specs.Guarded.{is_allowed}
-use Rattle.jc_machine.specs.Lookup.{is_of_type, leads_to, mark_of, of_package, with_package}
+use Rattle.jc_machine.specs.Lookup.{is_of_type, leads_to, mark_of, of_package, with_package, fields_of}
 use Rattle.jc_machine.specs.Machine.{StaticValue}
 use Rattle.jc_machine.specs.Natives.{KeepsObjects}
 use Rattle.jc_machine.specs.Objects.{cells_of, initial}
-use Rattle.jc_machine.specs.Lookup.{fields_of}
 use Rattle.jc_machine.specs.Storable.{FieldsHoldStorable, HoldStorable, is_librarys, is_storable, may_be_held}
 use Rattle.jc_machine.specs.Storable.{may_be_static}
 use Rattle.jc_words.specs.Values.{Null, Ref, TaggedValue, Unset, Word}

@@ -1,21 +1,18 @@
 -- To whom a call switches: to the owner of its object, or to the runtime where the object isn't plain. So no method of
 -- a package runs as the runtime, whose objects have none.
-use Rattle.std.proofs.Common.{◌≡◌, ◌≢◌, ◌⊎◌, inl, inr, ℕ, ◌==◌, ◌&&◌, ◌||◌, Bool, true, false, not, cond, List, Option}
+use Rattle.std.proofs.Common.{◌≡◌, ◌≢◌, ◌⊎◌, inl, inr, ℕ, Bool, true, false, not, cond, List, Option, arith}
 use Rattle.std.proofs.Common.{Some, None, refl, sym, ap, ◌∙◌, subst, eqb-true, slice_get, unwrap_or}
 use Rattle.std.proofs.lemmas.Bool.{both_ways}
 use Rattle.std.proofs.lemmas.Option.{none-some, same_Some}
-use Rattle.std.specs.Option.{option_and_then, option_map, option_map_or}
+use Rattle.std.specs.Option.{option_and_then, option_map}
 use Rattle.jc_api.specs.Member.{ApiMember, member_of}
 use Rattle.jc_api.specs.Token.{is_same_class}
 use Rattle.jc_api.specs.declared.class.ApiClass.{ApiClass}
 use Rattle.jc_api.specs.declared.class.ApiClass.TheVariants as tables
 use Rattle.jc_cap_desc.specs.Shape.{Shape}
-use Rattle.jc_classes.specs.Methods.{interface_method_of, interface_visit, public_method_of, virtual_method_of}
+use Rattle.jc_classes.specs.Methods.{interface_method_of, public_method_of, virtual_method_of}
 use Rattle.jc_classes.specs.Walk.{found}
-use Rattle.jc_firewall.specs.Verdict.{Row, components, fields, interface_calls, is_entry_point, is_global_array}
-use Rattle.jc_firewall.specs.Verdict.{is_out_of_selection, is_own, casts, row_of, runtime, runtime_context}
-use Rattle.jc_firewall.specs.Verdict.{shared_calls, shared_casts, static_fields, stores_reference, is_never_stored}
-use Rattle.jc_firewall.specs.Verdict.{throws, verdict_for_runtime, verdict_in, verdict_of, virtual_calls}
+use Rattle.jc_firewall.specs.Verdict.{Row, runtime, runtime_context, verdict_in, verdict_of}
 use Rattle.jc_firewall.specs.declared.access.Access.{Access}
 use Rattle.jc_firewall.specs.declared.access.Facts.{Facts}
 use Rattle.jc_firewall.specs.declared.access.Rule.TheVariants as rules
@@ -29,8 +26,6 @@ use Rattle.jc_store.specs.Heap.{Heap, Object, object_at}
 use Rattle.jc_store.specs.declared.kind.Mark.{Mark}
 use Rattle.jc_store.specs.declared.kind.Mark.TheVariants.{Plain}
 use Rattle.jc_store.specs.declared.kind.ObjectType.{ObjectType}
-use Rattle.jc_store.specs.declared.kind.ObjectType.TheVariants.{BooleanArray, ByteArray, Instance, ReferenceArray}
-use Rattle.jc_store.specs.declared.kind.ObjectType.TheVariants.{ShortArray}
 use Rattle.jc_machine.specs.Apart.{HaveApiMembers, IsSetApart, has_no_code, is_applets, is_member}
 use Rattle.jc_machine.specs.Calls.{VirtualMember, virtual_member, virtual_member_in}
 use Rattle.jc_machine.specs.Lookup.{class_of, is_of_class}
@@ -58,8 +53,7 @@ stays_on : (f : Facts) (v : Verdict) → switched_by v ≡ None → Switches f v
 stays_on f v e owner g = absurd (none-some owner (sym e ∙ g))
 
 either : (f : Facts) (b : Bool) (v w : Verdict) → (b ≡ true → Switches f v) → Switches f w → Switches f (cond b v w)
-either f true v w h k = h refl
-either f false v w h k = k
+either f b v w h1 h2 = grind arith
 
 allowed_or : (f : Facts) (b : Bool) (w : Verdict) → Switches f w → Switches f (cond b Allowed w)
 allowed_or f b w k = either f b Allowed w (λ e. stays_on f Allowed refl) k
@@ -75,54 +69,12 @@ to_owner : (f : Facts) → Switches f (AllowedSwitch f.owner)
 to_owner f owner e = inl (same_Some owner f.owner (sym e))
 
 by_row : (r : Row) (active : ℕ) (f : Facts) → Switches f (verdict_in r active f)
-by_row static_fields active f = stays_on f Allowed refl
-by_row fields active f = allowed_or f (is_own active f) (Denied rules.Fields) (stays_on f (Denied rules.Fields) refl)
-by_row components active f =
-    either f (is_out_of_selection active f) (Denied rules.Selection)
-    (cond (is_own active f || is_global_array f.mark) Allowed (Denied rules.Components))
-    (λ e. stays_on f (Denied rules.Selection) refl)
-    (allowed_or f (is_own active f || is_global_array f.mark) (Denied rules.Components)
-    (stays_on f (Denied rules.Components) refl))
-by_row virtual_calls active f =
-    allowed_or f (is_own active f)
-    (cond (is_entry_point f.mark || is_global_array f.mark) (AllowedSwitch runtime) (Denied rules.Calls))
-    (either f (is_entry_point f.mark || is_global_array f.mark) (AllowedSwitch runtime) (Denied rules.Calls)
-    (λ e. to_runtime f (not_plain f (λ m. is_entry_point m || is_global_array m) refl e))
-    (stays_on f (Denied rules.Calls) refl))
-by_row interface_calls active f =
-    allowed_or f (is_own active f) (cond (is_entry_point f.mark) (AllowedSwitch runtime) (Denied rules.Calls))
-    (either f (is_entry_point f.mark) (AllowedSwitch runtime) (Denied rules.Calls)
-    (λ e. to_runtime f (not_plain f is_entry_point refl e)) (stays_on f (Denied rules.Calls) refl))
-by_row shared_calls active f =
-    allowed_or f (is_own active f)
-    (cond (is_entry_point f.mark) (AllowedSwitch runtime)
-    (cond f.is_shareable (AllowedSwitch f.owner) (Denied rules.SharedCalls)))
-    (either f (is_entry_point f.mark) (AllowedSwitch runtime)
-    (cond f.is_shareable (AllowedSwitch f.owner) (Denied rules.SharedCalls))
-    (λ e. to_runtime f (not_plain f is_entry_point refl e))
-    (either f f.is_shareable (AllowedSwitch f.owner) (Denied rules.SharedCalls) (λ e. to_owner f)
-    (stays_on f (Denied rules.SharedCalls) refl)))
-by_row throws active f =
-    allowed_or f (is_own active f || is_entry_point f.mark) (Denied rules.Throws)
-    (stays_on f (Denied rules.Throws) refl)
-by_row casts active f =
-    allowed_or f (is_own active f || is_entry_point f.mark) (Denied rules.Casts)
-    (stays_on f (Denied rules.Casts) refl)
-by_row shared_casts active f =
-    allowed_or f (is_own active f || is_entry_point f.mark || f.is_shareable) (Denied rules.SharedCasts)
-    (stays_on f (Denied rules.SharedCasts) refl)
+by_row r active f = grind (arith, stays_on, allowed_or, either, to_runtime, not_plain, to_owner)
 
 -- of an access that isn't in the runtime's name
 by_verdict : (access : Access) (active : ℕ) (f : Facts) → (active ≡ runtime_context → ⊥)
     → Switches f (verdict_of access active f)
-by_verdict access active f applets =
-    either f (active == runtime_context) (verdict_for_runtime (row_of access f) f)
-    (cond (stores_reference access && option_map_or is_never_stored f.stored false) (Denied rules.Storing)
-    (verdict_in (row_of access f) active f))
-    (λ e. absurd (applets (eqb-true active runtime_context e)))
-    (either f (stores_reference access && option_map_or is_never_stored f.stored false) (Denied rules.Storing)
-    (verdict_in (row_of access f) active f) (λ e. stays_on f (Denied rules.Storing) refl)
-    (by_row (row_of access f) active f))
+by_verdict access active f applets = grind (arith, either, eqb-true, stays_on, by_row)
 
 -- ---- objects without code
 
@@ -130,12 +82,7 @@ by_verdict access active f applets =
 pub no_loaded : (world : List Shape) → HaveApiMembers world → (t : ObjectType) → has_no_code t ≡ true
     → (token asker : ℕ) (name : MethodName) → virtual_method_of world (class_of t) token asker ≡ Some name
     → is_member name ≡ true
-no_loaded world api (Instance (classes.Api c)) h token asker name e = api.methods c token asker name e
-no_loaded world api (Instance (classes.Loaded number offset)) h token asker name e = absurd cc
-no_loaded world api BooleanArray h token asker name e = api.methods tables.Object token asker name e
-no_loaded world api ByteArray h token asker name e = api.methods tables.Object token asker name e
-no_loaded world api ShortArray h token asker name e = api.methods tables.Object token asker name e
-no_loaded world api (ReferenceArray c) h token asker name e = api.methods tables.Object token asker name e
+no_loaded world h1 t h2 token asker name h3 = grind arith
 
 -- and they are no applets
 not_object : is_same_class tables.Object tables.Applet ≡ true → ⊥
@@ -143,13 +90,7 @@ not_object e = both_ways (is_same_class tables.Object tables.Applet) refl e
 
 no_applet : (world : List Shape) → HaveApiMembers world → (t : ObjectType) → has_no_code t ≡ true
     → is_of_class world (classes.Api tables.Applet) t ≡ true → ⊥
-no_applet world api (Instance (classes.Api c)) h e =
-    both_ways (not (is_same_class c tables.Applet)) (ap not (api.applets c e)) h
-no_applet world api (Instance (classes.Loaded number offset)) h e = absurd cc
-no_applet world api BooleanArray h e = not_object (api.applets tables.Object e)
-no_applet world api ByteArray h e = not_object (api.applets tables.Object e)
-no_applet world api ShortArray h e = not_object (api.applets tables.Object e)
-no_applet world api (ReferenceArray c) h e = not_object (api.applets tables.Object e)
+no_applet world h1 t h2 h3 = grind (arith, both_ways, not, not_object)
 
 -- ---- methods that are found
 
@@ -157,8 +98,7 @@ no_applet world api (ReferenceArray c) h e = not_object (api.applets tables.Obje
 pub found_has_code : (world : List Shape) → HaveApiMembers world → (t : ObjectType) (token asker : ℕ)
     (name : MethodName) → virtual_method_of world (class_of t) token asker ≡ Some name → is_member name ≡ false
     → has_no_code t ≡ true → ⊥
-found_has_code world api t token asker name e loaded h =
-    both_ways (is_member name) loaded (no_loaded world api t h token asker name e)
+found_has_code world api t token asker name e loaded h = grind (arith, both_ways, no_loaded)
 
 -- what an interface's token leads to is a virtual method
 record IsVirtual (world : List Shape) (c : ClassName) (name : MethodName) : Type 0 where
@@ -167,35 +107,28 @@ record IsVirtual (world : List Shape) (c : ClassName) (name : MethodName) : Type
 
 if_public : (world : List Shape) (c : ClassName) (token : ℕ) (name : MethodName) (b : Bool)
     → cond b (virtual_method_of world c token 0) None ≡ Some name → IsVirtual world c name
-if_public world c token name true e = record { token = token; found = e }
-if_public world c token name false e = absurd (none-some name e)
+if_public world c token name b h1 = grind (arith, none-some)
 
 of_index : (world : List Shape) (c : ClassName) (name : MethodName) (index : Option ℕ)
     → option_and_then (public_method_of world c) index ≡ Some name → IsVirtual world c name
-of_index world c name None e = absurd (none-some name e)
-of_index world c name (Some token) e = if_public world c token name _ e
+of_index world c name index h1 = grind (arith, none-some, if_public)
 
 of_indexes : (world : List Shape) (c : ClassName) (token : ℕ) (name : MethodName) (indexes : Option (List ℕ))
     → option_and_then (λ xs. option_and_then (public_method_of world c) (slice_get xs token)) indexes ≡ Some name
     → IsVirtual world c name
-of_indexes world c token name None e = absurd (none-some name e)
-of_indexes world c token name (Some xs) e = of_index world c name (slice_get xs token) e
+of_indexes world c token name indexes h1 = grind (arith, none-some, of_index)
 
 pub listed_has_code : (world : List Shape) → HaveApiMembers world → (t : ObjectType) (interface : ClassName)
     (token : ℕ) (name : MethodName) → interface_method_of world (class_of t) interface token ≡ Some name
     → is_member name ≡ false → has_no_code t ≡ true → ⊥
-listed_has_code world api t interface token name e loaded h =
-    let v : IsVirtual world (class_of t) name =
-    of_indexes world (class_of t) token name (found (interface_visit world interface) world (class_of t)) e in
-    found_has_code world api t v.token 0 name v.found loaded h
+listed_has_code world api t interface token name e loaded h = grind (arith, of_indexes, found_has_code)
 
 -- ---- who runs
 
 -- the owner of an object with code
 owner_with_code : (heap : Heap TaggedValue) → IsSetApart heap → (number : ℕ) (o : Object TaggedValue)
     → object_at heap number ≡ Some o → (has_no_code o.kind.object ≡ true → ⊥) → is_applets o.owner ≡ true
-owner_with_code heap apart number o there code =
-    elim (applets_or o.owner) [ inl h ↦ h | inr c ↦ absurd (code (apart.others number o there c).codeless) ]
+owner_with_code heap apart number o there code = grind (arith, applets_or)
 
 -- where a call switches to one that becomes active, of a method that a package has, that one is an applet's
 pub switched_runs : (heap : Heap TaggedValue) → IsSetApart heap → (number : ℕ) (o : Object TaggedValue)
@@ -223,25 +156,17 @@ record IsOfMember (member : ℕ) (class : ClassName) : Type 0 where
 of_token : (member : ℕ) (m : ApiMember) → member_of member ≡ Some m → (v : VirtualMember) (token : Option ℕ)
     → option_map (λ t. record { class = classes.Api m.class; token = t }) token ≡ Some v
     → IsOfMember member v.class
-of_token member m found v None e = absurd (none-some v e)
-of_token member m found v (Some token) e =
-    let built : VirtualMember = record { class = classes.Api m.class; token = token } in record {
-      declared = m;
-      found = found;
-      is = ap (λ (x : VirtualMember). x.class) (sym (same_Some built v e));
-    }
+of_token member m h1 v token h2 = grind (arith, none-some, same_Some)
 
 of_declared : (world : List Shape) (member : ℕ) (v : VirtualMember) (m : Option ApiMember) → member_of member ≡ m
     → option_and_then (λ (x : ApiMember). virtual_member_in world (classes.Api x.class) member) m ≡ Some v
     → IsOfMember member v.class
-of_declared world member v None found e = absurd (none-some v e)
-of_declared world member v (Some m) found e = of_token member m found v _ e
+of_declared world member v m h1 h2 = grind (arith, none-some, of_token)
 
 -- the member that others call is Applet's
 of_applet : (number : ℕ) → number ≡ shareable_member → (m : ApiMember) → member_of number ≡ Some m
     → m.class ≡ tables.Applet
-of_applet number is m found =
-    sym (ap (λ o. option_map_or (λ (x : ApiMember). x.class) o tables.Applet) (ap member_of (sym is) ∙ found))
+of_applet number is m found = grind arith
 
 -- so the object of such a call has an applet's owner
 pub called_runs : (world : List Shape) → HaveApiMembers world → (heap : Heap TaggedValue) → IsSetApart heap

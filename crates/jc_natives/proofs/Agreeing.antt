@@ -1,14 +1,13 @@
 -- What tests come to on tagged values they come to on words without tags, or they are stuck.
-use Rattle.std.proofs.Common.{◌≡◌, ℕ, zero, suc, ◌==◌, ◌&&◌, ◌||◌, Bool, true, false, cond, List, [], ◌∷◌, ◌++◌}
+use Rattle.std.proofs.Common.{◌≡◌, ℕ, zero, suc, ◌==◌, ◌||◌, Bool, true, false, cond, List, [], ◌∷◌, ◌++◌}
 use Rattle.std.proofs.Common.{append_assoc, map, slice_get, Option, Some, None, refl, sym, ap, subst, ◌∙◌, arith}
 use Rattle.std.proofs.lemmas.Bool.{eqb-true}
 use Rattle.std.specs.Option.{option_map, option_map_or}
 use Rattle.jc_firewall.specs.Verdict.{verdict_of}
 use Rattle.jc_firewall.specs.declared.access.Verdict.{Verdict}
-use Rattle.jc_firewall.specs.declared.access.Verdict.TheVariants.{Allowed, AllowedSwitch, Denied}
 use Rattle.jc_link.specs.Linked.{World}
 use Rattle.jc_machine.specs.Going.{facts_in}
-use Rattle.jc_machine.specs.Guarded.{are_allowed, is_allowed}
+use Rattle.jc_machine.specs.Guarded.{are_allowed}
 use Rattle.jc_machine.specs.Machine.{NativeCall, Touch}
 use Rattle.jc_natives.proofs.Bare.{bare_object}
 use Rattle.jc_natives.proofs.Matching.{Only, at_length, at_object, at_reference, at_word, both_aids, just, nothing}
@@ -73,13 +72,7 @@ stops u = stuck u.touches refl refl refl
 
 all_allowed : (xs ys : List Touch) → are_allowed xs ≡ true → are_allowed ys ≡ true → are_allowed (xs ++ ys) ≡ true
 all_allowed [] ys e f = f
-all_allowed (x ∷ xs) ys e f = by_first (is_allowed x.verdict) e (all_allowed xs ys)
-  where
-    by_first : (b : Bool) → (b && are_allowed xs) ≡ true
-        → (are_allowed xs ≡ true → are_allowed ys ≡ true → are_allowed (xs ++ ys) ≡ true)
-        → (b && are_allowed (xs ++ ys)) ≡ true
-    by_first true g rest = rest g f
-    by_first false g rest = absurd cc
+all_allowed (x ∷ xs) ys e f = grind (arith, all_allowed xs ys)
 
 -- one test behind another
 module _ (ts us : List Touch) (t : Checked) (u : Tested) where
@@ -110,17 +103,8 @@ follow : (t t2 : Checked) (u u2 : Tested) → Agrees t u → Agrees t2 u2
     → Agrees (checks.followed t t2) (followed u u2)
 follow t t2 u u2 a b = both_follow t.touches u.touches t2 u2 t.ends u.thrown a b
 
-either_agrees : (b : Bool) (t t2 : Checked) (u u2 : Tested) → Agrees t u → Agrees t2 u2
-    → Agrees (cond b t t2) (cond b u u2)
-either_agrees true t t2 u u2 a c = a
-either_agrees false t t2 u u2 a c = c
-
 not_zero : (n : ℕ) → (suc n == 0) ≡ false
-not_zero n = by_test (suc n == 0) refl
-  where
-    by_test : (b : Bool) → (suc n == 0) ≡ b → b ≡ false
-    by_test true e = let f = eqb-true (suc n) 0 e in absurd (omega (arith, f))
-    by_test false e = refl
+not_zero n = grind (arith, eqb-true)
 
 module _ (w : World) (call : NativeCall Kept) where
   abbrev h : Called
@@ -141,23 +125,15 @@ module _ (w : World) (call : NativeCall Kept) where
   same_verdict : (way : Way) (o : Object TaggedValue)
       → verdict_of (access_of way) call.active.context (facts_in w.shapes call.selected o None false)
       ≡ verdict_of (access_of way) call.active.context (facts_of s (bare o))
-  same_verdict ways.Fields o = refl
-  same_verdict ways.Loads o = refl
-  same_verdict ways.Stores o = refl
-  same_verdict ways.Calls o = refl
+  same_verdict way o = grind arith
 
   verdict_agrees : (way : Way) (number : ℕ) (v : Verdict)
       → Agrees (checks.by_verdict h way number v) (by_verdict s way number v)
-  verdict_agrees way number Allowed = same refl refl (λ e. refl)
-  verdict_agrees way number (AllowedSwitch owner) = same refl refl (λ e. refl)
-  verdict_agrees way number (Denied rule) = same refl refl (λ e. absurd cc)
+  verdict_agrees way number v = grind arith
 
   judged_agrees : (way : Way) (number : ℕ) (o : Object TaggedValue)
       → Agrees (checks.judged h way number o) (on_object s way number (Some (bare o)))
-  judged_agrees way number o =
-      subst (λ v. Agrees (checks.judged h way number o) (by_verdict s way number v)) (same_verdict way o)
-      (verdict_agrees way number
-      (verdict_of (access_of way) call.active.context (facts_in w.shapes call.selected o None false)))
+  judged_agrees way number o = grind (arith, same_verdict, verdict_agrees)
 
   -- an object, where null comes to something of its own
   module _ (way : Way) (null : Checked) (also : Tested) (nulls : Agrees null also) where
@@ -197,8 +173,7 @@ module _ (w : World) (call : NativeCall Kept) where
 
   -- null is no object
   not_null : (way : Way) (number : ℕ) → cond (number == 0) (fails 6) (used s way number) ≡ used s way number
-  not_null way zero = refl
-  not_null way (suc n) = ap (λ b. cond b (fails 6) (used s way (suc n))) (not_zero n)
+  not_null way number = grind (arith, not_zero)
 
   object_used : (place : ℕ) (way : Way)
       → Agrees (uses h place way (refused 6)) (used s way (argument args place))
@@ -244,12 +219,7 @@ module _ (w : World) (call : NativeCall Kept) where
       → Agrees (option_map_or in_range o unfit) (cond b passes (fails 4))
   by_range o b (nothing e) =
       subst (λ x. Agrees (option_map_or in_range x unfit) (cond b passes (fails 4))) (sym e) (stops _)
-  by_range o b (just e) =
-      subst (λ x. Agrees (option_map_or in_range x unfit) (cond b passes (fails 4))) (sym e) (by_fit b)
-    where
-      by_fit : (b : Bool) → Agrees (in_range b) (cond b passes (fails 4))
-      by_fit true = same refl refl (λ e. refl)
-      by_fit false = same refl refl (λ e. absurd cc)
+  by_range o b (just e) = grind (arith, just)
 
   -- ---- rows
 
@@ -268,12 +238,7 @@ module _ (w : World) (call : NativeCall Kept) where
 
   -- the last one
   last_of : (r : Option Range) → followed (ranged s args r) passes ≡ ranged s args r
-  last_of None = refl
-  last_of (Some r) = by_fit (is_in_range s args r)
-    where
-      by_fit : (b : Bool) → followed (cond b passes (fails 4)) passes ≡ cond b passes (fails 4)
-      by_fit true = refl
-      by_fit false = refl
+  last_of r = grind arith
 
   pub tests_agree : (row : Row) → Agrees (checks.tested h (checks_of row)) (tested s args row)
   tests_agree row =

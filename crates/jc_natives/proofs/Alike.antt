@@ -1,6 +1,6 @@
 -- What a member answers on tagged values is what it answers on words without tags, or it is stuck behind some of the
 -- accesses, all of which were allowed.
-use Rattle.std.proofs.Common.{◌≡◌, ℕ, Bool, true, false, cond, List, [], ◌++◌, Option, Some, None, refl, sym, ap}
+use Rattle.std.proofs.Common.{◌≡◌, ℕ, Bool, true, false, cond, List, [], ◌++◌, Option, Some, None, refl, sym, ap, arith}
 use Rattle.std.proofs.Common.{append_assoc, subst, ◌∙◌}
 use Rattle.std.proofs.lemmas.List.{append-nil}
 use Rattle.jc_api.specs.Numbered.{numbered}
@@ -14,14 +14,14 @@ use Rattle.jc_natives.proofs.Working.{member_does, same_tests}
 use Rattle.jc_natives.specs.Checks as checks
 use Rattle.jc_natives.specs.Checks.{Check, Passed, Refused, TestEnd, Unfit}
 use Rattle.jc_natives.specs.Kept.{Kept}
-use Rattle.jc_natives.specs.Meaning.{answer_of, begun, done, ended, own_touches, unchanged, with_room}
+use Rattle.jc_natives.specs.Meaning.{answer_of, begun, done, ended, unchanged, with_room}
 use Rattle.jc_natives.specs.Members.{member_of_native, natives}
 use Rattle.jc_natives.specs.PrivateMeaning.{answer_on_words, begun_on_words, ended_on_words, work_of}
 use Rattle.jc_natives.specs.PrivateRows.{row_of}
 use Rattle.jc_natives.specs.PrivateSeen.{Seen, arguments_of, seen_of}
 use Rattle.jc_natives.specs.PrivateTests.{tested}
 use Rattle.jc_natives.specs.Taking.{Called, called}
-use Rattle.jc_natives.specs.Work.{Asks, Does, Makes, Work}
+use Rattle.jc_natives.specs.Work.{Work}
 use Rattle.jc_natives.specs.declared.native.Native.{Native}
 
 pub data IsLike (call : NativeCall Kept) (a b : NativeAnswer Kept) : Type 0 where
@@ -36,15 +36,11 @@ record BeginsWith (call : NativeCall Kept) (touches : List Touch) (a : NativeAns
 
 done_begins : (call : NativeCall Kept) (touches : List Touch) (work : Work)
     → BeginsWith call touches (done call touches work)
-done_begins call touches (Does writes k ending) = record { rest = own_touches call.heap writes; is = refl }
-done_begins call touches (Makes array) = record { rest = []; is = sym (append-nil touches) }
-done_begins call touches (Asks question) = record { rest = []; is = sym (append-nil touches) }
+done_begins call touches work = grind (arith, append-nil)
 
 ended_begins : (call : NativeCall Kept) (touches : List Touch) (thrown : Option ℕ) (work : Work)
     → BeginsWith call touches (ended_on_words call touches thrown work)
-ended_begins call touches (Some object) work = record { rest = []; is = sym (append-nil touches) }
-ended_begins call touches None work =
-    done_begins call touches (with_room call.limits.objects call.limits.cells call.heap call.runtime work)
+ended_begins call touches thrown work = grind (arith, append-nil, done_begins)
 
 -- how tests end, and what is done then
 module _ (call : NativeCall Kept) (ts us : List Touch) (o : Option Work) (work : Work) (only : Only o work) where

@@ -1,26 +1,21 @@
 -- Each answer of a native member is guarded.
-use Rattle.std.proofs.Common.{◌≡◌, ◌⊎◌, inl, inr, ℕ, zero, suc, ◌==◌, ◌||◌, Bool, true, false, cond, List, [], ◌∷◌}
-use Rattle.std.proofs.Common.{◌++◌, length, map, slice_get, Option, Some, None, refl, sym, ap, subst, ◌∙◌, arith}
+use Rattle.std.proofs.Common.{◌≡◌, ◌⊎◌, inl, inr, ℕ, zero, suc, Bool, true, false, cond, List, [], ◌∷◌}
+use Rattle.std.proofs.Common.{◌++◌, length, slice_get, Option, Some, None, refl, sym, ap, subst, ◌∙◌, arith}
 use Rattle.std.proofs.lemmas.Bool.{eq-eqb}
 use Rattle.std.proofs.lemmas.List.{length-replicate}
-use Rattle.std.proofs.lemmas.Option.{none-some, same_Some}
+use Rattle.std.proofs.lemmas.Option.{none-some, same_Some, slice_get_cases, slice_get_past}
 use Rattle.std.specs.List.{AllByRecursion}
-use Rattle.std.specs.Option.{option_map, option_map_or}
 use Rattle.jc_api.specs.Numbered.{numbered}
-use Rattle.jc_firewall.specs.Verdict.{verdict_of}
 use Rattle.jc_firewall.specs.declared.access.Verdict.{Verdict}
-use Rattle.jc_firewall.specs.declared.access.Verdict.TheVariants.{Allowed, AllowedSwitch, Denied}
 use Rattle.jc_link.specs.Linked.{World}
 use Rattle.jc_machine.specs.Calls.{native_may_begin}
-use Rattle.jc_machine.specs.Guarded.{AreGuarded, ChangesAccessed, allowed, are_allowed, denied}
-use Rattle.jc_machine.specs.Guarded.{AddsFor, IsJudged, is_runtimes}
+use Rattle.jc_machine.specs.Guarded.{AreGuarded, ChangesAccessed, allowed, are_allowed, denied, AddsFor, IsJudged}
 use Rattle.jc_machine.specs.Machine.{ByRuntime, Callback, Calls, IsStuck, NativeCall, NativeEnd, ThrowsObject, Touch}
-use Rattle.jc_machine.specs.Natives.{IsGuardedAnswer, IsModest, IsOfReceiver, IsRefusedAnswer, IsWithin}
-use Rattle.jc_machine.specs.Natives.{KeepsObjects, setting_for, shareable_member}
+use Rattle.jc_machine.specs.Natives.{IsGuardedAnswer, IsModest, IsOfReceiver, IsRefusedAnswer, IsWithin, KeepsObjects}
+use Rattle.jc_machine.specs.Natives.{setting_for, shareable_member, IsUnchanged}
 use Rattle.jc_machine.specs.Runtime.{security_exception, system_exception}
-use Rattle.jc_natives.specs.Cells.{Write, bits, has_room, written}
-use Rattle.jc_natives.specs.Checks.{access_of}
-use Rattle.jc_natives.specs.Kept.{Kept, aid_object}
+use Rattle.jc_natives.specs.Cells.{Write, has_room, written}
+use Rattle.jc_natives.specs.Kept.{Kept}
 use Rattle.jc_natives.specs.Meaning.{answer_of, array_or_refusal, did, done, end_of, made, meaning, new_array}
 use Rattle.jc_natives.specs.Meaning.{own_touches, registering, unchanged, with_room}
 use Rattle.jc_natives.specs.Members.{natives}
@@ -28,48 +23,32 @@ use Rattle.jc_natives.specs.PrivateCells.{argument}
 use Rattle.jc_natives.specs.PrivateMeaning.{answer_on_words, begun_on_words, ended_on_words, work_of}
 use Rattle.jc_natives.specs.PrivateRows.{row_of}
 use Rattle.jc_natives.specs.PrivateSeen.{Seen, arguments_of, seen_of}
-use Rattle.jc_natives.specs.PrivateTests.{Tested, by_verdict, facts_of, followed, goes_on, on_object, ranged, test}
-use Rattle.jc_natives.specs.PrivateTests.{tested, used}
-use Rattle.jc_natives.specs.Work.{Asks, Does, Ending, GivesReference, GivesWord, Makes, NewArray, NoResult, Throws}
-use Rattle.jc_natives.specs.Work.{Work, no_transient_space}
+use Rattle.jc_natives.specs.PrivateTests.{Tested, by_verdict, followed, on_object, tested, used}
+use Rattle.jc_natives.specs.Work.{Asks, Does, Ending, Makes, NewArray, Throws, Work, no_transient_space}
 use Rattle.jc_natives.specs.declared.native.Native.{Native}
-use Rattle.jc_natives.specs.declared.row.Test.TheVariants.{Nothing}
 use Rattle.jc_natives.specs.declared.row.Test.TheVariants as tests
 use Rattle.jc_natives.specs.declared.row.Way.TheVariants as ways
 use Rattle.jc_store.specs.Heap.{Heap, Object, object_at, with_new}
-use Rattle.jc_words.specs.Values.{TaggedValue, Word}
-use Rattle.std.proofs.Common.{get_or, ◌<◌, ◌≤◌}
-use Rattle.std.proofs.lemmas.Option.{slice_get_cases, slice_get_past}
+use Rattle.jc_words.specs.Values.{TaggedValue, Word, Ref}
 use Rattle.jc_machine.specs.Machine.{Gives, NativeAnswer}
-use Rattle.jc_machine.specs.Natives.{IsUnchanged}
-use Rattle.jc_machine.specs.Runtime.{apdu_buffer, apdu_exception, iso_exception}
 use Rattle.jc_natives.proofs.Alike.{IsLike, alike, answers_alike, stops}
 use Rattle.jc_natives.proofs.Guarding.{ArePlaced, IsPlaced, IsUse, Refuses, all_both, allowed_both}
 use Rattle.jc_natives.proofs.Guarding.{changes_accessed, got_front, keeps_itself, keeps_new, keeps_written, made_within}
 use Rattle.jc_natives.proofs.Guarding.{natives_of, own_allowed, own_natives, same_found, tested_uses, written_as_large}
 use Rattle.jc_natives.proofs.Reaching.{row_reaches}
 use Rattle.jc_natives.proofs.Spared.{IsApartWork, SparesOwn, all_throw_own, throws_own, work_apart}
-use Rattle.jc_natives.specs.declared.kept.Installing.{Installing}
 use Rattle.jc_natives.specs.declared.native.AppletNative.TheVariants as applets
 use Rattle.jc_natives.specs.declared.native.Native.TheVariants.{OfApplet}
-use Rattle.jc_words.specs.Values.{Ref}
 
 -- ---- objects that weren't there
 
 none_more : (before after : Heap TaggedValue) (n : ℕ) (o : Object TaggedValue) → length after ≡ length before
     → slice_get after n ≡ Some o → slice_get before n ≡ None → ⊥
-none_more before after n o same is none = by_length (slice_get_cases before n).1
-  where
-    by_length : ((x : Object TaggedValue) × (n < length before) × (slice_get before n ≡ Some x)
-        × (get_or before n x ≡ x)) ⊎ ((length before ≤ n) × (slice_get before n ≡ None)) → ⊥
-    by_length (inl c) = none-some c.0 (sym none ∙ c.2)
-    by_length (inr c) =
-        let low = c.0 in none-some o (sym (slice_get_past after n (omega (arith, same, low))) ∙ is)
+none_more before after n o same is none = grind (arith, slice_get_cases, none-some, slice_get_past)
 
 none_new : (before after : Heap TaggedValue) (number : ℕ) (o : Object TaggedValue) → length after ≡ length before
     → object_at after number ≡ Some o → object_at before number ≡ None → ⊥
-none_new before after zero o same is none = none-some o is
-none_new before after (suc n) o same is none = none_more before after n o same is none
+none_new before after number o h1 h2 h3 = grind (arith, none-some, none_more)
 
 last_is : {A : Type 0} (xs : List A) (x y : A) (n : ℕ) → slice_get (xs ++ x ∷ []) n ≡ Some y → slice_get xs n ≡ None
     → y ≡ x
@@ -80,40 +59,14 @@ last_is (z ∷ xs) x y (suc n) e f = last_is xs x y n e f
 
 pub new_is : (heap : Heap TaggedValue) (x y : Object TaggedValue) (number : ℕ) → object_at (with_new heap x) number ≡ Some y
     → object_at heap number ≡ None → y ≡ x
-new_is heap x y zero e f = absurd (none-some y e)
-new_is heap x y (suc n) e f = last_is heap x y n e f
+new_is heap x y number h1 h2 = grind (arith, none-some, last_is)
 
 -- ---- answers
 
 -- what the runtime writes in its own name is named
 owns : (call : NativeCall Kept) (touches : List Touch)
     → SparesOwn (IsPlaced (registering call.runtime) touches) call.runtime
-owns call touches = record {
-  iso = record { code = λ e. absurd cc; runtime = λ e. refl };
-  system = record { code = λ e. absurd cc; runtime = λ e. refl };
-  apdu = record { code = λ e. absurd cc; runtime = λ e. refl };
-  buffer = record { code = λ e. absurd cc; runtime = λ e. refl };
-  registers = λ i e. record {
-    code = λ f. absurd cc;
-    runtime = λ f.
-        is_registered (aid_object i.owner.instance)
-        (ap (λ (o : Option Installing). option_map (λ (x : Installing). aid_object x.owner.instance) o) e);
-  };
-}
-  where
-    last_is_true : (a b c d e : Bool) → e ≡ true → (a || b || c || d || e) ≡ true
-    last_is_true true b c d e f = refl
-    last_is_true false true c d e f = refl
-    last_is_true false false true d e f = refl
-    last_is_true false false false true e f = refl
-    last_is_true false false false false e f = f
-
-    is_registered : (number : ℕ) → registering call.runtime ≡ Some number
-        → is_runtimes (registering call.runtime) number ≡ true
-    is_registered number e =
-        last_is_true (number == iso_exception) (number == system_exception) (number == apdu_exception)
-        (number == apdu_buffer) (option_map_or (λ n. n == number) (registering call.runtime) false)
-        (ap (λ o. option_map_or (λ n. n == number) o false) e ∙ eq-eqb number number refl)
+owns call touches = grind (arith, eq-eqb)
 
 -- ---- what it comes to, but for modesty
 
@@ -128,10 +81,7 @@ record IsFine (w : World) (call : NativeCall Kept) (a : NativeAnswer Kept) : Typ
   asks : (callback : Callback) → a.ends ≡ Calls callback → callback.member ≡ shareable_member
 
 pub no_call : (ending : Ending) (callback : Callback) → end_of ending ≡ Calls callback → ⊥
-no_call NoResult callback e = cc
-no_call (GivesWord word) callback e = cc
-no_call (GivesReference number) callback e = cc
-no_call (Throws object) callback e = cc
+no_call ending callback h1 = grind arith
 
 abbrev asks_only : NativeEnd → Type 0
 asks_only ends = (callback : Callback) → ends ≡ Calls callback → callback.member ≡ shareable_member
@@ -150,17 +100,7 @@ module _ (w : World) (call : NativeCall Kept) where
   unchanged_fine : (touches : List Touch) (ends : NativeEnd) → AllByRecursion (IsUse w call) touches
       → AreGuarded touches (IsRefusedAnswer call (unchanged call touches ends)) → asks_only ends
       → IsFine w call (unchanged call touches ends)
-  unchanged_fine touches ends uses guarded asks = record {
-    touches = natives_of w call touches uses;
-    guarded = guarded;
-    kept = keeps_itself call.heap;
-    changes = λ number o p before after.
-        inl (ap (λ (x : Object TaggedValue). x.cells) (same_found (object_at call.heap number) o p before after));
-    adds = λ number o found none. absurd (none-some o (sym none ∙ found));
-    room = λ within. within;
-    calls = λ callback e. record { heap = refl; runtime = refl };
-    asks = asks;
-  }
+  unchanged_fine touches ends uses guarded asks = grind (arith, natives_of, keeps_itself, same_found, none-some)
 
   did_fine : (touches : List Touch) (writes : List Write) (k : Kept) (ending : Ending)
       → AllByRecursion (IsUse w call) touches → are_allowed touches ≡ true
@@ -208,11 +148,7 @@ module _ (w : World) (call : NativeCall Kept) where
     where
       stays : (number : ℕ) (o p : Object TaggedValue) → object_at call.heap number ≡ Some o
           → object_at (with_new call.heap (new_array call.active array)) number ≡ Some p → p.cells ≡ o.cells
-      stays zero o p before after = absurd (none-some o before)
-      stays (suc n) o p before after =
-          ap (λ (x : Object TaggedValue). x.cells)
-          (same_found (slice_get (call.heap ++ new_array call.active array ∷ []) n) o p
-          (got_front call.heap (new_array call.active array ∷ []) n o before) after)
+      stays number o p h1 h2 = grind (arith, none-some, same_found, got_front)
 
   -- what it does, where what it writes is as it should be
   done_fine : (touches : List Touch) (work : Work) → AllByRecursion (IsUse w call) touches
@@ -298,52 +234,32 @@ module _ (w : World) (call : NativeCall Kept) where
 
     followed_of : (t u : Tested) → AllByRecursion Of t.touches → AllByRecursion Of u.touches
         → AllByRecursion Of (followed t u).touches
-    followed_of t u h k = by_end t.thrown
-      where
-        by_end : (thrown : Option ℕ) → AllByRecursion Of (goes_on t.touches thrown u).touches
-        by_end (Some object) = h
-        by_end None = all_both Of t.touches u.touches h k
+    followed_of t u h k = grind (arith, all_both)
 
     verdict_of_it : (v : Verdict) → AllByRecursion Of (by_verdict s ways.Calls number v).touches
-    verdict_of_it Allowed = (record { is = refl; access = refl; by = refl }, tt)
-    verdict_of_it (AllowedSwitch owner) = (record { is = refl; access = refl; by = refl }, tt)
-    verdict_of_it (Denied rule) = (record { is = refl; access = refl; by = refl }, tt)
+    verdict_of_it v = grind arith
 
     object_of_it : (o : Option (Object ℕ)) → AllByRecursion Of (on_object s ways.Calls number o).touches
-    object_of_it None = tt
-    object_of_it (Some o) = verdict_of_it (verdict_of (access_of ways.Calls) s.active.context (facts_of s o))
+    object_of_it o = grind (arith, verdict_of_it)
 
     used_of_it : AllByRecursion Of (used s ways.Calls (argument args 0)).touches
-    used_of_it =
-        subst (λ n. AllByRecursion Of (used s ways.Calls n).touches)
-        (sym (ap (λ vs. argument (map bits vs) 0) first)) (object_of_it (object_at s.objects number))
+    used_of_it = grind (arith, object_of_it)
 
     abbrev shareable : Native
     shareable = OfApplet applets.GetShareable
 
     row_of_it : AllByRecursion Of (tested s args (row_of shareable)).touches
-    row_of_it =
-        let ranges = followed (ranged s args None) (ranged s args None) in
-        let passed = test s args tests.Nothing in
-        followed_of (used s ways.Calls (argument args 0)) (followed passed ranges) used_of_it
-        (followed_of passed ranges tt (followed_of (ranged s args None) (ranged s args None) tt tt))
+    row_of_it = grind (arith, followed_of, used_of_it)
 
     modest_end : (thrown : Option ℕ)
         → IsModest number call (ended_on_words call (tested s args (row_of shareable)).touches thrown
         (work_of s call.runtime args shareable))
-    modest_end (Some object) = record { touches = row_of_it; unchanged = record { heap = refl; runtime = refl } }
-    modest_end None = record {
-      touches = all_both Of (tested s args (row_of shareable)).touches [] row_of_it tt;
-      unchanged = record { heap = refl; runtime = refl };
-    }
+    modest_end thrown = grind (arith, row_of_it, all_both)
 
     modest_begun : (b : Bool) → call.member ≡ shareable_member
         → IsModest number call (cond b (begun_on_words w call (numbered natives call.member))
         (unchanged call [] IsStuck))
-    modest_begun true is =
-        subst (λ (o : Option Native). IsModest number call (begun_on_words w call o)) (sym (ap (numbered natives) is))
-        (modest_end (tested s args (row_of shareable)).thrown)
-    modest_begun false is = record { touches = tt; unchanged = record { heap = refl; runtime = refl } }
+    modest_begun b h1 = grind (arith, modest_end)
 
 -- each answer on words is guarded
 words_guarded : (w : World) (call : NativeCall Kept) → IsGuardedAnswer meaning w call (answer_on_words w call)
@@ -374,21 +290,7 @@ module _ (w : World) (call : NativeCall Kept) (touches rest : List Touch) (b : N
 
   stuck_guarded : are_allowed touches ≡ true → IsGuardedAnswer meaning w call b
       → IsGuardedAnswer meaning w call (unchanged call touches IsStuck)
-  stuck_guarded fine g = record {
-    touches = front_of (IsJudged (setting_for meaning w call)) g.touches;
-    guarded = allowed fine;
-    kept = keeps_itself call.heap;
-    changes = λ number o p before after.
-        inl (ap (λ (x : Object TaggedValue). x.cells) (same_found (object_at call.heap number) o p before after));
-    adds = λ number o found none. absurd (none-some o (sym none ∙ found));
-    room = λ within. within;
-    calls = λ callback e. record { heap = refl; runtime = refl };
-    asks = λ callback e. absurd cc;
-    modest = λ number others is first. record {
-      touches = front_of (IsOfReceiver number) (g.modest number others is first).touches;
-      unchanged = record { heap = refl; runtime = refl };
-    };
-  }
+  stuck_guarded fine g = grind (arith, front_of, keeps_itself, same_found, none-some)
 
 -- each answer is guarded
 pub answers_guarded : (w : World) (call : NativeCall Kept) → IsGuardedAnswer meaning w call (answer_of w call)

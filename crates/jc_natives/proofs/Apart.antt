@@ -1,6 +1,6 @@
 -- The law of the runtime's name: a member accesses no plain object in it, and what the runtime keeps names applets.
-use Rattle.std.proofs.Common.{◌≡◌, ◌≢◌, inl, inr, ℕ, ◌==◌, ◌&&◌, ◌-◌, not, Bool, true, false, cond, List, [], ◌∷◌}
-use Rattle.std.proofs.Common.{length, Option, Some, None, refl, sym, ap, subst, ◌∙◌}
+use Rattle.std.proofs.Common.{◌≡◌, ◌≢◌, inl, inr, ℕ, ◌==◌, ◌-◌, not, Bool, true, false, cond, List, [], ◌∷◌, arith}
+use Rattle.std.proofs.Common.{Option, Some, None, refl, sym, ap, subst, ◌∙◌, ◌||◌}
 use Rattle.std.proofs.lemmas.Bool.{eq-eqb, eqb-true}
 use Rattle.std.specs.List.{AllByRecursion, list_all}
 use Rattle.std.specs.Option.{option_map, option_map_or}
@@ -8,7 +8,6 @@ use Rattle.jc_api.specs.Numbered.{numbered}
 use Rattle.jc_firewall.specs.Verdict.{runtime, runtime_context}
 use Rattle.jc_link.specs.Linked.{World}
 use Rattle.std.specs.Prelude.{⊤}
-use Rattle.std.proofs.Common.{◌||◌}
 use Rattle.jc_machine.specs.Apart.{AreNativesApart, IsSetApart, SparesPlain, is_applets}
 use Rattle.jc_machine.specs.Guarded.{IsActive, IsJudged, is_runtimes}
 use Rattle.jc_machine.specs.Natives.{setting_for}
@@ -29,8 +28,7 @@ use Rattle.jc_machine.specs.Storable.{HoldStorable}
 use Rattle.jc_natives.proofs.Keeping.{both_are}
 use Rattle.jc_natives.proofs.Spared.{IsApartWork, SparesOwn, all_throw_own, roomy_apart, work_apart}
 use Rattle.jc_natives.specs.Apart.{installs_applet, names_applets}
-use Rattle.jc_natives.specs.Kept.{Kept, after_install, aid_object, has_registered, is_instance_number, kept_instances}
-use Rattle.jc_natives.specs.Kept.{with_install}
+use Rattle.jc_natives.specs.Kept.{Kept, after_install, aid_object, is_instance_number, with_install}
 use Rattle.jc_natives.specs.Meaning.{answer_of, done, meaning, registering, unchanged, with_room}
 use Rattle.jc_natives.specs.Members.{natives}
 use Rattle.jc_natives.specs.PrivateApplets.{owner_of}
@@ -58,9 +56,7 @@ SparesAt heap number = (o : Object TaggedValue) → object_at heap number ≡ So
 
 own_spares : (heap : Heap TaggedValue) (row : RuntimeObject) → HasRuntimeObject heap row → row.mark ≢ Plain
     → SparesAt heap row.number
-own_spares heap row has apart o found plain =
-    apart (sym has.mark ∙ ap (λ (x : Object TaggedValue). x.kind.mark)
-    (same_found (object_at heap row.number) o has.object found has.found) ∙ plain)
+own_spares heap row has apart o found plain = grind (arith, same_found)
 
 temporary_is_not : TemporaryEntryPoint ≢ Plain
 temporary_is_not e = cc
@@ -76,11 +72,7 @@ module _ (heap : Heap TaggedValue) (has : HasRuntimeObjects heap) (k : Kept) (na
   spares_registered : (number : ℕ) (o : Option Installing) → option_map_or installs_applet o true ≡ true
       → option_map_or (λ n. n == number) (option_map (λ (i : Installing). aid_object i.owner.instance) o) false ≡ true
       → SparesAt heap number
-  spares_registered number None installs e = absurd (unequal e)
-  spares_registered number (Some i) installs e =
-      subst (SparesAt heap) (eqb-true (aid_object i.owner.instance) number e)
-      (own_spares heap _ (own_aid heap i.owner.instance has
-      (both (is_applets i.owner) (is_instance_number i.owner.instance) installs).1) permanent_is_not)
+  spares_registered number o h1 h2 = grind (arith, unequal, eqb-true, own_spares, own_aid, both, permanent_is_not)
 
   spares_exact : (number own : ℕ) → SparesAt heap own → (number == own) ≡ true → SparesAt heap number
   spares_exact number own spares e = subst (SparesAt heap) (sym (eqb-true number own e)) spares
@@ -122,12 +114,7 @@ owner_in o = option_map_or (λ object. object.owner) o runtime
 
 not_runtime : (owner : Owner) → (owner.context ≡ runtime_context → owner.instance ≡ 0)
     → is_instance_number owner.instance ≡ true → is_applets owner ≡ true
-not_runtime owner none e = by_context (owner.context == runtime_context) refl
-  where
-    by_context : (b : Bool) → (owner.context == runtime_context) ≡ b → not b ≡ true
-    by_context true f =
-        absurd (unequal (sym (ap is_instance_number (none (eqb-true owner.context runtime_context f))) ∙ e))
-    by_context false f = refl
+not_runtime owner none e = grind (arith, not, unequal, eqb-true)
 
 -- an object of an instance that has a number is no object of the runtime's
 owners_apart : (heap : Heap TaggedValue) → IsSetApart heap → (number : ℕ)
@@ -172,9 +159,7 @@ module _ (w : World) (call : NativeCall Kept) (apart : IsSetApart call.heap)
 
   done_kept : (touches : List Touch) (work : Work) → IsApartWork Any s call.runtime work
       → names_applets (done call touches work).runtime ≡ true
-  done_kept touches (Does writes k ending) h = h.1 (owners_apart call.heap apart) kept
-  done_kept touches (Makes array) h = kept
-  done_kept touches (Asks question) h = kept
+  done_kept touches work h1 = grind (arith, owners_apart)
 
   begun_kept : (number : ℕ) (o : Option Native) → numbered natives number ≡ o
       → names_applets (begun_on_words w call o).runtime ≡ true
@@ -260,19 +245,8 @@ of_applet i = is_applets i.owner
 
 pub begun_named : (k : Kept) → names_applets k ≡ true → (owner : Owner) (aid : List ℕ) → is_applets owner ≡ true
     → is_instance_number owner.instance ≡ true → names_applets (with_install k owner aid) ≡ true
-begun_named k e owner aid f g =
-    let b = both (list_all of_applet k.instances) (option_map_or installs_applet k.installing true) e in
-    both_are (list_all of_applet k.instances) (is_applets owner && is_instance_number owner.instance) b.0
-    (both_are (is_applets owner) (is_instance_number owner.instance) f g)
+begun_named k e owner aid f g = grind (arith, both, both_are)
 
 pub over_named : (k : Kept) → names_applets k ≡ true → (succeeds : Bool)
     → names_applets (after_install k succeeds) ≡ true
-over_named k e succeeds =
-    both_are (list_all of_applet (kept_instances k.instances (has_registered k && not succeeds))) true
-    (some_named (has_registered k && not succeeds)) refl
-  where
-    some_named : (b : Bool) → list_all of_applet (kept_instances k.instances b) ≡ true
-    some_named true =
-        all_taken of_applet k.instances (length k.instances - 1)
-        (both (list_all of_applet k.instances) (option_map_or installs_applet k.installing true) e).0
-    some_named false = (both (list_all of_applet k.instances) (option_map_or installs_applet k.installing true) e).0
+over_named k e succeeds = grind (arith, both_are, not, all_taken, both)

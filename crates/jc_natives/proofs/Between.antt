@@ -1,5 +1,5 @@
 -- What the runtime keeps fits the objects behind its own calls too.
-use Rattle.std.proofs.Common.{◌≡◌, ℕ, zero, suc, ◌-◌, ◌<◌, ◌≤◌, ◌&&◌, not, Bool, true, false, List, [], ◌∷◌, length}
+use Rattle.std.proofs.Common.{◌≡◌, ℕ, zero, suc, ◌-◌, ◌<◌, ◌≤◌, ◌&&◌, not, Bool, true, List, [], ◌∷◌, length, arith}
 use Rattle.std.proofs.Common.{nat_le, nat_lt, refl, take}
 use Rattle.std.proofs.lemmas.Bool.{le-leb, lt-ltb}
 use Rattle.std.specs.List.{list_all}
@@ -9,7 +9,7 @@ use Rattle.jc_names.specs.declared.owner.Owner.{Owner}
 use Rattle.jc_natives.proofs.Bare.{both}
 use Rattle.jc_natives.proofs.Keeping.{both_are}
 use Rattle.jc_natives.proofs.Numbered.{begun_numbers, next_is_number, over_numbers}
-use Rattle.jc_natives.specs.Kept.{Kept, after_install, are_bytes, has_numbers, has_registered, is_aid}
+use Rattle.jc_natives.specs.Kept.{Kept, after_install, are_bytes, has_numbers, is_aid}
 use Rattle.jc_natives.specs.Kept.{is_instance_number, kept_instances, with_command, with_install}
 use Rattle.jc_natives.specs.Meaning.{fits_command, fits_installing, fits_instance, fits_kept}
 use Rattle.jc_store.specs.Heap.{Heap}
@@ -24,21 +24,13 @@ all_taken p (x ∷ xs) (suc n) e =
 
 module _ (w : World) (heap : Heap TaggedValue) (k : Kept) (fits : fits_kept w heap k ≡ true) where
   instances_are : list_all (fits_instance w.shapes heap) k.instances ≡ true
-  instances_are =
-      (both (list_all (fits_instance w.shapes heap) k.instances) (option_map_or fits_installing k.installing true)
-      (both (list_all (fits_instance w.shapes heap) k.instances && option_map_or fits_installing k.installing true)
-      (fits_command k && has_numbers k) fits).0).0
+  instances_are = grind (arith, both)
 
   installing_is : option_map_or fits_installing k.installing true ≡ true
-  installing_is =
-      (both (list_all (fits_instance w.shapes heap) k.instances) (option_map_or fits_installing k.installing true)
-      (both (list_all (fits_instance w.shapes heap) k.instances && option_map_or fits_installing k.installing true)
-      (fits_command k && has_numbers k) fits).0).1
+  installing_is = grind (arith, both)
 
   rest_is : (fits_command k && has_numbers k) ≡ true
-  rest_is =
-      (both (list_all (fits_instance w.shapes heap) k.instances && option_map_or fits_installing k.installing true)
-      (fits_command k && has_numbers k) fits).1
+  rest_is = grind (arith, both)
 
   command_is : fits_command k ≡ true
   command_is = (both (fits_command k) (has_numbers k) rest_is).0
@@ -58,18 +50,10 @@ module _ (w : World) (heap : Heap TaggedValue) (k : Kept) (fits : fits_kept w he
       (begun_numbers k owner aid numbers_are next less))
 
   some_instances : (b : Bool) → list_all (fits_instance w.shapes heap) (kept_instances k.instances b) ≡ true
-  some_instances true = all_taken (fits_instance w.shapes heap) k.instances (length k.instances - 1) instances_are
-  some_instances false = instances_are
+  some_instances b = grind (arith, all_taken, instances_are)
 
   pub over_fits : (succeeds : Bool) → fits_kept w heap (after_install k succeeds) ≡ true
-  over_fits succeeds =
-      let left = kept_instances k.instances (has_registered k && not succeeds) in
-      both_are (list_all (fits_instance w.shapes heap) left && true)
-      (fits_command k && has_numbers (after_install k succeeds))
-      (both_are (list_all (fits_instance w.shapes heap) left) true
-      (some_instances (has_registered k && not succeeds)) refl)
-      (both_are (fits_command k) (has_numbers (after_install k succeeds)) command_is
-      (over_numbers k succeeds numbers_are))
+  over_fits succeeds = grind (arith, not, both_are, some_instances, command_is, over_numbers, numbers_are)
 
   pub opened_fits : (incoming : List ℕ) (expected : ℕ) (selecting : Bool) → are_bytes incoming ≡ true
       → length incoming ≤ 255 → expected < 256

@@ -1,5 +1,5 @@
 -- Accesses by which an object may change.
-use Rattle.std.proofs.Common.{◌≡◌, ◌⊎◌, inl, inr, ℕ, ◌==◌, ◌&&◌, ◌||◌, Bool, true, false, List, refl}
+use Rattle.std.proofs.Common.{◌≡◌, ◌⊎◌, ℕ, ◌==◌, ◌&&◌, ◌||◌, Bool, true, List, arith}
 use Rattle.std.specs.List.{list_any}
 use Rattle.jc_machine.specs.Guarded.{may_change}
 use Rattle.jc_machine.specs.Machine.{Touch}
@@ -12,5 +12,4 @@ abbrev pub is_changed : List Touch → ℕ → Bool
 is_changed touches number = list_any (is_change_of number) touches
 
 pub either_is : (a b : Bool) → (a || b) ≡ true → (a ≡ true) ⊎ (b ≡ true)
-either_is true b e = inl refl
-either_is false b e = inr e
+either_is a b h1 = grind arith

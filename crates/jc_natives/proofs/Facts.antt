@@ -1,10 +1,9 @@
 -- What is known of a call that fits: of its arguments, of the runtime's own objects, and of what the runtime keeps.
-use Rattle.std.proofs.Common.{◌≡◌, ◌⊎◌, inl, inr, ℕ, zero, suc, ◌+◌, ◌-◌, ◌<◌, Bool, true, false, cond, List, [], ◌∷◌}
-use Rattle.std.proofs.Common.{map, slice_get, nat_le, Some, refl, sym, ap, subst, ◌∙◌, arith}
+use Rattle.std.proofs.Common.{◌≡◌, ◌⊎◌, ℕ, zero, suc, ◌+◌, ◌-◌, ◌<◌, Bool, true, false, cond, List, [], ◌∷◌}
+use Rattle.std.proofs.Common.{map, slice_get, nat_le, Some, sym, ap, subst, ◌∙◌, arith}
 use Rattle.std.proofs.lemmas.Bool.{leb-true}
 use Rattle.std.proofs.lemmas.Option.{none-some, same_Some}
 use Rattle.std.specs.List.{AllByRecursion, find, list_all, range_with_len}
-use Rattle.std.specs.Option.{option_map_or}
 use Rattle.jc_api.specs.Member.{ApiMember}
 use Rattle.jc_api.specs.declared.class.ApiClass.{ApiClass}
 use Rattle.jc_api.specs.declared.member.MemberKind.TheVariants.{Constructor, Static, Virtual}
@@ -29,9 +28,8 @@ use Rattle.jc_natives.specs.PrivateCells.{argument}
 use Rattle.jc_natives.specs.declared.kept.Instance.{Instance}
 use Rattle.jc_store.specs.Heap.{Heap, Object, object_at}
 use Rattle.jc_store.specs.declared.kind.ObjectType.{ObjectType}
-use Rattle.jc_store.specs.declared.kind.ObjectType.TheVariants.{BooleanArray, ByteArray, Instance as OfClass}
-use Rattle.jc_store.specs.declared.kind.ObjectType.TheVariants.{ReferenceArray, ShortArray}
-use Rattle.jc_words.specs.Values.{Null, Ref, TaggedValue, Unset, Word}
+use Rattle.jc_store.specs.declared.kind.ObjectType.TheVariants.{ByteArray}
+use Rattle.jc_words.specs.Values.{TaggedValue}
 
 -- ---- arguments
 
@@ -45,34 +43,18 @@ pub record LeadsToClass (world : List Shape) (heap : Heap TaggedValue) (number :
   pub below : is_of_class world c object.kind.object ≡ true
 
 byte_array_is : (type : ObjectType) → is_byte_array type ≡ true → type ≡ ByteArray
-byte_array_is (OfClass c) e = absurd cc
-byte_array_is BooleanArray e = absurd cc
-byte_array_is ByteArray e = refl
-byte_array_is ShortArray e = absurd cc
-byte_array_is (ReferenceArray c) e = absurd cc
+byte_array_is type h1 = grind arith
 
 pub bytes_lead : (world : List Shape) (heap : Heap TaggedValue) (v : TaggedValue)
     → is_of_type world heap types.ByteArray v ≡ true → LeadsToBytes heap (bits v)
-bytes_lead world heap (Word n) e o found = absurd cc
-bytes_lead world heap (Ref n) e o found =
-    byte_array_is o.kind.object
-    (sym (ap (λ x. option_map_or (λ (p : Object TaggedValue). is_byte_array p.kind.object) x false) found) ∙ e)
-bytes_lead world heap Null e o found = absurd (none-some o found)
-bytes_lead world heap Unset e o found = absurd cc
-
-nothing_leads : (heap : Heap TaggedValue) → LeadsToBytes heap 0
-nothing_leads heap o found = absurd (none-some o found)
+bytes_lead world heap v h1 = grind (arith, byte_array_is, none-some)
 
 typed_lead : (world : List Shape) (heap : Heap TaggedValue) (ts : List (DeclaredType ApiClass)) (vs : List TaggedValue)
     (place : ℕ) → are_of_types world heap (map (type_map counted_name) ts) vs ≡ true
     → slice_get ts place ≡ Some types.ByteArray → LeadsToBytes heap (argument (map bits vs) place)
 typed_lead world heap [] vs place e f = absurd (none-some types.ByteArray f)
 typed_lead world heap (t ∷ ts) [] place e f = absurd cc
-typed_lead world heap (t ∷ ts) (v ∷ vs) zero e f =
-    let b = both (is_of_type world heap (type_map counted_name t) v)
-    (are_of_types world heap (map (type_map counted_name) ts) vs) e in
-    bytes_lead world heap v
-    (ap (λ x. is_of_type world heap (type_map counted_name x) v) (sym (same_Some t types.ByteArray f)) ∙ b.0)
+typed_lead world heap (t ∷ ts) (v ∷ vs) zero e f = grind (arith, both, bytes_lead, same_Some)
 typed_lead world heap (t ∷ ts) (v ∷ vs) (suc place) e f =
     let b = both (is_of_type world heap (type_map counted_name t) v)
     (are_of_types world heap (map (type_map counted_name) ts) vs) e in
@@ -80,12 +62,7 @@ typed_lead world heap (t ∷ ts) (v ∷ vs) (suc place) e f =
 
 pub object_lead : (world : List Shape) (heap : Heap TaggedValue) (c : ClassName) (v : TaggedValue)
     → is_object_of world heap c v ≡ true → LeadsToClass world heap (bits v) c
-object_lead world heap c (Word n) e = absurd cc
-object_lead world heap c (Ref n) e =
-    let a = passed_some (λ (o : Object TaggedValue). is_of_class world c o.kind.object) (object_at heap n) e in
-    record { object = a.0; found = a.1; below = a.2 }
-object_lead world heap c Null e = absurd cc
-object_lead world heap c Unset e = absurd cc
+object_lead world heap c v h1 = grind (arith, passed_some)
 
 -- the arguments of a member are of its types
 abbrev pub AreTyped : List Shape → Heap TaggedValue → ApiMember → List TaggedValue → Type 0
@@ -104,8 +81,7 @@ module _ (world : List Shape) (heap : Heap TaggedValue) (m : ApiMember) (vs : Li
   static_typed e = sym (ap (λ k. by_kind (is_static k)) e) ∙ typed
 
   object_typed : (m.kind ≡ Constructor) ⊎ (m.kind ≡ Virtual) → by_kind false ≡ true
-  object_typed (inl e) = sym (ap (λ k. by_kind (is_static k)) e) ∙ typed
-  object_typed (inr e) = sym (ap (λ k. by_kind (is_static k)) e) ∙ typed
+  object_typed h1 = grind arith
 
   pub static_bytes : m.kind ≡ Static → (place : ℕ) → IsBytes m place → LeadsToBytes heap (argument (map bits vs) place)
   static_bytes e place f = typed_lead world heap m.signature.parameters vs place (static_typed e) f
@@ -113,31 +89,22 @@ module _ (world : List Shape) (heap : Heap TaggedValue) (m : ApiMember) (vs : Li
 of_instance_bytes : (world : List Shape) (heap : Heap TaggedValue) (c : ClassName) (ts : List (DeclaredType ApiClass))
     (vs : List TaggedValue) (place : ℕ) → are_of_instance world heap c (map (type_map counted_name) ts) vs ≡ true
     → slice_get ts place ≡ Some types.ByteArray → LeadsToBytes heap (argument (map bits vs) (suc place))
-of_instance_bytes world heap c ts [] place e f = absurd cc
-of_instance_bytes world heap c ts (v ∷ vs) place e f =
-    typed_lead world heap ts vs place
-    (both (is_object_of world heap c v) (are_of_types world heap (map (type_map counted_name) ts) vs) e).1 f
+of_instance_bytes world heap c ts vs place h1 h2 = grind (arith, typed_lead, both)
 
 of_instance_object : (world : List Shape) (heap : Heap TaggedValue) (c : ClassName) (ts : List (DeclaredType ClassName))
     (vs : List TaggedValue) → are_of_instance world heap c ts vs ≡ true
     → LeadsToClass world heap (argument (map bits vs) 0) c
-of_instance_object world heap c ts [] e = absurd cc
-of_instance_object world heap c ts (v ∷ vs) e =
-    object_lead world heap c v (both (is_object_of world heap c v) (are_of_types world heap ts vs) e).0
+of_instance_object world heap c ts vs h1 = grind (arith, object_lead, both)
 
 pub object_bytes : (world : List Shape) (heap : Heap TaggedValue) (m : ApiMember) (vs : List TaggedValue)
     → AreTyped world heap m vs → (m.kind ≡ Constructor) ⊎ (m.kind ≡ Virtual) → (place : ℕ) → IsBytes m place
     → LeadsToBytes heap (argument (map bits vs) (suc place))
-object_bytes world heap m vs typed kind place f =
-    of_instance_bytes world heap (Api m.class) m.signature.parameters vs place
-    (object_typed world heap m vs typed kind) f
+object_bytes world heap m vs typed kind place f = grind (arith, of_instance_bytes, object_typed)
 
 pub object_class : (world : List Shape) (heap : Heap TaggedValue) (m : ApiMember) (vs : List TaggedValue)
     → AreTyped world heap m vs → (m.kind ≡ Constructor) ⊎ (m.kind ≡ Virtual)
     → LeadsToClass world heap (argument (map bits vs) 0) (Api m.class)
-object_class world heap m vs typed kind =
-    of_instance_object world heap (Api m.class) (map (type_map counted_name) m.signature.parameters) vs
-    (object_typed world heap m vs typed kind)
+object_class world heap m vs typed kind = grind (arith, of_instance_object, object_typed)
 
 -- ---- the runtime's own objects
 
@@ -154,9 +121,7 @@ own_object heap place row has e = all_at (HasRuntimeObject heap) runtime_objects
 row_at : (from n i : ℕ) → i < n → slice_get (map aid_row (range_with_len from n)) i ≡ Some (aid_row (from + i))
 row_at from zero i h = absurd (omega (arith, h))
 row_at from (suc n) zero h = let e : from ≡ from + 0 = omega arith in ap (λ k. Some (aid_row k)) e
-row_at from (suc n) (suc i) h =
-    let e : from + 1 + i ≡ from + suc i = omega arith in
-    row_at (from + 1) n i (omega (arith, h)) ∙ ap (λ k. Some (aid_row k)) e
+row_at from (suc n) (suc i) h = grind (arith, row_at (from + 1) n i (omega (arith, h)))
 
 -- the AID object of an instance with a number from 1 to 32
 pub own_aid : (heap : Heap TaggedValue) (number : ℕ) → HasRuntimeObjects heap → is_instance_number number ≡ true
@@ -186,5 +151,4 @@ found_fits world heap p (x ∷ is) i e f =
   where
     by_test : (t : Bool) → (find p is ≡ Some i → fits_instance world heap i ≡ true) → fits_instance world heap x ≡ true
         → cond t (Some x) (find p is) ≡ Some i → fits_instance world heap i ≡ true
-    by_test true rest fits g = subst (λ y. fits_instance world heap y ≡ true) (same_Some x i g) fits
-    by_test false rest fits g = rest g
+    by_test t h1 h2 h3 = grind (arith, same_Some)

@@ -1,7 +1,6 @@
 -- AIDs of applets, exceptions with a reason, registrations and transient arrays fit.
-use Rattle.std.proofs.Common.{◌≡◌, ◌⊎◌, inl, inr, ℕ, ◌+◌, ◌<◌, ◌==◌, ◌&&◌, not, Bool, true, false, cond, List, [], ◌∷◌}
-use Rattle.std.proofs.Common.{◌++◌, length, nat_le, is_some, Option, Some, None, refl, sym, ap, subst, ◌∙◌}
-use Rattle.std.proofs.Common.{arith}
+use Rattle.std.proofs.Common.{◌≡◌, ◌⊎◌, inl, inr, ℕ, ◌+◌, ◌<◌, ◌==◌, ◌&&◌, not, Bool, true, false, List, [], ◌∷◌, ◌++◌}
+use Rattle.std.proofs.Common.{length, nat_le, is_some, Option, Some, None, refl, sym, subst, arith}
 use Rattle.std.proofs.lemmas.Bool.{eq-eqb, eqb-true, leb-true, ltb-true}
 use Rattle.std.proofs.lemmas.Option.{none-some, same_Some}
 use Rattle.std.specs.List.{find, list_all}
@@ -30,13 +29,12 @@ use Rattle.jc_natives.proofs.Ranges.{length_of_bytes}
 use Rattle.jc_natives.proofs.Suits as suits
 use Rattle.jc_natives.proofs.Suits.{Gives}
 use Rattle.jc_natives.specs.Cells.{is_count}
-use Rattle.jc_natives.specs.Kept.{are_bytes, has_aid_length, has_numbers, instance_of, instance_with, is_aid}
-use Rattle.jc_natives.specs.Kept.{is_instance_number, is_same_owner, now_registered, waits, with_instance}
-use Rattle.jc_natives.specs.Meaning.{fits_command, fits_installing, fits_instance, fits_kept, has_applet, new_array}
-use Rattle.jc_natives.specs.Meaning.{reference}
+use Rattle.jc_natives.specs.Kept.{are_bytes, has_aid_length, has_numbers, instance_with, is_aid}
+use Rattle.jc_natives.specs.Kept.{is_instance_number, now_registered, waits, with_instance}
+use Rattle.jc_natives.specs.Meaning.{fits_command, fits_installing, fits_instance, fits_kept, new_array, reference}
 use Rattle.jc_natives.specs.Members.{aid_of, aid_of_owner}
-use Rattle.jc_natives.specs.PrivateApplets.{allowed, may_register, on_allowed, owner_of, registers}
-use Rattle.jc_natives.specs.PrivateCells.{bare, bared, bytes_of}
+use Rattle.jc_natives.specs.PrivateApplets.{allowed, on_allowed, owner_of, registers}
+use Rattle.jc_natives.specs.PrivateCells.{bared, bytes_of}
 use Rattle.jc_natives.specs.PrivateSeen.{seen_of}
 use Rattle.jc_natives.specs.PrivateSystem.{makes, may_make}
 use Rattle.jc_natives.specs.PrivateTests.{test}
@@ -47,7 +45,7 @@ use Rattle.jc_natives.specs.declared.native.Elements.{Elements}
 use Rattle.jc_store.specs.Heap.{Heap, Object, next_number, object_at, with_new}
 use Rattle.jc_store.specs.declared.kind.ClearingEvent.{ClearingEvent}
 use Rattle.jc_store.specs.declared.kind.ObjectType.{ObjectType}
-use Rattle.jc_words.specs.Values.{Null, Ref, TaggedValue}
+use Rattle.jc_words.specs.Values.{Ref, TaggedValue}
 
 module _ (known : Known) where
   open known use {w, call, there, supers, fit, given}
@@ -56,34 +54,16 @@ module _ (known : Known) where
 
   reference_leads : (n : ℕ) → LeadsToClass w.shapes call.heap n (Api api.Aid)
       → leads_to call.heap (is_of_class w.shapes (Api api.Aid)) (reference n) ≡ true
-  reference_leads n leads = by_null (n == 0)
-    where
-      by_null : (b : Bool) → leads_to call.heap (is_of_class w.shapes (Api api.Aid)) (cond b Null (Ref n)) ≡ true
-      by_null true = refl
-      by_null false =
-          ap (λ o. option_map_or (λ (p : Object TaggedValue). is_of_class w.shapes (Api api.Aid) p.kind.object) o
-          false) leads.found
-          ∙ leads.below
+  reference_leads n leads = grind arith
 
   pub instances_fit : list_all (fits_instance w.shapes call.heap) call.runtime.instances ≡ true
-  instances_fit =
-      (both (list_all (fits_instance w.shapes call.heap) call.runtime.instances)
-      (option_map_or fits_installing call.runtime.installing true)
-      (both (list_all (fits_instance w.shapes call.heap) call.runtime.instances
-      && option_map_or fits_installing call.runtime.installing true) (fits_command call.runtime && has_numbers call.runtime) fit.fits).0).0
+  instances_fit = grind (arith, both)
 
   installing_fits : option_map_or fits_installing call.runtime.installing true ≡ true
-  installing_fits =
-      (both (list_all (fits_instance w.shapes call.heap) call.runtime.instances)
-      (option_map_or fits_installing call.runtime.installing true)
-      (both (list_all (fits_instance w.shapes call.heap) call.runtime.instances
-      && option_map_or fits_installing call.runtime.installing true) (fits_command call.runtime && has_numbers call.runtime) fit.fits).0).1
+  installing_fits = grind (arith, both)
 
   rest_fits : (fits_command call.runtime && has_numbers call.runtime) ≡ true
-  rest_fits =
-      (both (list_all (fits_instance w.shapes call.heap) call.runtime.instances
-      && option_map_or fits_installing call.runtime.installing true)
-      (fits_command call.runtime && has_numbers call.runtime) fit.fits).1
+  rest_fits = grind (arith, both)
 
   pub command_fits : fits_command call.runtime ≡ true
   command_fits = (both (fits_command call.runtime) (has_numbers call.runtime) rest_fits).0
@@ -93,24 +73,15 @@ module _ (known : Known) where
 
   instance_number : (i : Instance) → fits_instance w.shapes call.heap i ≡ true → is_instance_number i.owner.instance
       ≡ true
-  instance_number i e =
-      (both (is_aid i.aid) (is_instance_number i.owner.instance)
-      (both (is_aid i.aid && is_instance_number i.owner.instance)
-      (option_map_or (has_applet w.shapes i) (object_at call.heap i.object) false) e).0).1
+  instance_number i e = grind (arith, both)
 
   pub aid_reference : (p : Instance → Bool) (o : Option Instance) → find p call.runtime.instances ≡ o
       → leads_to call.heap (is_of_class w.shapes (Api api.Aid)) (reference (aid_of o)) ≡ true
-  aid_reference p None e = refl
-  aid_reference p (Some i) e =
-      reference_leads (13 + i.owner.instance)
-      (aid_leads known i.owner.instance
-      (instance_number i (found_fits w.shapes call.heap p call.runtime.instances i instances_fit e)))
+  aid_reference p o h1 = grind (arith, reference_leads, aid_leads, instance_number, found_fits, instances_fit)
 
   pub owner_reference : (owner : Option Owner)
       → leads_to call.heap (is_of_class w.shapes (Api api.Aid)) (reference (aid_of_owner call.runtime owner)) ≡ true
-  owner_reference None = refl
-  owner_reference (Some owner) =
-      aid_reference (λ (i : Instance). is_same_owner i.owner owner) (instance_of call.runtime.instances owner) refl
+  owner_reference owner = grind (arith, aid_reference)
 
   -- ---- exceptions with a reason
 
@@ -150,8 +121,7 @@ module _ (known : Known) where
 
   still_installing : (o : Option Installing) → option_map_or fits_installing o true ≡ true
       → option_map_or fits_installing (option_map now_registered o) true ≡ true
-  still_installing None e = refl
-  still_installing (Some i) e = e
+  still_installing o h1 = grind arith
 
   registered_fits : (i : Instance) → waits call.runtime ≡ true → fits_instance w.shapes call.heap i ≡ true
       → fits_kept w call.heap (with_instance call.runtime i) ≡ true
@@ -178,42 +148,13 @@ module _ (known : Known) where
 
   may_of : (object : ℕ) (o : Option Installing) (i : Installing) → option_map_or fits_installing o true ≡ true
       → call.runtime.installing ≡ o → allowed (seen_of w call) object o ≡ Some i → May object i
-  may_of object None i e is f = absurd (none-some i f)
-  may_of object (Some j) i e is f = by_test (may_register (seen_of w call) object j) refl f
-    where
-      by_test : (b : Bool) → may_register (seen_of w call) object j ≡ b → cond b (Some j) None ≡ Some i → May object i
-      by_test true g h =
-          subst (May object) (same_Some j i h) (record {
-            fits = e;
-            waiting =
-                ap (λ (x : Option Installing). option_map_or (λ (y : Installing). not y.registered) x false) is
-                ∙ (both (not j.registered) ((owner_of (bared call.heap) object).instance == j.owner.instance) g).0;
-            number = (both (not j.registered) ((owner_of (bared call.heap) object).instance == j.owner.instance) g).1;
-          })
-      by_test false g h = absurd (none-some i h)
+  may_of object o i h1 h2 h3 = grind (arith, none-some, same_Some, not, both)
 
   new_instance : (object : ℕ) (aid : List ℕ) (i : Installing) → May object i → is_aid aid ≡ true
       → LeadsToClass w.shapes call.heap object (Api api.Applet)
       → fits_instance w.shapes call.heap
       (record { aid = aid; object = object; owner = owner_of (bared call.heap) object }) ≡ true
-  new_instance object aid i may whole leads =
-      let owner : owner_of (bared call.heap) object ≡ (leads.object).owner =
-      ap (λ o. option_map_or (λ (p : Object ℕ). p.owner) o runtime) (bare_object call.heap object)
-      ∙ ap (λ o. option_map_or (λ (p : Object ℕ). p.owner) (option_map bare o) runtime) leads.found in
-      let own = owner_of (bared call.heap) object in
-      let number = (both (is_aid i.aid) (is_instance_number i.owner.instance) may.fits).1 in
-      both_are (is_aid aid && is_instance_number own.instance) _
-      (both_are (is_aid aid) (is_instance_number own.instance) whole
-      (ap is_instance_number (eqb-true own.instance i.owner.instance may.number) ∙ number))
-      (ap (λ o. option_map_or
-      (λ (p : Object TaggedValue). is_of_class w.shapes (Api api.Applet) p.kind.object && is_same_owner p.owner
-      own) o false) leads.found
-      ∙ both_are (is_of_class w.shapes (Api api.Applet) (leads.object).kind.object)
-      (is_same_owner (leads.object).owner own)
-      leads.below
-      (ap (λ x. is_same_owner x own) (sym owner)
-      ∙ both_are (own.context == own.context) (own.instance == own.instance) (itself own.context)
-      (itself own.instance)))
+  new_instance object aid i may whole leads = grind (arith, bare_object, both, both_are, eqb-true, itself)
 
   module _ (r : ReturnType ApiClass) (is : given.result ≡ return_map counted_name r) where
     pub registers_fit : (object : ℕ) (aid : List ℕ) (i : Installing) → May object i → is_aid aid ≡ true
@@ -244,10 +185,7 @@ module _ (known : Known) where
 
     pub range_aid : (number at count : ℕ) → has_aid_length count ≡ true
         → is_aid (bytes_of (bared call.heap) number at count) ≡ true
-    range_aid number at count e =
-        both_are (has_aid_length (length (bytes_of (bared call.heap) number at count))) _
-        (ap has_aid_length (length_of_bytes (bared call.heap) number at count) ∙ e)
-        (bytes_are (bared call.heap) number at count)
+    range_aid number at count e = grind (arith, both_are, length_of_bytes, bytes_are)
 
     -- ---- transient arrays
 
@@ -266,11 +204,7 @@ module _ (known : Known) where
         ≡ option_map_or (λ (o : Object TaggedValue). test o.kind.object)
         (object_at (with_new call.heap (new_array call.active array)) (next_number call.heap)) false
         → test (array_type array.elements) ≡ true → MadeGiven array
-    made_given array t test g same e =
-        gives_as known r is (Value t) g (Some (Ref (next_number call.heap)))
-        (with_new call.heap (new_array call.active array))
-        (same ∙ ap (λ o. option_map_or (λ (o : Object TaggedValue). test o.kind.object) o false)
-        (new_found call.heap (new_array call.active array)) ∙ e)
+    made_given array t test g same e = grind (arith, gives_as, new_found)
 
     pub makes_fit : (elements : Elements) (size : ℕ) (event : Option ClearingEvent)
         → ((event : ClearingEvent) → MadeGiven (record { elements = elements; event = event; size = size }))

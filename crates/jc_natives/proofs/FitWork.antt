@@ -1,22 +1,17 @@
 -- A work that fits leaves objects typed and ends as it is declared to; and what tests throw may be thrown.
 use Rattle.std.specs.Prelude.{⊤}
-use Rattle.std.proofs.Common.{◌≡◌, ℕ, ◌<◌, ◌==◌, ◌&&◌, Bool, true, false, cond, List, [], ◌∷◌, Option, Some, None}
+use Rattle.std.proofs.Common.{◌≡◌, ℕ, ◌<◌, Bool, true, false, cond, List, [], ◌∷◌, Option, Some, None}
 use Rattle.std.proofs.Common.{refl, ap, ◌∙◌, arith}
 use Rattle.std.proofs.lemmas.Bool.{lt-ltb}
-use Rattle.std.specs.Option.{option_map_or}
 use Rattle.jc_api.specs.declared.class.ApiClass.{ApiClass}
 use Rattle.jc_api.specs.declared.class.ApiClass.TheVariants as api
-use Rattle.jc_base.specs.Signature.{return_map, type_map}
-use Rattle.jc_base.specs.declared.declared_type.DeclaredType.{DeclaredType}
+use Rattle.jc_base.specs.Signature.{return_map}
 use Rattle.jc_base.specs.declared.declared_type.DeclaredType.TheVariants as types
 use Rattle.jc_base.specs.declared.declared_type.ReturnType.{ReturnType}
 use Rattle.jc_base.specs.declared.declared_type.ReturnType.TheVariants.{Void, Value}
-use Rattle.jc_firewall.specs.Verdict.{verdict_of}
 use Rattle.jc_firewall.specs.declared.access.Verdict.{Verdict}
-use Rattle.jc_firewall.specs.declared.access.Verdict.TheVariants.{Allowed, AllowedSwitch, Denied}
-use Rattle.jc_machine.specs.Machine.{ByRuntime}
-use Rattle.jc_machine.specs.Lookup.{is_byte_array, is_given, is_throwable}
-use Rattle.jc_machine.specs.Machine.{NativeAnswer}
+use Rattle.jc_machine.specs.Machine.{ByRuntime, NativeAnswer}
+use Rattle.jc_machine.specs.Lookup.{is_given, is_throwable}
 use Rattle.jc_machine.specs.Natives.{EndsFit, IsFitCallback, IsThrown, KeepsObjects}
 use Rattle.jc_machine.specs.Typed.{HeapTyped}
 use Rattle.jc_names.specs.declared.name.ClassName.{ClassName}
@@ -29,14 +24,12 @@ use Rattle.jc_natives.proofs.Keeping.{array_typed, kept_fits_still, type_still, 
 use Rattle.jc_natives.proofs.Suits as suits
 use Rattle.jc_natives.proofs.Suits.{Gives, is_word_type}
 use Rattle.jc_natives.specs.Cells.{Write, has_room, written}
-use Rattle.jc_natives.specs.Checks.{access_of}
 use Rattle.jc_natives.specs.Kept.{Kept}
 use Rattle.jc_natives.specs.Meaning.{array_or_refusal, asked, did, done, end_of, fits_kept, new_array, reference}
 use Rattle.jc_natives.specs.Meaning.{with_room}
-use Rattle.jc_natives.specs.PrivateCells.{argument}
 use Rattle.jc_natives.specs.PrivateMeaning.{ended_on_words}
-use Rattle.jc_natives.specs.PrivateSeen.{Seen, is_aid_object}
-use Rattle.jc_natives.specs.PrivateTests.{Tested, by_verdict, facts_of, fails, followed, goes_on, is_in_range}
+use Rattle.jc_natives.specs.PrivateSeen.{Seen}
+use Rattle.jc_natives.specs.PrivateTests.{Tested, by_verdict, fails, followed, is_in_range}
 use Rattle.jc_natives.specs.PrivateTests.{on_object, passes, ranged, test, tested, used}
 use Rattle.jc_natives.specs.Work.{Asks, Does, Ending, GivesReference, GivesWord, Makes, NoResult, Throws, Work}
 use Rattle.jc_natives.specs.declared.ended.Question.{Question}
@@ -74,8 +67,7 @@ module _ (known : Known) where
   Fits (Asks q) = AsksWell q
 
   pub either_fits : (b : Bool) (x y : Work) → (b ≡ true → Fits x) → Fits y → Fits (cond b x y)
-  either_fits true x y p q = p refl
-  either_fits false x y p q = q
+  either_fits b x y h1 h2 = grind arith
 
   -- ---- an answer
 
@@ -94,17 +86,11 @@ module _ (known : Known) where
 
   given_still : (after : Heap TaggedValue) (r : ReturnType ClassName) (v : Option TaggedValue)
       → KeepsObjects call.heap after → is_given w.shapes call.heap r v ≡ true → is_given w.shapes after r v ≡ true
-  given_still after Void None stay e = e
-  given_still after Void (Some v) stay e = e
-  given_still after (Value t) None stay e = e
-  given_still after (Value t) (Some v) stay e = type_still w.shapes call.heap after stay t v e
+  given_still after r v h1 h2 = grind (arith, type_still)
 
   ending_still : (a : NativeAnswer Kept) (ending : Ending) → KeepsObjects call.heap a.heap → Ends ending
       → EndsFit w call a given (end_of ending)
-  ending_still a NoResult stay e = given_still a.heap given.result None stay e
-  ending_still a (GivesWord n) stay e = given_still a.heap given.result (Some (Word n)) stay e
-  ending_still a (GivesReference n) stay e = given_still a.heap given.result (Some (reference n)) stay e
-  ending_still a (Throws object) stay e = thrown_still a.heap object stay e
+  ending_still a ending h1 h2 = grind (arith, given_still, thrown_still)
 
   writes_typed : (writes : List Write) → Writes known writes → HeapTyped w.shapes (written Word call.heap writes)
   writes_typed [] fits = fit.heap
@@ -172,31 +158,19 @@ module _ (known : Known) where
   Thrown (Some object) = IsThrown w call.heap object
 
   verdict_thrown : (s : Seen) (way : Way) (number : ℕ) (v : Verdict) → Thrown (by_verdict s way number v).thrown
-  verdict_thrown s way number Allowed = tt
-  verdict_thrown s way number (AllowedSwitch owner) = tt
-  verdict_thrown s way number (Denied rule) = security_thrown known
+  verdict_thrown s way number v = grind (arith, security_thrown)
 
   object_thrown : (s : Seen) (way : Way) (number : ℕ) (o : Option (Object ℕ)) → Thrown (on_object s way number o).thrown
-  object_thrown s way number None = null_thrown known
-  object_thrown s way number (Some o) =
-      verdict_thrown s way number (verdict_of (access_of way) s.active.context (facts_of s o))
+  object_thrown s way number o = grind (arith, null_thrown, verdict_thrown)
 
   either_thrown : (b : Bool) (t u : Tested) → Thrown t.thrown → Thrown u.thrown → Thrown (cond b t u).thrown
-  either_thrown true t u p q = p
-  either_thrown false t u p q = q
+  either_thrown b t u h1 h2 = grind arith
 
   used_thrown : (s : Seen) (way : Way) (number : ℕ) → Thrown (used s way number).thrown
   used_thrown s way number = object_thrown s way number (object_at s.objects number)
 
   test_thrown : (s : Seen) (arguments : List ℕ) (one : Test) → Thrown (test s arguments one).thrown
-  test_thrown s arguments tests.Nothing = tt
-  test_thrown s arguments (tests.Object place way) = used_thrown s way (argument arguments place)
-  test_thrown s arguments (tests.ObjectOrNull place way) =
-      either_thrown (argument arguments place == 0) passes (used s way (argument arguments place)) tt
-      (used_thrown s way (argument arguments place))
-  test_thrown s arguments tests.BesideAid =
-      either_thrown (is_aid_object s (argument arguments 0) && is_aid_object s (argument arguments 1))
-      (used s ways.Calls (argument arguments 1)) passes (used_thrown s ways.Calls (argument arguments 1)) tt
+  test_thrown s arguments one = grind (arith, used_thrown, either_thrown)
 
   range_thrown : (s : Seen) (arguments : List ℕ) (r : Option Range) → Thrown (ranged s arguments r).thrown
   range_thrown s arguments None = tt
@@ -204,11 +178,7 @@ module _ (known : Known) where
       either_thrown (is_in_range s arguments r) passes (fails 4) tt (index_thrown known)
 
   followed_thrown : (t u : Tested) → Thrown t.thrown → Thrown u.thrown → Thrown (followed t u).thrown
-  followed_thrown t u p q = by_thrown t.thrown p
-    where
-      by_thrown : (o : Option ℕ) → Thrown o → Thrown (goes_on t.touches o u).thrown
-      by_thrown (Some object) r = r
-      by_thrown None r = q
+  followed_thrown t u p q = grind arith
 
   pub tested_thrown : (s : Seen) (arguments : List ℕ) (row : Row) → Thrown (tested s arguments row).thrown
   tested_thrown s arguments row =
@@ -219,40 +189,23 @@ module _ (known : Known) where
 
   pub ended_fits : (touches : List _) (thrown : Option ℕ) (work : Work) → Thrown thrown → Fits work
       → Answers (ended_on_words call touches thrown work)
-  ended_fits touches (Some object) work thrown fits = (fit.heap, (fit.fits, thrown))
-  ended_fits touches None work thrown fits = roomy_fits touches work fits
+  ended_fits touches thrown work h1 h2 = grind (arith, roomy_fits)
 
   -- ---- what members give
 
   module _ (r : ReturnType ApiClass) (is : given.result ≡ return_map counted_name r) where
     pub gives_as : (s : ReturnType ApiClass) → r ≡ s → (v : Option TaggedValue) (heap : Heap TaggedValue)
         → is_given w.shapes heap (return_map counted_name s) v ≡ true → is_given w.shapes heap given.result v ≡ true
-    gives_as s e v heap f =
-        ap (λ x. is_given w.shapes heap x v) (is ∙ ap (return_map counted_name) e) ∙ f
+    gives_as s e v heap f = grind arith
 
     pub void_ends : Gives suits.nothing r → Ends NoResult
     void_ends g = gives_as Void g None call.heap refl
 
     pub word_ends : (n : ℕ) → n < 65536 → Gives suits.word r → Ends (GivesWord n)
-    word_ends n small g = gives_as (Value g.0) g.1 (Some (Word n)) call.heap (by_type g.0 g.2)
-      where
-        by_type : (t : DeclaredType ApiClass) → is_word_type t ≡ true
-            → is_given w.shapes call.heap (Value (type_map counted_name t)) (Some (Word n)) ≡ true
-        by_type types.Boolean e = lt-ltb n 65536 small
-        by_type types.Byte e = lt-ltb n 65536 small
-        by_type types.Short e = lt-ltb n 65536 small
-        by_type (types.Reference c) e = absurd cc
-        by_type types.BooleanArray e = absurd cc
-        by_type types.ByteArray e = absurd cc
-        by_type types.ShortArray e = absurd cc
-        by_type (types.ReferenceArray c) e = absurd cc
+    word_ends n small g = grind (arith, gives_as, is_word_type, lt-ltb)
 
     pub null_ends : Gives suits.shareable r → Ends (GivesReference 0)
     null_ends g = gives_as (Value (types.Reference api.Shareable)) g (Some Null) call.heap refl
 
     pub buffer_ends : Gives suits.bytes r → Ends (GivesReference 12)
-    buffer_ends g =
-        let has = own_object call.heap 11 _ fit.runtime_objects refl in
-        gives_as (Value types.ByteArray) g (Some (Ref 12)) call.heap
-        (ap (λ o. option_map_or (λ (p : Object TaggedValue). is_byte_array p.kind.object) o false) has.found
-        ∙ ap is_byte_array has.type)
+    buffer_ends g = grind (arith, own_object, gives_as)

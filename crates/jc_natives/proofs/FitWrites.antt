@@ -1,8 +1,7 @@
 -- What native members write fits: bytes, reasons and AIDs, in arrays and in the cells of objects.
 use Rattle.std.specs.Prelude.{⊤}
-use Rattle.std.proofs.Common.{◌≡◌, ℕ, zero, suc, ◌+◌, ◌<◌, ◌≤◌, ◌||◌, Bool, true, false, cond, List, [], ◌∷◌, length}
-use Rattle.std.proofs.Common.{get_or, map, replicate, nat_lt, unwrap_or, Option, Some, None, refl, sym, ap, subst, ◌∙◌}
-use Rattle.std.proofs.Common.{arith}
+use Rattle.std.proofs.Common.{◌≡◌, ℕ, zero, suc, ◌+◌, ◌<◌, ◌≤◌, Bool, true, false, List, [], ◌∷◌, length, get_or, map}
+use Rattle.std.proofs.Common.{replicate, nat_lt, Option, Some, None, refl, sym, ap, subst, ◌∙◌, arith}
 use Rattle.std.proofs.lemmas.Bool.{lt-ltb, ltb-true}
 use Rattle.std.proofs.lemmas.Option.{same_Some}
 use Rattle.std.specs.List.{AllByRecursion}
@@ -15,9 +14,8 @@ use Rattle.jc_classes.specs.Walk.{most_classes}
 use Rattle.jc_link.specs.ApiClasses.{StandsThere, cells_within}
 use Rattle.jc_link.specs.Linked.{World}
 use Rattle.jc_link.specs.Sound.{HaveSuperclasses}
-use Rattle.jc_machine.specs.Machine.{ByCode}
+use Rattle.jc_machine.specs.Machine.{ByCode, NativeCall}
 use Rattle.jc_machine.specs.Lookup.{is_byte, is_of_class, is_throwable}
-use Rattle.jc_machine.specs.Machine.{NativeCall}
 use Rattle.jc_machine.specs.Natives.{IsFitCall, IsThrown}
 use Rattle.jc_machine.specs.Runtime.{HasRuntimeObject, RuntimeObject}
 use Rattle.jc_machine.specs.Typed.{CellsTyped, HeapTyped}
@@ -36,9 +34,8 @@ use Rattle.jc_natives.specs.Meaning.{meaning}
 use Rattle.jc_natives.specs.PrivateCells.{bare, bared, byte_of, bytes_of, cell_of, words_of}
 use Rattle.jc_store.specs.Heap.{Heap, Object, object_at}
 use Rattle.jc_store.specs.declared.kind.ObjectType.{ObjectType}
-use Rattle.jc_store.specs.declared.kind.ObjectType.TheVariants.{BooleanArray, ByteArray, Instance as OfClass}
-use Rattle.jc_store.specs.declared.kind.ObjectType.TheVariants.{ReferenceArray, ShortArray}
-use Rattle.jc_words.specs.Values.{Null, Ref, TaggedValue, Unset, Word}
+use Rattle.jc_store.specs.declared.kind.ObjectType.TheVariants.{ByteArray, Instance as OfClass}
+use Rattle.jc_words.specs.Values.{TaggedValue}
 
 -- ---- numbers
 
@@ -49,15 +46,10 @@ pub word_is : (n : ℕ) → cells.word n < 65536
 word_is n = omega arith
 
 pub extended_is : (n : ℕ) → extended n < 65536
-extended_is n = by_sign (nat_lt (low n) 128) refl
-  where
-    by_sign : (b : Bool) → nat_lt (low n) 128 ≡ b → low n + cond b 0 65280 < 65536
-    by_sign true e = let a = ltb-true (low n) 128 e in omega (arith, a)
-    by_sign false e = let a = low_is n in omega (arith, a)
+extended_is n = grind (arith, ltb-true, low_is)
 
 pub bit_is : (b : Bool) → bit b < 65536
-bit_is true = omega arith
-bit_is false = omega arith
+bit_is b = grind arith
 
 pub two_are : (x y : ℕ) → word_of_bytes (low x) (low y) < 65536
 two_are x y = let a = low_is x in let b = low_is y in omega (arith, a, b)
@@ -65,13 +57,7 @@ two_are x y = let a = low_is x in let b = low_is y in omega (arith, a, b)
 pub order_is : (xs ys : List ℕ) → order_of xs ys < 65536
 order_is [] ys = omega arith
 order_is (x ∷ xs) [] = omega arith
-order_is (x ∷ xs) (y ∷ ys) = by_first (nat_lt x y) (nat_lt y x) (order_is xs ys)
-  where
-    by_first : (a b : Bool) → order_of xs ys < 65536
-        → unwrap_or (cond a (Some 65535) (cond b (Some 1) None)) (order_of xs ys) < 65536
-    by_first true b rest = omega arith
-    by_first false true rest = omega arith
-    by_first false false rest = rest
+order_is (x ∷ xs) (y ∷ ys) = grind (arith, order_is xs ys)
 
 -- ---- words that fit
 
@@ -83,10 +69,7 @@ bytes_fit world from objects number at (suc count) =
 
 -- a component of an array of bytes is a byte; one that isn't there is 0
 byte_bits : (v : TaggedValue) → is_byte v ≡ true → bits v < 256
-byte_bits (Word n) e = ltb-true n 256 e
-byte_bits (Ref n) e = absurd cc
-byte_bits Null e = absurd cc
-byte_bits Unset e = absurd cc
+byte_bits v h1 = grind (arith, ltb-true)
 
 byte_at : (cells : List TaggedValue) (at : ℕ) → AllByRecursion (λ v. is_byte v ≡ true) cells
     → get_or (map bits cells) at 0 < 256
@@ -171,27 +154,19 @@ module _ (known : Known) where
   pub to_bytes : (number from : ℕ) (words : List ℕ) → LeadsToBytes call.heap number
       → FitsWords w.shapes ByteArray from words
       → FitsWrite w.shapes call.heap (record { by = ByCode; object = number; from = from; words = words })
-  to_bytes number from words leads fits o found =
-      subst (λ type. FitsWords w.shapes type from words) (sym (leads o found)) fits
+  to_bytes number from words leads fits o found = grind arith
 
   -- words that fit objects of a class below one
   to_class : (number from : ℕ) (words : List ℕ) (c : ApiClass) → LeadsToClass w.shapes call.heap number (Api c)
       → ((type : ObjectType) → is_of_class w.shapes (Api c) type ≡ true → FitsWords w.shapes type from words)
       → FitsWrite w.shapes call.heap (record { by = ByCode; object = number; from = from; words = words })
-  to_class number from words c leads fits o found =
-      let same = same_Some leads.object o (sym leads.found ∙ found) in
-      fits o.kind.object (ap (λ (x : Object TaggedValue). is_of_class w.shapes (Api c) x.kind.object) (sym same)
-      ∙ leads.below)
+  to_class number from words c leads fits o found = grind (arith, same_Some)
 
   -- ---- the runtime's own objects
 
   own_leads : (row : RuntimeObject) (c : ApiClass) → HasRuntimeObject call.heap row → row.type ≡ OfClass (Api c)
       → above_in most_classes c c ≡ true → LeadsToClass w.shapes call.heap row.number (Api c)
-  own_leads row c has type itself = record {
-    object = has.object;
-    found = has.found;
-    below = ap (is_of_class w.shapes (Api c)) (has.type ∙ type) ∙ below_is w.shapes there c c itself;
-  }
+  own_leads row c has type itself = grind (arith, below_is)
 
   own_thrown : (row : RuntimeObject) (c : ApiClass) → HasRuntimeObject call.heap row → row.type ≡ OfClass (Api c)
       → above_in most_classes api.Throwable c ≡ true → IsThrown w call.heap row.number
@@ -244,9 +219,7 @@ module _ (known : Known) where
   apdu_leads = own_leads _ api.ApduException (own_object call.heap 9 _ fit.runtime_objects refl) refl refl
 
   pub buffer_leads : LeadsToBytes call.heap 12
-  buffer_leads o found =
-      let has = own_object call.heap 11 _ fit.runtime_objects refl in
-      ap (λ (x : Object TaggedValue). x.kind.object) (same_Some o has.object (sym found ∙ has.found)) ∙ has.type
+  buffer_leads o found = grind (arith, own_object, same_Some)
 
   pub aid_leads : (number : ℕ) → is_instance_number number ≡ true
       → LeadsToClass w.shapes call.heap (13 + number) (Api api.Aid)
@@ -257,25 +230,14 @@ module _ (known : Known) where
 
   pub no_array : (c : ApiClass) → is_same_name (Api api.Object) (Api c) ≡ false → above_in most_classes c api.Object ≡ false
       → is_class_below w.shapes (Api api.Object) (Api c) ≡ true → ⊥
-  no_array c other none e =
-      let one = ap (λ b. b || is_at_or_above w.shapes most_classes (Api c) (Api api.Object)) (sym other) ∙ e in
-      let two = sym (above_is w.shapes there most_classes c api.Object) ∙ one in
-      unequal (sym none ∙ two)
-    where
-      unequal : false ≡ true → ⊥
-      unequal g = cc
+  no_array c other none e = grind (arith, above_is)
 
   class_fits : (c : ApiClass) (words : List ℕ) → is_same_name (Api api.Object) (Api c) ≡ false
       → above_in most_classes c api.Object ≡ false
       → ((d : ClassName) → is_at_or_above w.shapes most_classes (Api c) d ≡ true
       → FitsWords w.shapes (OfClass d) 0 words)
       → (type : ObjectType) → is_of_class w.shapes (Api c) type ≡ true → FitsWords w.shapes type 0 words
-  class_fits c words other none fits (OfClass d) e =
-      fits d (ap (λ b. b || is_at_or_above w.shapes most_classes (Api c) d) (sym other) ∙ e)
-  class_fits c words other none fits BooleanArray e = absurd (no_array c other none e)
-  class_fits c words other none fits ByteArray e = absurd (no_array c other none e)
-  class_fits c words other none fits ShortArray e = absurd (no_array c other none e)
-  class_fits c words other none fits (ReferenceArray d) e = absurd (no_array c other none e)
+  class_fits c words h1 h2 h3 type h4 = grind (arith, no_array)
 
   -- a reason
   reason_written : (number n : ℕ) (c : ApiClass) → LeadsToClass w.shapes call.heap number (Api c) → n < 65536

@@ -1,7 +1,6 @@
 -- Native members keep objects typed and what the runtime keeps fitting, and end as they are declared to.
-use Rattle.std.proofs.Common.{◌≡◌, ◌⊎◌, inl, inr, ℕ, ◌+◌, ◌/◌, ◌<◌, ◌==◌, ◌&&◌, Bool, true, false, cond, List, [], ◌∷◌}
-use Rattle.std.proofs.Common.{bytes_eq, length, replicate, nat_le, nat_lt, Option, Some, None, refl, ap, subst, ◌∙◌}
-use Rattle.std.proofs.Common.{arith}
+use Rattle.std.proofs.Common.{◌≡◌, ◌⊎◌, inl, inr, ℕ, ◌+◌, ◌/◌, ◌<◌, ◌&&◌, Bool, true, false, List, [], ◌∷◌, bytes_eq}
+use Rattle.std.proofs.Common.{length, replicate, nat_le, nat_lt, Option, Some, None, refl, subst, arith}
 use Rattle.std.proofs.lemmas.Bool.{leb-true, lt-ltb, ltb-true}
 use Rattle.std.specs.List.{find}
 use Rattle.std.specs.Option.{option_map_or}
@@ -9,17 +8,15 @@ use Rattle.jc_api.specs.Member.{ApiMember, member_of}
 use Rattle.jc_api.specs.declared.class.ApiClass.{ApiClass}
 use Rattle.jc_api.specs.declared.class.ApiClass.TheVariants as api
 use Rattle.jc_api.specs.declared.member.MemberKind.TheVariants.{Static, Virtual}
-use Rattle.jc_base.specs.Signature.{Signature, return_map, signature_map}
+use Rattle.jc_base.specs.Signature.{return_map, signature_map}
 use Rattle.jc_base.specs.declared.declared_type.DeclaredType.TheVariants as types
 use Rattle.jc_base.specs.declared.declared_type.ReturnType.TheVariants.{Value}
 use Rattle.jc_classes.specs.Subtype.{is_class_below}
-use Rattle.jc_link.specs.Found.{is_same_return}
 use Rattle.jc_link.specs.MemberType.{counted}
 use Rattle.jc_machine.specs.Machine.{ByCode}
 use Rattle.jc_machine.specs.Calls.{type_of_member}
-use Rattle.jc_machine.specs.Lookup.{are_of_types, component_class, is_boolean_array, is_byte_array, is_of_class}
+use Rattle.jc_machine.specs.Lookup.{component_class, is_boolean_array, is_byte_array, is_of_class}
 use Rattle.jc_machine.specs.Lookup.{is_short_array, leads_to}
-use Rattle.jc_names.specs.declared.name.ClassName.{ClassName}
 use Rattle.jc_names.specs.declared.name.ClassName.TheVariants.{Api}
 use Rattle.jc_natives.specs.MemberTypes.{counted_name}
 use Rattle.jc_natives.proofs.Bare.{both}
@@ -38,9 +35,9 @@ use Rattle.jc_natives.proofs.Simulation.{passed_some}
 use Rattle.jc_natives.proofs.Suits as suits
 use Rattle.jc_natives.proofs.Suits.{Gives, HasObject, HasReason, Suits}
 use Rattle.jc_natives.specs.Cells.{extended, high, low}
-use Rattle.jc_natives.specs.Kept.{Kept, are_bytes, expected_of, has_aid_length, instance_with, is_aid, is_fresh}
-use Rattle.jc_natives.specs.Kept.{is_incoming, is_instance_number, is_length_set, is_outgoing, is_same_owner}
-use Rattle.jc_natives.specs.Meaning.{fits_instance, has_applet, reference}
+use Rattle.jc_natives.specs.Kept.{Kept, are_bytes, expected_of, has_aid_length, instance_with, is_fresh}
+use Rattle.jc_natives.specs.Kept.{is_incoming, is_length_set, is_outgoing}
+use Rattle.jc_natives.specs.Meaning.{fits_instance, reference}
 use Rattle.jc_natives.specs.Members.{aid_of_owner, event_of}
 use Rattle.jc_natives.specs.PrivateAids.{aid_work, constructs, is_range}
 use Rattle.jc_natives.specs.PrivateApdus.{apdu_work, is_in_buffer}
@@ -71,8 +68,7 @@ use Rattle.jc_natives.specs.declared.native.SystemNative.TheVariants as system
 use Rattle.jc_natives.specs.declared.native.UtilityNative.{UtilityNative}
 use Rattle.jc_natives.specs.declared.native.UtilityNative.TheVariants as utilities
 use Rattle.jc_natives.specs.declared.native.Native.{Native}
-use Rattle.jc_store.specs.Heap.{Heap, object_at}
-use Rattle.jc_words.specs.Values.{Word}
+use Rattle.jc_store.specs.Heap.{Heap}
 
 module _ (known : Known) where
   open known use {w, call, there, supers, fit, given}
@@ -115,14 +111,7 @@ module _ (known : Known) where
 
       aid_given : (n : ℕ) → leads_to call.heap (is_of_class w.shapes (Api api.Aid)) (reference n) ≡ true
           → Gives suits.aid m.signature.result → Fits known (Does [] k (GivesReference n))
-      aid_given n leads g = (
-        tt,
-        (
-          fit.fits,
-          gives_as known m.signature.result is (Value (types.Reference api.Aid)) g (Some (reference n))
-              call.heap leads,
-        ),
-      )
+      aid_given n leads g = grind (arith, leads, gives_as)
 
       -- the object of a member
       object_is : (c : ApiClass) → HasObject m c → LeadsToClass w.shapes call.heap (argument args 0) (Api c)
@@ -196,17 +185,7 @@ module _ (known : Known) where
       )
 
       expected_is : expected_of k < 65536
-      expected_is = by_none (k.expected == 0)
-        where
-          low_byte : k.expected < 256
-          low_byte =
-              ltb-true k.expected 256
-              (both (are_bytes k.incoming && nat_le (length k.incoming) 255) (nat_lt k.expected 256)
-              (command_fits known)).1
-
-          by_none : (b : Bool) → cond b 256 k.expected < 65536
-          by_none true = omega arith
-          by_none false = let a = low_byte in omega (arith, a)
+      expected_is = grind (arith, ltb-true, both, nat_le, command_fits)
 
       apdu_fits : (native : ApduNative) → Suits (OfApdu native) m → Fits known (apdu_work s k args native)
       apdu_fits apdus.GetBuffer g = (tt, (fit.fits, buffer_ends known m.signature.result is g))
@@ -270,36 +249,7 @@ module _ (known : Known) where
           → leads_to call.heap (is_of_class w.shapes (Api api.Aid)) (reference n) ≡ true
           → Gives suits.shareable m.signature.result → m.kind ≡ Static
           → AsksWell known (record { object = i.object; aid = n; word = word })
-      question_fits i n word fits small leads g kind =
-          let a = both (is_aid i.aid && is_instance_number i.owner.instance)
-          (option_map_or (has_applet w.shapes i) (object_at call.heap i.object) false) fits in
-          let d = passed_some (has_applet w.shapes i) (object_at call.heap i.object) a.1 in
-          let below = (both (is_of_class w.shapes (Api api.Applet) (d.0).kind.object)
-          (is_same_owner (d.0).owner i.owner) d.2).0 in
-          record {
-            caller = m;
-            caller_is = numbered_is;
-            static = kind;
-            shareable = refl;
-            member = asking;
-            member_is = asking_is;
-            virtual = asking_kind;
-            object = d.0;
-            there = d.1;
-            below = ap (λ c. is_of_class w.shapes (Api c) (d.0).kind.object) asking_class ∙ below;
-            signature = signature_map counted_name asking.signature;
-            declared = asked_type;
-            arguments =
-                ap (λ (x : Signature ClassName). are_of_types w.shapes call.heap x.parameters
-                (reference n ∷ Word word ∷ [])) asking_signature
-                ∙ both_are (leads_to call.heap (is_of_class w.shapes (Api api.Aid)) (reference n)) _ leads
-                (both_are (nat_lt word 65536) true (lt-ltb word 65536 small) refl);
-            result =
-                ap (λ x. is_same_return x (signature_map counted_name asking.signature).result)
-                (is ∙ ap (return_map counted_name) g)
-                ∙ ap (λ (x : Signature ClassName). is_same_return (Value (types.Reference (Api api.Object))) x.result)
-                asking_signature;
-          }
+      question_fits i n word fits small leads g kind = grind (arith, leads, both, passed_some, both_are, lt-ltb)
 
       asks_fit : (word : ℕ) (p : Instance → Bool) (x : Option Instance) → find p k.instances ≡ x
           → Gives suits.shareable m.signature.result → m.kind ≡ Static → Fits known (asks s k word x)
@@ -382,12 +332,7 @@ module _ (known : Known) where
       utility_fits utilities.MakeShort g = word_given _ (two_are (argument args 0) (argument args 1)) g
 
       work_fits : (native : Native) → Suits native m → Fits known (work_of s k args native)
-      work_fits (OfObject native) g = object_fits native g
-      work_fits (OfAid native) g = aid_fits native g
-      work_fits (OfApdu native) g = apdu_fits native g
-      work_fits (OfApplet native) g = applet_fits native g
-      work_fits (OfSystem native) g = system_fits native g
-      work_fits (OfUtility native) g = utility_fits native g
+      work_fits native h1 = grind (arith, object_fits, aid_fits, apdu_fits, applet_fits, system_fits, utility_fits)
 
       pub begun_fits : (native : Native) → Suits native m → Answers known (begun_on_words w call (Some native))
       begun_fits native g =

@@ -27,16 +27,12 @@ got_set_other (z ∷ xs) (suc n) (suc m) y h = got_set_other xs n m y (λ e. h (
 
 pub same_object : {V : Type 0} (heap : Heap V) (number : ℕ) (object : Object V) → object_at heap number ≡ Some object
     → object_at (with_object heap number object) number ≡ Some object
-same_object heap zero object e = absurd (none-some object e)
-same_object heap (suc n) object e = got_set_same heap n object object e
+same_object heap number object h1 = grind (arith, none-some, got_set_same)
 
 pub new_object : {V : Type 0} (heap : Heap V) (number : ℕ) (before after : Object V)
     → object_at heap number ≡ Some before → object_at (with_object heap number after) number ≡ Some after
-new_object heap zero before after e = absurd (none-some before e)
-new_object heap (suc n) before after e = got_set_same heap n before after e
+new_object heap number before after h1 = grind (arith, none-some, got_set_same)
 
 pub other_object : {V : Type 0} (heap : Heap V) (number other : ℕ) (object : Object V) → number ≢ other
     → object_at (with_object heap number object) other ≡ object_at heap other
-other_object heap zero other object h = refl
-other_object heap (suc n) zero object h = refl
-other_object heap (suc n) (suc m) object h = got_set_other heap n m object (λ e. h (ap suc e))
+other_object heap number other object h1 = grind (arith, got_set_other)

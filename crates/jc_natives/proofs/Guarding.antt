@@ -6,9 +6,7 @@ use Rattle.std.proofs.lemmas.Bool.{eq-eqb, eqb-true, leb-true, ltb-true}
 use Rattle.std.proofs.lemmas.List.{length-set}
 use Rattle.std.proofs.lemmas.Option.{none-some, same_Some}
 use Rattle.std.specs.List.{AllByRecursion, list_any}
-use Rattle.std.specs.Option.{option_map, option_map_or}
-use Rattle.jc_firewall.specs.Verdict.{is_entry_point, is_global_array, is_out_of_selection, is_own, runtime}
-use Rattle.jc_firewall.specs.Verdict.{runtime_context, verdict_of}
+use Rattle.jc_firewall.specs.Verdict.{is_own, runtime, runtime_context, verdict_of}
 use Rattle.jc_firewall.specs.declared.access.Access.TheVariants.{PutField, StoreComponent}
 use Rattle.jc_firewall.specs.declared.access.Facts.{Facts}
 use Rattle.jc_firewall.specs.declared.access.Rule.TheVariants as rules
@@ -31,12 +29,10 @@ use Rattle.jc_natives.specs.Kept.{Kept}
 use Rattle.jc_natives.specs.Meaning.{has_words, meaning, own_touch, own_touch_of, own_touches, registering, touch_by}
 use Rattle.jc_natives.specs.PrivateCells.{bare}
 use Rattle.jc_natives.specs.PrivateSeen.{seen_of}
-use Rattle.jc_natives.specs.PrivateTests.{Tested, by_verdict, facts_of, followed, goes_on, on_object, ranged, test}
-use Rattle.jc_natives.specs.PrivateTests.{tested, touch_of, used}
+use Rattle.jc_natives.specs.PrivateTests.{Tested, by_verdict, facts_of, followed, ranged, test, tested, touch_of, used}
 use Rattle.jc_natives.specs.declared.row.Range.{Range}
 use Rattle.jc_natives.specs.declared.row.Row.{Row}
 use Rattle.jc_natives.specs.declared.row.Test.{Test}
-use Rattle.jc_natives.specs.declared.row.Test.TheVariants.{BesideAid, Nothing}
 use Rattle.jc_natives.specs.declared.row.Test.TheVariants as tests
 use Rattle.jc_natives.specs.declared.row.Way.{Way}
 use Rattle.jc_natives.specs.declared.row.Way.TheVariants as ways
@@ -58,8 +54,7 @@ denied_behind : (xs ys : List Touch) → are_allowed xs ≡ true → is_last_den
     ≡ true
 denied_behind [] ys e f = f
 denied_behind (x ∷ []) [] e f = absurd cc
-denied_behind (x ∷ []) (y ∷ ys) e f =
-    let b = both (is_allowed x.verdict) true e in ap (λ a. a && is_last_denied (y ∷ ys)) b.0 ∙ f
+denied_behind (x ∷ []) (y ∷ ys) e f = grind (arith, both)
 denied_behind (x ∷ z ∷ xs) ys e f =
     let b = both (is_allowed x.verdict) (are_allowed (z ∷ xs)) e in
     ap (λ a. a && is_last_denied (z ∷ xs ++ ys)) b.0 ∙ denied_behind (z ∷ xs) ys b.1 f
@@ -76,9 +71,7 @@ got_front (y ∷ xs) ys (suc n) x e = got_front xs ys n x e
 
 got_back : {A : Type 0} (xs ys : List A) (n : ℕ) → slice_get (xs ++ ys) (length xs + n) ≡ slice_get ys n
 got_back [] ys n = let e : 0 + n ≡ n = omega arith in ap (slice_get ys) e
-got_back (x ∷ xs) ys n =
-    let e : suc (length xs) + n ≡ suc (length xs + n) = omega arith in
-    ap (slice_get (x ∷ xs ++ ys)) e ∙ got_back xs ys n
+got_back (x ∷ xs) ys n = grind (arith, got_back xs ys n)
 
 -- ---- what the tests access
 
@@ -104,85 +97,36 @@ module _ (w : World) (call : NativeCall Kept) where
   same_verdict : (way : Way) (o : Object TaggedValue)
       → verdict_of (access_of way) call.active.context (facts_of (seen_of w call) (bare o))
       ≡ verdict_of (access_of way) call.active.context (facts_in w.shapes call.selected o None false)
-  same_verdict ways.Fields o = refl
-  same_verdict ways.Loads o = refl
-  same_verdict ways.Stores o = refl
-  same_verdict ways.Calls o = refl
+  same_verdict way o = grind arith
 
   use_of : (way : Way) (number : ℕ) (o : Object TaggedValue) (v : Verdict) → object_at call.heap number ≡ Some o
       → verdict_of (access_of way) call.active.context (facts_of (seen_of w call) (bare o)) ≡ v
       → IsUse w call (touch_of (seen_of w call) way number v)
-  use_of way number o v found is = record {
-    native = record { active = refl; object = o; found = found; verdict = sym is ∙ same_verdict way o };
-    way = way;
-    access = refl;
-    active = refl;
-  }
+  use_of way number o v found is = grind (arith, same_verdict)
 
   by_verdict_uses : (way : Way) (number : ℕ) (o : Object TaggedValue) (v : Verdict) → object_at call.heap number
       ≡ Some o
       → verdict_of (access_of way) call.active.context (facts_of (seen_of w call) (bare o)) ≡ v
       → AreUses w call (by_verdict (seen_of w call) way number v)
-  by_verdict_uses way number o Allowed found is =
-      record { uses = (use_of way number o Allowed found is, tt); verdicts = inl refl }
-  by_verdict_uses way number o (AllowedSwitch owner) found is =
-      record { uses = (use_of way number o (AllowedSwitch owner) found is, tt); verdicts = inl refl }
-  by_verdict_uses way number o (Denied rule) found is =
-      record { uses = (use_of way number o (Denied rule) found is, tt); verdicts = inr (refl, refl) }
+  by_verdict_uses way number o v h1 h2 = grind (arith, use_of)
 
   used_uses : (way : Way) (number : ℕ) → AreUses w call (used (seen_of w call) way number)
-  used_uses way number =
-      subst (λ o. AreUses w call (on_object (seen_of w call) way number o)) (sym (bare_object call.heap number))
-      (by_object (object_at call.heap number) refl)
-    where
-      by_object : (o : Option (Object TaggedValue)) → object_at call.heap number ≡ o
-          → AreUses w call (on_object (seen_of w call) way number (option_map bare o))
-      by_object None e = no_use _
-      by_object (Some o) e =
-          by_verdict_uses way number o
-          (verdict_of (access_of way) call.active.context (facts_of (seen_of w call) (bare o))) e refl
+  used_uses way number = grind (arith, bare_object, no_use, by_verdict_uses)
 
   either_uses : (b : Bool) (t u : Tested) → AreUses w call t → AreUses w call u → AreUses w call (cond b t u)
-  either_uses true t u a b = a
-  either_uses false t u a b = b
+  either_uses b t u h1 h2 = grind arith
 
   test_uses : (arguments : List ℕ) (one : Test) → AreUses w call (test (seen_of w call) arguments one)
-  test_uses arguments tests.Nothing = no_use _
-  test_uses arguments (tests.Object place way) = used_uses way _
-  test_uses arguments (tests.ObjectOrNull place way) = either_uses _ _ _ (no_use _) (used_uses way _)
-  test_uses arguments tests.BesideAid = either_uses _ _ _ (used_uses ways.Calls _) (no_use _)
+  test_uses arguments one = grind (arith, no_use, used_uses, either_uses)
 
   ranged_uses : (arguments : List ℕ) (r : Option Range) → AreUses w call (ranged (seen_of w call) arguments r)
-  ranged_uses arguments None = no_use _
-  ranged_uses arguments (Some r) = either_uses _ _ _ (no_use _) (no_use _)
+  ranged_uses arguments r = grind (arith, no_use, either_uses)
 
   followed_uses : (t u : Tested) → AreUses w call t → AreUses w call u → AreUses w call (followed t u)
-  followed_uses t u a b = by_thrown t.thrown refl
-    where
-      behind : t.thrown ≡ None → (are_allowed t.touches ≡ true) ⊎ Refuses t → (are_allowed u.touches ≡ true) ⊎ Refuses u
-          → (are_allowed (t.touches ++ u.touches) ≡ true)
-          ⊎ Refuses (record { touches = t.touches ++ u.touches; thrown = u.thrown })
-      behind e (inl f) (inl g) = inl (allowed_both t.touches u.touches f g)
-      behind e (inl f) (inr g) = inr (denied_behind t.touches u.touches f g.0, g.1)
-      behind e (inr f) g = absurd (none-some security_exception (sym e ∙ f.1))
-
-      same : (object : ℕ) → t.thrown ≡ Some object → (are_allowed t.touches ≡ true) ⊎ Refuses t
-          → (are_allowed t.touches ≡ true) ⊎ Refuses (record { touches = t.touches; thrown = Some object })
-      same object e (inl f) = inl f
-      same object e (inr f) = inr (f.0, sym e ∙ f.1)
-
-      by_thrown : (thrown : Option ℕ) → t.thrown ≡ thrown → AreUses w call (goes_on t.touches thrown u)
-      by_thrown (Some object) e = record { uses = a.uses; verdicts = same object e a.verdicts }
-      by_thrown None e = record {
-        uses = all_both (IsUse w call) t.touches u.touches a.uses b.uses;
-        verdicts = behind e a.verdicts b.verdicts;
-      }
+  followed_uses t u a b = grind (arith, allowed_both, denied_behind, none-some, all_both)
 
   pub tested_uses : (arguments : List ℕ) (row : Row) → AreUses w call (tested (seen_of w call) arguments row)
-  tested_uses arguments row =
-      followed_uses _ _ (test_uses arguments row.first)
-      (followed_uses _ _ (test_uses arguments row.second)
-      (followed_uses _ _ (ranged_uses arguments row.first_range) (ranged_uses arguments row.second_range)))
+  tested_uses arguments row = grind (arith, followed_uses, test_uses, ranged_uses)
 
   pub natives_of : (touches : List Touch) → AllByRecursion (IsUse w call) touches
       → AllByRecursion (IsJudged (setting_for meaning w call)) touches
@@ -268,14 +212,7 @@ keeps_new heap object (suc n) o found = record {
 -- objects that aren't written are as they were
 put_apart : (heap : Heap TaggedValue) (number index other : ℕ) (value : TaggedValue) → number ≢ other
     → object_at (put heap number index value) other ≡ object_at heap other
-put_apart heap number index other value h = by_object (object_at heap number) refl
-  where
-    by_object : (o : Option (Object TaggedValue)) → object_at heap number ≡ o
-        → object_at (put heap number index value) other ≡ object_at heap other
-    by_object None e = ap (λ x. object_at x other) (put_none heap number index value e)
-    by_object (Some o) e =
-        ap (λ x. object_at x other) (put_some heap number index value o e)
-        ∙ other_object heap number other (with_cell o index value) h
+put_apart heap number index other value h = grind (arith, put_none, put_some, other_object)
 
 put_all_apart : (heap : Heap TaggedValue) (number from other : ℕ) (values : List TaggedValue) → number ≢ other
     → object_at (put_all heap number from values) other ≡ object_at heap other
@@ -291,8 +228,7 @@ abbrev pub is_written_in : List Write → ℕ → Bool
 is_written_in writes number = list_any (is_write_to number) writes
 
 neither : (a b : Bool) → (a || b) ≡ false → (a ≡ false) × (b ≡ false)
-neither false b e = (refl, e)
-neither true b e = absurd cc
+neither a b h1 = grind arith
 
 unequal : false ≡ true → ⊥
 unequal g = cc
@@ -301,10 +237,7 @@ unequal g = cc
 put_elsewhere : (heap : Heap TaggedValue) (object from number : ℕ) (words : List ℕ)
     → (has_words words && object == number) ≡ false
     → object_at (put_all heap object from (map Word words)) number ≡ object_at heap number
-put_elsewhere heap object from number [] e = refl
-put_elsewhere heap object from number (word ∷ words) e =
-    put_all_apart heap object from number (map Word (word ∷ words))
-    (λ f. unequal (sym e ∙ eq-eqb object number f))
+put_elsewhere heap object from number words h1 = grind (arith, put_all_apart, unequal, eq-eqb)
 
 written_apart : (heap : Heap TaggedValue) (writes : List Write) (number : ℕ) → is_written_in writes number ≡ false
     → object_at (written Word heap writes) number ≡ object_at heap number
@@ -320,47 +253,27 @@ written_apart heap (x ∷ writes) number e =
 by_fields : (by_runtime own : Bool) → is_allowed (cond by_runtime Allowed (cond own Allowed (Denied rules.Fields)))
     ≡ true
     → (own ≡ true) ⊎ (by_runtime ≡ true)
-by_fields true own e = inr refl
-by_fields false true e = inl refl
-by_fields false false e = absurd cc
+by_fields by_runtime own h1 = grind arith
 
 by_components : (by_runtime out own global : Bool)
     → is_allowed (cond by_runtime Allowed
     (cond out (Denied rules.Selection) (cond (own || global) Allowed (Denied rules.Components)))) ≡ true
     → global ≡ false → (own ≡ true) ⊎ (by_runtime ≡ true)
-by_components true out own global e f = inr refl
-by_components false true own global e f = absurd cc
-by_components false false true global e f = inl refl
-by_components false false false true e f = absurd cc
-by_components false false false false e f = absurd cc
+by_components by_runtime out own global h1 h2 = grind arith
 
 by_calls : (by_runtime own entry global : Bool) (owner : Owner)
     → is_allowed (cond by_runtime (AllowedSwitch owner)
     (cond own Allowed (cond (entry || global) (AllowedSwitch runtime) (Denied rules.Calls)))) ≡ true
     → entry ≡ false → global ≡ false → (own ≡ true) ⊎ (by_runtime ≡ true)
-by_calls true own entry global owner e f g = inr refl
-by_calls false true entry global owner e f g = inl refl
-by_calls false false true global owner e f g = absurd cc
-by_calls false false false true owner e f g = absurd cc
-by_calls false false false false owner e f g = absurd cc
+by_calls by_runtime own entry global owner h1 h2 h3 = grind arith
 
 whose : (active : ℕ) (f : Facts) → (is_own active f ≡ true) ⊎ ((active == runtime_context) ≡ true)
     → (active ≡ f.owner.context) ⊎ (active ≡ runtime_context)
-whose active f (inl e) = inl (sym (eqb-true f.owner.context active e))
-whose active f (inr e) = inr (eqb-true active runtime_context e)
+whose active f h1 = grind (arith, eqb-true)
 
 own_use : (way : Way) (active : ℕ) (f : Facts) → is_allowed (verdict_of (access_of way) active f) ≡ true
     → f.mark ≡ Plain → (active ≡ f.owner.context) ⊎ (active ≡ runtime_context)
-own_use ways.Fields active f e plain = whose active f (by_fields (active == runtime_context) (is_own active f) e)
-own_use ways.Loads active f e plain =
-    whose active f (by_components (active == runtime_context) (is_out_of_selection active f) (is_own active f)
-    (is_global_array f.mark) e (ap is_global_array plain))
-own_use ways.Stores active f e plain =
-    whose active f (by_components (active == runtime_context) (is_out_of_selection active f) (is_own active f)
-    (is_global_array f.mark) e (ap is_global_array plain))
-own_use ways.Calls active f e plain =
-    whose active f (by_calls (active == runtime_context) (is_own active f) (is_entry_point f.mark)
-    (is_global_array f.mark) f.owner e (ap is_entry_point plain) (ap is_global_array plain))
+own_use way active f h1 h2 = grind (arith, whose, by_fields, by_components, by_calls)
 
 -- what is written was tested, where the caller writes, and is named, where the runtime does
 pub record IsPlaced (registers : Option ℕ) (touches : List Touch) (by : By) (number : ℕ) : Type 0 where
@@ -434,37 +347,18 @@ module _ (w : World) (call : NativeCall Kept) where
 
   accessed_in_front : (xs ys : List Touch) (number : ℕ) (o : Object TaggedValue) → IsAccessed active xs number o
       → IsAccessed active (xs ++ ys) number o
-  accessed_in_front xs ys number o a = record {
-    place = a.place;
-    touch = a.touch;
-    listed = got_front xs ys a.place a.touch a.listed;
-    is = a.is;
-    changes = a.changes;
-    allowed = a.allowed;
-    who = a.who;
-    own = a.own;
-  }
+  accessed_in_front xs ys number o a = grind (arith, got_front)
 
   accessed_behind : (xs ys : List Touch) (number : ℕ) (o : Object TaggedValue) → IsAccessed active ys number o
       → IsAccessed active (xs ++ ys) number o
-  accessed_behind xs ys number o a = record {
-    place = length xs + a.place;
-    touch = a.touch;
-    listed = got_back xs ys a.place ∙ a.listed;
-    is = a.is;
-    changes = a.changes;
-    allowed = a.allowed;
-    who = a.who;
-    own = a.own;
-  }
+  accessed_behind xs ys number o a = grind (arith, got_back)
 
   -- an object that is written
   module _ (touches : List Touch) (uses : AllByRecursion (IsUse w call) touches)
       (fine : are_allowed touches ≡ true) (number : ℕ) (o : Object TaggedValue)
       (found : object_at call.heap number ≡ Some o) where
     may_change_so : (array : Bool) → may_change (cond array StoreComponent PutField) ≡ true
-    may_change_so true = refl
-    may_change_so false = refl
+    may_change_so array = grind arith
 
     own_accessed : (ts : List Touch) → IsAccessed active (own_touch number o ∷ ts) number o
     own_accessed ts = record {
@@ -482,20 +376,12 @@ module _ (w : World) (call : NativeCall Kept) where
     Either writes = IsAccessed active touches number o ⊎ IsAccessed active (own_touches call.heap writes) number o
 
     later_access : (x : Write) (writes : List Write) → Either writes → Either (x ∷ writes)
-    later_access x writes (inl a) = inl a
-    later_access x writes (inr a) =
-        inr (accessed_behind (own_touch_of call.heap x) (own_touches call.heap writes) number o a)
+    later_access x writes h1 = grind (arith, accessed_behind)
 
     first_access : (by : By) (from : ℕ) (words : List ℕ) (writes : List Write)
         → IsPlaced (registering call.runtime) touches by number → has_words words ≡ true
         → Either (record { by = by; object = number; from = from; words = words } ∷ writes)
-    first_access ByCode from words writes placed some =
-        inl (tested_access touches uses fine number o found (placed.code refl))
-    first_access ByRuntime from words writes placed some =
-        inr (subst (λ (ts : List Touch). IsAccessed active (ts ++ own_touches call.heap writes) number o)
-        (sym (ap (λ b. cond b (option_map_or (λ object. own_touch number object ∷ []) (object_at call.heap number) [])
-        []) some ∙ ap (λ x. option_map_or (λ object. own_touch number object ∷ []) x []) found))
-        (own_accessed (own_touches call.heap writes)))
+    first_access by from words writes h1 h2 = grind (arith, tested_access, own_accessed)
 
     write_access_of : (writes : List Write) → ArePlaced (registering call.runtime) touches writes
         → is_written_in writes number ≡ true → Either writes
@@ -521,41 +407,23 @@ module _ (w : World) (call : NativeCall Kept) where
     where
       either_list : IsAccessed active touches number o ⊎ IsAccessed active (own_touches call.heap writes) number o
           → IsAccessed active (touches ++ own_touches call.heap writes) number o
-      either_list (inl a) = accessed_in_front touches (own_touches call.heap writes) number o a
-      either_list (inr a) = accessed_behind touches (own_touches call.heap writes) number o a
+      either_list h1 = grind (arith, accessed_in_front, accessed_behind)
 
       by_written : (b : Bool) → is_written_in writes number ≡ b
           → (p.cells ≡ o.cells) ⊎ IsAccessed active (touches ++ own_touches call.heap writes) number o
-      by_written false e =
-          inl (ap (λ (x : Object TaggedValue). x.cells)
-          (same_found (object_at call.heap number) o p before (sym (written_apart call.heap writes number e) ∙ after)))
-      by_written true e =
-          inr (either_list (write_access_of touches uses fine number o before writes placed e))
+      by_written b h1 = grind (arith, same_found, written_apart, either_list, write_access_of)
 
   -- the runtime's own accesses
   own_judged : (number : ℕ) (o : Object TaggedValue) → object_at call.heap number ≡ Some o
       → is_runtimes (registering call.runtime) number ≡ true → Judged (own_touch number o)
-  own_judged number o found named =
-      record { active = (refl, named); object = o; found = found; verdict = by_array (is_array o.kind.object) }
-    where
-      by_array : (b : Bool) → Allowed ≡ verdict_of (cond b StoreComponent PutField) runtime_context
-          (facts_in w.shapes call.selected o None false)
-      by_array true = refl
-      by_array false = refl
+  own_judged number o found named = grind arith
 
   touch_judged : (by : By) (number : ℕ) → (by ≡ ByRuntime → is_runtimes (registering call.runtime) number ≡ true)
       → AllByRecursion Judged (touch_by by call.heap number)
-  touch_judged ByCode number named = tt
-  touch_judged ByRuntime number named = by_object (object_at call.heap number) refl
-    where
-      by_object : (o : Option (Object TaggedValue)) → object_at call.heap number ≡ o
-          → AllByRecursion Judged (option_map_or (λ object. own_touch number object ∷ []) o [])
-      by_object None e = tt
-      by_object (Some o) e = (own_judged number o e (named refl), tt)
+  touch_judged by number h1 = grind (arith, own_judged)
 
   if_words : (P : List Touch → Type 0) (b : Bool) (ts : List Touch) → P ts → P [] → P (cond b ts [])
-  if_words P true ts p q = p
-  if_words P false ts p q = q
+  if_words P b ts h1 h2 = grind arith
 
   pub own_natives : (touches : List Touch) (writes : List Write)
       → ArePlaced (registering call.runtime) touches writes
@@ -567,13 +435,7 @@ module _ (w : World) (call : NativeCall Kept) where
       (touch_judged x.by x.object (placed.0).runtime) tt) (own_natives touches writes placed.1)
 
   touch_allowed : (by : By) (number : ℕ) → are_allowed (touch_by by call.heap number) ≡ true
-  touch_allowed ByCode number = refl
-  touch_allowed ByRuntime number = by_object (object_at call.heap number)
-    where
-      by_object : (o : Option (Object TaggedValue))
-          → are_allowed (option_map_or (λ object. own_touch number object ∷ []) o []) ≡ true
-      by_object None = refl
-      by_object (Some o) = refl
+  touch_allowed by number = grind arith
 
   pub own_allowed : (writes : List Write) → are_allowed (own_touches call.heap writes) ≡ true
   own_allowed [] = refl
@@ -587,11 +449,8 @@ module _ (w : World) (call : NativeCall Kept) where
 sums_set : (heap : Heap TaggedValue) (n : ℕ) (before after : Object TaggedValue) → slice_get heap n ≡ Some before
     → length after.cells ≡ length before.cells → cells_in (set heap n after) ≡ cells_in heap
 sums_set [] n before after e same = refl
-sums_set (o ∷ heap) zero before after e same =
-    ap (λ k. 1 + k + cells_in heap)
-    (same ∙ ap (λ (x : Object TaggedValue). length x.cells) (sym (same_Some o before e)))
-sums_set (o ∷ heap) (suc n) before after e same =
-    ap (λ k. 1 + length o.cells + k) (sums_set heap n before after e same)
+sums_set (o ∷ heap) zero before after e same = grind (arith, same, same_Some)
+sums_set (o ∷ heap) (suc n) before after e same = grind (arith, same, sums_set heap n before after e same)
 
 pub record IsAsLarge (before after : Heap TaggedValue) : Type 0 where
   pub objects : length after ≡ length before

@@ -1,6 +1,6 @@
 -- What members write holds no reference that may not be stored: it is words.
-use Rattle.std.proofs.Common.{◌≡◌, ◌≢◌, ◌⊎◌, inl, inr, ℕ, zero, suc, ◌+◌, true, List, [], ◌∷◌, map, replicate, set}
-use Rattle.std.proofs.Common.{Option, Some, None, refl, sym, ap, subst, ◌∙◌}
+use Rattle.std.proofs.Common.{◌≡◌, ◌≢◌, ◌⊎◌, ℕ, zero, suc, ◌+◌, true, List, [], ◌∷◌, map, replicate, set, arith}
+use Rattle.std.proofs.Common.{Option, Some, None, refl, sym, subst}
 use Rattle.std.proofs.lemmas.Option.{none-some}
 use Rattle.std.specs.List.{AllByRecursion}
 use Rattle.jc_machine.specs.Natives.{KeepsObjects}
@@ -14,7 +14,6 @@ use Rattle.jc_natives.specs.Cells.{Write, put, put_all, written}
 use Rattle.jc_natives.specs.Meaning.{blank_of, new_array}
 use Rattle.jc_natives.specs.Work.{NewArray}
 use Rattle.jc_natives.specs.declared.native.Elements.{Elements}
-use Rattle.jc_natives.specs.declared.native.Elements.TheVariants.{Booleans, Bytes, References, Shorts}
 use Rattle.jc_store.specs.Heap.{Heap, Object, object_at, with_cell, with_new, with_object}
 use Rattle.jc_words.specs.Values.{TaggedValue, Word}
 
@@ -53,30 +52,11 @@ module _ (still : HeldStays) where
         where
           by_number : (number ≢ n) ⊎ (number ≡ n) → AllByRecursion
               (Held (with_object heap number (with_cell o index (Word word)))) p.cells
-          by_number (inl apart) =
-              all_mapped (Held heap) (Held (with_object heap number (with_cell o index (Word word)))) p.cells
-              (still heap (with_object heap number (with_cell o index (Word word))) kept)
-              (holds n p (sym (other_object heap number n (with_cell o index (Word word)) apart) ∙ found))
-          by_number (inr same) =
-              let is : p ≡ with_cell o index (Word word) =
-              same_found (object_at (with_object heap number (with_cell o index (Word word))) n)
-              (with_cell o index (Word word)) p
-              (ap (object_at (with_object heap number (with_cell o index (Word word)))) (sym same)
-              ∙ new_object heap number o (with_cell o index (Word word)) there) found in
-              subst
-              (λ (x : Object TaggedValue). AllByRecursion
-              (Held (with_object heap number (with_cell o index (Word word)))) x.cells) (sym is)
-              (all_set (Held (with_object heap number (with_cell o index (Word word)))) o.cells index (Word word)
-              (all_mapped (Held heap) (Held (with_object heap number (with_cell o index (Word word)))) o.cells
-              (still heap (with_object heap number (with_cell o index (Word word))) kept) (holds number o there)) refl)
+          by_number h1 = grind (arith, all_mapped, other_object, same_found, new_object, all_set)
 
       by_object : (o : Option (Object TaggedValue)) → object_at heap number ≡ o
           → HoldStorable (put heap number index (Word word))
-      by_object None e = subst HoldStorable (sym (put_none heap number index (Word word) e)) holds
-      by_object (Some o) e =
-          let is = put_some heap number index (Word word) o e in
-          subst HoldStorable (sym is)
-          (one_holds o e (subst (KeepsObjects heap) is (keeps_put heap number index (Word word))))
+      by_object o h1 = grind (arith, put_none, put_some, one_holds, keeps_put)
 
   pub put_all_holds : (heap : Heap TaggedValue) → HoldStorable heap → (number from : ℕ) (words : List ℕ)
       → HoldStorable (put_all heap number from (map Word words))
@@ -92,10 +72,7 @@ module _ (still : HeldStays) where
       (put_all_holds heap holds x.object x.from x.words) writes
 
   blank_held : (heap : Heap TaggedValue) (elements : Elements) → Held heap (blank_of elements)
-  blank_held heap Booleans = refl
-  blank_held heap Bytes = refl
-  blank_held heap Shorts = refl
-  blank_held heap References = refl
+  blank_held heap elements = grind arith
 
   pub made_holds : (heap : Heap TaggedValue) → HoldStorable heap → (owner : Owner) (array : NewArray)
       → HoldStorable (with_new heap (new_array owner array))

@@ -13,8 +13,8 @@ use Rattle.jc_base.specs.declared.declared_type.DeclaredType.TheVariants as type
 use Rattle.jc_cap_desc.specs.Shape.{Shape}
 use Rattle.jc_link.specs.Linked.{World}
 use Rattle.jc_machine.specs.Reading.{Pointwise}
-use Rattle.jc_machine.specs.Lookup.{fields_of, is_boolean_array, is_byte, is_byte_array, is_instance, is_kept_as}
-use Rattle.jc_machine.specs.Lookup.{is_of_class, is_of_type, is_short_array, is_word, leads_to}
+use Rattle.jc_machine.specs.Lookup.{fields_of, is_byte, is_instance, is_kept_as}
+use Rattle.jc_machine.specs.Lookup.{is_of_class, is_of_type, is_word, leads_to}
 use Rattle.jc_machine.specs.Natives.{KeepsObjects}
 use Rattle.jc_machine.specs.Typed.{CellsTyped, HeapTyped, ObjectTyped, is_cell, may_be_made}
 use Rattle.jc_names.specs.declared.name.ClassName.{ClassName}
@@ -26,9 +26,8 @@ use Rattle.jc_natives.proofs.Guarding.{keeps_new, keeps_put}
 use Rattle.jc_natives.proofs.Putting.{put_none, put_some}
 use Rattle.jc_natives.proofs.Simulation.{passed_some}
 use Rattle.jc_natives.specs.Cells.{Write, put, put_all, written}
-use Rattle.jc_natives.specs.Kept.{Kept, has_numbers, is_aid, is_instance_number, is_same_owner}
-use Rattle.jc_natives.specs.Meaning.{blank_of, fits_command, fits_installing, fits_instance, fits_kept, has_applet}
-use Rattle.jc_natives.specs.Meaning.{new_array}
+use Rattle.jc_natives.specs.Kept.{Kept, is_aid, is_instance_number, is_same_owner}
+use Rattle.jc_natives.specs.Meaning.{blank_of, fits_installing, fits_instance, fits_kept, has_applet, new_array}
 use Rattle.jc_natives.specs.Work.{NewArray, array_type}
 use Rattle.jc_natives.specs.declared.kept.Instance.{Instance}
 use Rattle.jc_natives.specs.declared.native.Elements.{Elements}
@@ -56,30 +55,15 @@ module _ (world : List Shape) (before after : Heap TaggedValue) (stay : KeepsObj
 
   pub type_still : (t : DeclaredType ClassName) (v : TaggedValue) → is_of_type world before t v ≡ true
       → is_of_type world after t v ≡ true
-  type_still types.Boolean v e = e
-  type_still types.Byte v e = e
-  type_still types.Short v e = e
-  type_still (types.Reference c) v e = leads_still (is_of_class world c) v e
-  type_still types.BooleanArray v e = leads_still is_boolean_array v e
-  type_still types.ByteArray v e = leads_still is_byte_array v e
-  type_still types.ShortArray v e = leads_still is_short_array v e
-  type_still (types.ReferenceArray c) v e = leads_still _ v e
+  type_still t v h1 = grind (arith, leads_still)
 
   kept_still : (t : DeclaredType ClassName) (v : TaggedValue) → is_kept_as world before t v ≡ true
       → is_kept_as world after t v ≡ true
-  kept_still types.Boolean v e = e
-  kept_still types.Byte v e = e
-  kept_still types.Short v e = e
-  kept_still (types.Reference c) v e = leads_still (is_of_class world c) v e
-  kept_still types.BooleanArray v e = leads_still is_boolean_array v e
-  kept_still types.ByteArray v e = leads_still is_byte_array v e
-  kept_still types.ShortArray v e = leads_still is_short_array v e
-  kept_still (types.ReferenceArray c) v e = leads_still _ v e
+  kept_still t v h1 = grind (arith, leads_still)
 
   cell_still : (field : Option (DeclaredType ClassName)) (v : TaggedValue) → is_cell world before field v ≡ true
       → is_cell world after field v ≡ true
-  cell_still None v e = e
-  cell_still (Some t) v e = kept_still t v e
+  cell_still field v h1 = grind (arith, kept_still)
 
   fields_still : (cells : List TaggedValue) (fields : List (Option (DeclaredType ClassName)))
       → Pointwise (λ v field. is_cell world before field v ≡ true) cells fields
@@ -97,18 +81,10 @@ module _ (world : List Shape) (before after : Heap TaggedValue) (stay : KeepsObj
 
   cells_still : (type : ObjectType) (cells : List TaggedValue) → CellsTyped world before cells type
       → CellsTyped world after cells type
-  cells_still (OfClass c) cells typed = fields_still cells (fields_of world c) typed
-  cells_still BooleanArray cells typed = typed
-  cells_still ByteArray cells typed = typed
-  cells_still ShortArray cells typed = typed
-  cells_still (ReferenceArray c) cells typed = references_still c cells typed
+  cells_still type cells h1 = grind (arith, fields_still, references_still)
 
   object_still : (o : Object TaggedValue) → ObjectTyped world before o → ObjectTyped world after o
-  object_still o typed = record {
-    made = typed.made;
-    cells = cells_still o.kind.object o.cells typed.cells;
-    counted = typed.counted;
-  }
+  object_still o typed = grind (arith, cells_still)
 
   objects_still : (os : Heap TaggedValue) → AllByRecursion (ObjectTyped world before) os
       → AllByRecursion (ObjectTyped world after) os
@@ -167,34 +143,19 @@ module _ (world : List Shape) (heap : Heap TaggedValue) where
 
   cells_set : (type : ObjectType) (cells : List TaggedValue) (index word : ℕ) → FitsCell world type index word
       → CellsTyped world heap cells type → CellsTyped world heap (set cells index (Word word)) type
-  cells_set (OfClass c) cells index word fits typed =
-      fields_set cells (fields_of world c) index word (fits.0).blank fits.1 typed
-  cells_set BooleanArray cells index word fits typed = absurd fits
-  cells_set ByteArray cells index word fits typed =
-      all_set (λ v. is_byte v ≡ true) cells index (Word word) typed (lt-ltb word 256 fits)
-  cells_set ShortArray cells index word fits typed = absurd fits
-  cells_set (ReferenceArray c) cells index word fits typed = absurd fits
+  cells_set type cells index word h1 h2 = grind (arith, fields_set, all_set, lt-ltb)
 
   object_set : (o : Object TaggedValue) (index word : ℕ) → FitsCell world o.kind.object index word
       → ObjectTyped world heap o → ObjectTyped world heap (with_cell o index (Word word))
-  object_set o index word fits typed =
-      let same = length-set o.cells index (Word word) in
-      let count = typed.counted in
-      record {
-        made = typed.made;
-        cells = cells_set o.kind.object o.cells index word fits typed.cells;
-        counted = λ is. let low = count is in omega (arith, low, same);
-      }
+  object_set o index word fits typed = grind (arith, length-set, cells_set)
 
   heap_set : (number : ℕ) (o p : Object TaggedValue) → object_at heap number ≡ Some o → ObjectTyped world heap p
       → HeapTyped world heap → AllByRecursion (ObjectTyped world heap) (with_object heap number p)
-  heap_set zero o p e typed all = all
-  heap_set (suc n) o p e typed all = all_set (ObjectTyped world heap) heap n p all typed
+  heap_set number o p h1 h2 h3 = grind (arith, all_set)
 
   pub object_typed : (number : ℕ) (o : Object TaggedValue) → object_at heap number ≡ Some o → HeapTyped world heap
       → ObjectTyped world heap o
-  object_typed zero o e all = absurd (none-some o e)
-  object_typed (suc n) o e all = all_got (ObjectTyped world heap) heap n o all e
+  object_typed number o h1 h2 = grind (arith, none-some, all_got)
 
 put_typed : (world : List Shape) (heap : Heap TaggedValue) (number index word : ℕ) (o : Object TaggedValue)
     → object_at heap number ≡ Some o → FitsCell world o.kind.object index word → HeapTyped world heap
@@ -220,9 +181,7 @@ put_all_typed world heap number from (x ∷ words) o found fits typed =
 put_all_none : (heap : Heap TaggedValue) (number from : ℕ) (values : List TaggedValue) → object_at heap number ≡ None
     → put_all heap number from values ≡ heap
 put_all_none heap number from [] e = refl
-put_all_none heap number from (v ∷ values) e =
-    ap (λ h. put_all h number (from + 1) values) (put_none heap number from v e)
-    ∙ put_all_none heap number (from + 1) values e
+put_all_none heap number from (v ∷ values) e = grind (arith, put_none, put_all_none heap number (from + 1) values e)
 
 pub write_typed : (world : List Shape) (heap : Heap TaggedValue) (x : Write) → FitsWrite world heap x
     → HeapTyped world heap → HeapTyped world (written Word heap (x ∷ []))
@@ -255,10 +214,7 @@ module _ (world : List Shape) (heap : Heap TaggedValue) where
       all_replicated (λ v. leads_to heap (is_instance world (Api ObjectClass)) v ≡ true) n Null refl
 
   may_make : (elements : Elements) → may_be_made world (array_type elements) ≡ true
-  may_make Booleans = refl
-  may_make Bytes = refl
-  may_make Shorts = refl
-  may_make References = refl
+  may_make elements = grind arith
 
 pub array_typed : (world : List Shape) (heap : Heap TaggedValue) (owner : Owner) (array : NewArray)
     → array.size < 65536 → HeapTyped world heap
@@ -276,8 +232,7 @@ array_typed world heap owner array small typed =
 -- ---- what the runtime keeps fits still
 
 pub both_are : (a b : Bool) → a ≡ true → b ≡ true → (a && b) ≡ true
-both_are true b e f = f
-both_are false b e f = absurd cc
+both_are a b h1 h2 = grind arith
 
 instance_still : (world : List Shape) (before after : Heap TaggedValue) → KeepsObjects before after → (i : Instance)
     → fits_instance world before i ≡ true → fits_instance world after i ≡ true
@@ -305,14 +260,6 @@ instances_still world before after stay (i ∷ is) e =
 abbrev rest_fits : Kept → Bool
 rest_fits k = option_map_or fits_installing k.installing true
 
-abbrev counts_fit : Kept → Bool
-counts_fit k = fits_command k && has_numbers k
-
 pub kept_fits_still : (w : World) (before after : Heap TaggedValue) (k : Kept) → KeepsObjects before after
     → fits_kept w before k ≡ true → fits_kept w after k ≡ true
-kept_fits_still w before after k stay e =
-    let a = both (list_all (fits_instance w.shapes before) k.instances && rest_fits k) (counts_fit k) e in
-    let b = both (list_all (fits_instance w.shapes before) k.instances) (rest_fits k) a.0 in
-    both_are (list_all (fits_instance w.shapes after) k.instances && rest_fits k) (counts_fit k)
-    (both_are (list_all (fits_instance w.shapes after) k.instances) (rest_fits k)
-    (instances_still w.shapes before after stay k.instances b.0) b.1) a.1
+kept_fits_still w before after k stay e = grind (arith, both, both_are, instances_still)

@@ -1,22 +1,19 @@
 -- What the runtime keeps fits in a world with a package more, and with more objects.
 use Rattle.std.proofs.Common.{◌≡◌, ℕ, zero, suc, ◌&&◌, true, false, List, [], ◌∷◌, ◌++◌, length, take, slice_get}
-use Rattle.std.proofs.Common.{Option, Some, None, refl, ap, ◌∙◌, arith, take_all}
+use Rattle.std.proofs.Common.{Option, Some, refl, ap, ◌∙◌, arith, take_all}
 use Rattle.std.proofs.lemmas.List.{take-append-le}
 use Rattle.std.specs.List.{list_all}
 use Rattle.std.specs.Option.{option_map_or}
-use Rattle.jc_api.specs.declared.class.ApiClass.TheVariants.{Applet}
 use Rattle.jc_cap_desc.specs.Shape.{Shape}
 use Rattle.jc_classes.specs.Growth.{KeepsAllLookups, LiesWithin}
 use Rattle.jc_link.specs.Linked.{IsBoundTo, Linked, World, with_linked}
-use Rattle.jc_machine.specs.Lookup.{class_of, is_of_class}
 use Rattle.jc_machine.specs.Natives.{KeepsObjects}
-use Rattle.jc_names.specs.declared.name.ClassName.TheVariants.{Api}
 use Rattle.jc_natives.proofs.Bare.{both}
 use Rattle.jc_natives.proofs.Keeping.{both_are, kept_fits_still}
-use Rattle.jc_natives.specs.Kept.{Kept, has_numbers, is_aid, is_instance_number, is_same_owner}
+use Rattle.jc_natives.specs.Kept.{Kept, has_numbers}
 use Rattle.jc_natives.specs.Meaning.{fits_command, fits_installing, fits_instance, fits_kept, has_applet}
 use Rattle.jc_natives.specs.declared.kept.Instance.{Instance}
-use Rattle.jc_store.specs.Heap.{Heap, Object, object_at}
+use Rattle.jc_store.specs.Heap.{Heap, Object}
 use Rattle.jc_words.specs.Values.{TaggedValue}
 
 -- ---- a world with more packages
@@ -24,19 +21,10 @@ use Rattle.jc_words.specs.Values.{TaggedValue}
 module _ (before after : List Shape) (lookups : KeepsAllLookups before after) (heap : Heap TaggedValue) where
   applet_on : (i : Instance) (o : Option (Object TaggedValue)) → option_map_or (has_applet before i) o false ≡ true
       → option_map_or (has_applet after i) o false ≡ true
-  applet_on i None e = e
-  applet_on i (Some o) e =
-      let a = both (is_of_class before (Api Applet) o.kind.object) (is_same_owner o.owner i.owner) e in
-      both_are (is_of_class after (Api Applet) o.kind.object) (is_same_owner o.owner i.owner)
-      (lookups.still_below (class_of o.kind.object) (Api Applet) a.0) a.1
+  applet_on i o h1 = grind (arith, both, both_are)
 
   instance_on : (i : Instance) → fits_instance before heap i ≡ true → fits_instance after heap i ≡ true
-  instance_on i e =
-      let a = both (is_aid i.aid && is_instance_number i.owner.instance)
-      (option_map_or (has_applet before i) (object_at heap i.object) false) e in
-      both_are (is_aid i.aid && is_instance_number i.owner.instance)
-      (option_map_or (has_applet after i) (object_at heap i.object) false) a.0
-      (applet_on i (object_at heap i.object) a.1)
+  instance_on i e = grind (arith, both, both_are, applet_on)
 
   instances_on : (is : List Instance) → list_all (fits_instance before heap) is ≡ true
       → list_all (fits_instance after heap) is ≡ true
@@ -51,13 +39,7 @@ module _ (before after : List Shape) (lookups : KeepsAllLookups before after) (h
       && (fits_command k && has_numbers k)) ≡ true
       → (list_all (fits_instance after heap) k.instances && option_map_or fits_installing k.installing true
       && (fits_command k && has_numbers k)) ≡ true
-  kept_on k e =
-      let rest = option_map_or fits_installing k.installing true in
-      let counts = fits_command k && has_numbers k in
-      let a = both (list_all (fits_instance before heap) k.instances && rest) counts e in
-      let b = both (list_all (fits_instance before heap) k.instances) rest a.0 in
-      both_are (list_all (fits_instance after heap) k.instances && rest) counts
-      (both_are (list_all (fits_instance after heap) k.instances) rest (instances_on k.instances b.0) b.1) a.1
+  kept_on k e = grind (arith, both, both_are, instances_on)
 
 -- ---- a heap with more objects
 

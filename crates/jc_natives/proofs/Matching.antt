@@ -1,20 +1,16 @@
 -- What a member reads of tagged values it reads of words without tags, or it is stuck.
-use Rattle.std.proofs.Common.{◌≡◌, ℕ, zero, suc, ◌+◌, ◌&&◌, Bool, true, false, cond, List, [], ◌∷◌, get_or}
-use Rattle.std.proofs.Common.{length, map, slice_get, Option, Some, None, refl, sym, ap, subst, ◌∙◌}
+use Rattle.std.proofs.Common.{◌≡◌, ℕ, zero, suc, ◌+◌, ◌&&◌, Bool, cond, List, [], ◌∷◌, get_or, arith}
+use Rattle.std.proofs.Common.{length, map, slice_get, Option, Some, None, refl, sym, subst}
 use Rattle.std.proofs.lemmas.List.{length-map}
 use Rattle.std.specs.Option.{option_and_then, option_map, option_map_or}
-use Rattle.jc_api.specs.declared.class.ApiClass.TheVariants.{Aid}
 use Rattle.jc_link.specs.Linked.{World}
-use Rattle.jc_machine.specs.Lookup.{is_of_class}
 use Rattle.jc_machine.specs.Machine.{NativeCall}
-use Rattle.jc_names.specs.declared.name.ClassName.TheVariants.{Api}
 use Rattle.jc_natives.proofs.Bare.{bare_object}
 use Rattle.jc_natives.proofs.Ranges.{length_of_bytes}
 use Rattle.jc_natives.specs.Cells.{bits, low}
-use Rattle.jc_natives.specs.Checks.{are_aids, is_aid_at, is_aid_object as is_aid, is_aid_value}
+use Rattle.jc_natives.specs.Checks.{are_aids, is_aid_at, is_aid_value}
 use Rattle.jc_natives.specs.Kept.{Kept}
-use Rattle.jc_natives.specs.PrivateCells.{aid_bytes, aid_count, argument, bare, bared, bytes_of, cell_of, size_of}
-use Rattle.jc_natives.specs.PrivateCells.{words_of}
+use Rattle.jc_natives.specs.PrivateCells.{aid_bytes, aid_count, argument, bared, bytes_of, cell_of, size_of, words_of}
 use Rattle.jc_natives.specs.PrivateSeen.{Seen, arguments_of, is_aid_object, seen_of}
 use Rattle.jc_natives.specs.PrivateTests.{length_of}
 use Rattle.jc_natives.specs.Taking.{Called, aid_in, as_reference, as_word, bytes_in, called, on_aid, on_bytes}
@@ -23,7 +19,7 @@ use Rattle.jc_natives.specs.Taking.{word_at, words_in}
 use Rattle.jc_natives.specs.declared.row.Length.{Length}
 use Rattle.jc_natives.specs.declared.row.Length.TheVariants.{ByteAt, Fixed, OfAid, ShortAt}
 use Rattle.jc_store.specs.Heap.{Heap, Object, object_at}
-use Rattle.jc_words.specs.Values.{Null, Ref, TaggedValue, Unset, Word}
+use Rattle.jc_words.specs.Values.{TaggedValue}
 
 -- nothing, or just this
 pub data Only {A : Type 0} (o : Option A) (x : A) : Type 0 where
@@ -33,32 +29,22 @@ pub data Only {A : Type 0} (o : Option A) (x : A) : Type 0 where
 -- it goes on with what it is
 pub goes_with : {A B : Type 0} (go : A → Option B) (o : Option A) (x : A) (y : B) → Only o x → Only (go x) y
     → Only (option_and_then go o) y
-goes_with go o x y (nothing e) p = nothing (ap (option_and_then go) e)
-goes_with go o x y (just e) (nothing f) = nothing (ap (option_and_then go) e ∙ f)
-goes_with go o x y (just e) (just f) = just (ap (option_and_then go) e ∙ f)
+goes_with go o x y h1 h2 = grind arith
 
 pub mapped : {A B : Type 0} (f : A → B) (o : Option A) (x : A) → Only o x → Only (option_map f o) (f x)
-mapped f o x (nothing e) = nothing (ap (option_map f) e)
-mapped f o x (just e) = just (ap (option_map f) e)
+mapped f o x h1 = grind arith
 
 pub either : {A : Type 0} (b : Bool) (o p : Option A) (x y : A) → Only o x → Only p y
     → Only (cond b o p) (cond b x y)
-either true o p x y h k = h
-either false o p x y h k = k
+either b o p x y h1 h2 = grind arith
 
 -- ---- values
 
 word_of_value : (v : TaggedValue) → Only (as_word v) (bits v)
-word_of_value (Word n) = just refl
-word_of_value (Ref n) = nothing refl
-word_of_value Null = nothing refl
-word_of_value Unset = nothing refl
+word_of_value v = grind arith
 
 reference_of_value : (v : TaggedValue) → Only (as_reference v) (bits v)
-reference_of_value (Word n) = nothing refl
-reference_of_value (Ref n) = just refl
-reference_of_value Null = just refl
-reference_of_value Unset = nothing refl
+reference_of_value v = grind arith
 
 pub word_among : (vs : List TaggedValue) (place : ℕ)
     → Only (option_and_then as_word (slice_get vs place)) (argument (map bits vs) place)
@@ -82,16 +68,7 @@ component_among (v ∷ cells) (suc index) = component_among cells index
 
 pub component_of : (heap : Heap TaggedValue) (number index : ℕ)
     → Only (word_at heap number index) (cell_of (bared heap) number index)
-component_of heap number index =
-    subst (λ o. Only (word_at heap number index) (option_map_or (λ (x : Object ℕ). get_or x.cells index 0) o 0))
-    (sym (bare_object heap number)) (by_object (object_at heap number))
-  where
-    by_object : (o : Option (Object TaggedValue))
-        → Only (option_and_then
-        (λ (x : Object TaggedValue). option_map_or as_word (slice_get x.cells index) (Some 0)) o)
-        (option_map_or (λ (x : Object ℕ). get_or x.cells index 0) (option_map bare o) 0)
-    by_object None = nothing refl
-    by_object (Some o) = component_among o.cells index
+component_of heap number index = grind (arith, bare_object, component_among)
 
 pub words_among : (heap : Heap TaggedValue) (number from count : ℕ)
     → Only (words_in heap number from count) (words_of (bared heap) number from count)
@@ -106,14 +83,11 @@ pub bytes_among : (heap : Heap TaggedValue) (number from count : ℕ)
 bytes_among heap number from count = mapped (λ words. map low words) _ _ (words_among heap number from count)
 
 pub aid_among : (heap : Heap TaggedValue) (number : ℕ) → Only (aid_in heap number) (aid_bytes (bared heap) number)
-aid_among heap number =
-    goes_with _ _ _ _ (component_of heap number 0) (bytes_among heap number 1 (aid_count (bared heap) number))
+aid_among heap number = grind (arith, goes_with, component_of, bytes_among)
 
 pub size_is : (heap : Heap TaggedValue) (number : ℕ) (o : Object TaggedValue) → object_at heap number ≡ Some o
     → size_of (bared heap) number ≡ length o.cells
-size_is heap number o e =
-    ap (λ x. option_map_or (λ (p : Object ℕ). length p.cells) x 0) (bare_object heap number ∙ ap (option_map bare) e)
-    ∙ length-map o.cells bits
+size_is heap number o e = grind (arith, bare_object, length-map)
 
 -- ---- a member goes on so
 
@@ -145,11 +119,7 @@ module _ (w : World) (call : NativeCall Kept) where
     pub at_object : (number : ℕ) (go : Object TaggedValue → Option A) (y : A)
         → ((o : Object TaggedValue) → object_at heap number ≡ Some o → Only (go o) y)
         → Only (on_object h number go) y
-    at_object number go y p = by_object (object_at heap number) refl
-      where
-        by_object : (o : Option (Object TaggedValue)) → object_at heap number ≡ o → Only (option_and_then go o) y
-        by_object None e = nothing refl
-        by_object (Some o) e = p o e
+    at_object number go y p = grind arith
 
     pub at_component : (number index : ℕ) (go : ℕ → Option A) (y : A) → Only (go (cell_of objects number index)) y
         → Only (on_component h number index go) y
@@ -185,21 +155,8 @@ module _ (w : World) (call : NativeCall Kept) where
 
   -- ---- AIDs
 
-  abbrev is_aid_type : {V : Type 0} → Object V → Bool
-  is_aid_type o = is_of_class w.shapes (Api Aid) o.kind.object
-
   aid_of_value : (v : TaggedValue) → Only (is_aid_value h v) (is_aid_object s (bits v))
-  aid_of_value (Word n) = nothing refl
-  aid_of_value (Ref n) =
-      subst (λ o. Only (option_map (is_aid h) (object_at heap n)) (option_map_or is_aid_type o false))
-      (sym (bare_object heap n)) (by_object (object_at heap n))
-    where
-      by_object : (o : Option (Object TaggedValue))
-          → Only (option_map (is_aid h) o) (option_map_or is_aid_type (option_map bare o) false)
-      by_object None = nothing refl
-      by_object (Some o) = just refl
-  aid_of_value Null = just refl
-  aid_of_value Unset = nothing refl
+  aid_of_value v = grind (arith, bare_object)
 
   pub aid_of_argument : (place : ℕ) → Only (is_aid_at h place) (is_aid_object s (argument args place))
   aid_of_argument place = among call.arguments place
@@ -211,6 +168,4 @@ module _ (w : World) (call : NativeCall Kept) where
       among (v ∷ vs) (suc i) = among vs i
 
   pub both_aids : Only (are_aids h) (is_aid_object s (argument args 0) && is_aid_object s (argument args 1))
-  both_aids =
-      goes_with (λ one. option_map (λ other. one && other) (is_aid_at h 1)) _ _ _ (aid_of_argument 0)
-      (mapped (λ other. is_aid_object s (argument args 0) && other) _ _ (aid_of_argument 1))
+  both_aids = grind (arith, goes_with, aid_of_argument, mapped)

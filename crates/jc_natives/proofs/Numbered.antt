@@ -1,11 +1,11 @@
 -- Each instance has a number of its own: behind each call of the runtime, and where one registers.
-use Rattle.std.proofs.Common.{◌≡◌, ℕ, zero, suc, ◌+◌, ◌-◌, ◌<◌, ◌≤◌, ◌&&◌, not, Bool, true, false, cond, List, [], ◌∷◌}
-use Rattle.std.proofs.Common.{◌++◌, length, take, nat_le, Option, Some, None, refl, sym, ap, ◌∙◌, arith}
+use Rattle.std.proofs.Common.{◌≡◌, ℕ, zero, suc, ◌+◌, ◌-◌, ◌<◌, ◌≤◌, not, Bool, true, false, cond, List, [], ◌∷◌}
+use Rattle.std.proofs.Common.{◌++◌, length, take, nat_le, Option, refl, ap, arith}
 use Rattle.std.proofs.lemmas.Bool.{le-leb, leb-true}
 use Rattle.std.specs.Option.{option_map, option_map_or}
 use Rattle.jc_names.specs.declared.owner.Owner.{Owner}
 use Rattle.jc_natives.proofs.Bare.{both}
-use Rattle.jc_natives.specs.Kept.{Kept, after_install, has_numbers, has_registered, is_instance_number, kept_instances}
+use Rattle.jc_natives.specs.Kept.{Kept, after_install, has_numbers, is_instance_number, kept_instances}
 use Rattle.jc_natives.specs.Kept.{now_registered, waits, with_install, with_instance}
 use Rattle.jc_natives.specs.declared.kept.Installing.{Installing}
 use Rattle.jc_natives.specs.declared.kept.Instance.{Instance}
@@ -21,16 +21,10 @@ record AreFew (k : Kept) (waiting : Bool) : Type 0 where
   most : k.numbers ≤ 32
 
 few_of : (k : Kept) → has_numbers k ≡ true → AreFew k (waits k)
-few_of k e =
-    let b = both (nat_le (length k.instances + one_for (waits k)) k.numbers) (nat_le k.numbers 32) e in record {
-      few = leb-true (length k.instances + one_for (waits k)) k.numbers b.0;
-      most = leb-true k.numbers 32 b.1;
-    }
+few_of k e = grind (arith, both, nat_le, leb-true)
 
 of_few : (k : Kept) → AreFew k (waits k) → has_numbers k ≡ true
-of_few k f =
-    ap (λ (b : Bool). b && nat_le k.numbers 32) (le-leb (length k.instances + one_for (waits k)) k.numbers f.few)
-    ∙ le-leb k.numbers 32 f.most
+of_few k f = grind (arith, nat_le, le-leb)
 
 -- ---- an instance that registers
 
@@ -40,44 +34,23 @@ with_one_more (x ∷ xs) i = ap suc (with_one_more xs i)
 
 waits_no_more : (o : Option Installing)
     → option_map_or (λ (i : Installing). not i.registered) (option_map now_registered o) false ≡ false
-waits_no_more None = refl
-waits_no_more (Some i) = refl
+waits_no_more o = grind arith
 
 -- the number that was left for it is its own then
 pub registered_numbers : (k : Kept) (i : Instance) → has_numbers k ≡ true → waits k ≡ true
     → has_numbers (with_instance k i) ≡ true
-registered_numbers k i e waiting =
-    let f = few_of k e in
-    let less : length k.instances + 1 ≤ k.numbers =
-    leb-true (length k.instances + 1) k.numbers (ap (λ (b : Bool). nat_le (length k.instances + one_for b) k.numbers)
-    (sym waiting) ∙ (both (nat_le (length k.instances + one_for (waits k)) k.numbers) (nat_le k.numbers 32) e).0) in
-    let more = with_one_more k.instances i in
-    ap (λ (b : Bool). nat_le (length (k.instances ++ i ∷ []) + one_for b) k.numbers && nat_le k.numbers 32)
-    (waits_no_more k.installing)
-    ∙ ap (λ (b : Bool). b && nat_le k.numbers 32)
-    (le-leb (length (k.instances ++ i ∷ []) + 0) k.numbers (omega (arith, less, more)))
-    ∙ le-leb k.numbers 32 f.most
+registered_numbers k i e waiting = grind (arith, few_of, leb-true, nat_le, both, with_one_more, waits_no_more, le-leb)
 
 -- ---- calls of the runtime itself
-
-one_or_none : (waiting : Bool) → 0 ≤ one_for waiting
-one_or_none waiting = omega arith
 
 -- the next number is given out
 pub begun_numbers : (k : Kept) (owner : Owner) (aid : List ℕ) → has_numbers k ≡ true
     → owner.instance ≡ suc k.numbers → k.numbers < 32 → has_numbers (with_install k owner aid) ≡ true
-begun_numbers k owner aid e next less =
-    let few = (few_of k e).few in
-    of_few (with_install k owner aid) (record {
-      few = omega (arith, few, next);
-      most = omega (arith, less, next);
-    })
+begun_numbers k owner aid e next less = grind (arith, few_of, of_few)
 
 pub next_is_number : (k : Kept) (owner : Owner) → owner.instance ≡ suc k.numbers → k.numbers < 32
     → is_instance_number owner.instance ≡ true
-next_is_number k owner next less =
-    ap (λ (b : Bool). b && nat_le owner.instance 32) (le-leb 1 owner.instance (omega (arith, next)))
-    ∙ le-leb owner.instance 32 (omega (arith, next, less))
+next_is_number k owner next less = grind (arith, nat_le, le-leb)
 
 taken_few : (xs : List Instance) (n : ℕ) → length (take n xs) ≤ length xs
 taken_few [] zero = omega arith
@@ -86,13 +59,8 @@ taken_few (x ∷ xs) zero = omega arith
 taken_few (x ∷ xs) (suc n) = let h = taken_few xs n in omega (arith, h)
 
 left_few : (xs : List Instance) (b : Bool) → length (kept_instances xs b) ≤ length xs
-left_few xs true = taken_few xs (length xs - 1)
-left_few xs false = omega arith
+left_few xs b = grind (arith, taken_few)
 
 -- no instance waits behind an install, and there is none more
 pub over_numbers : (k : Kept) (succeeds : Bool) → has_numbers k ≡ true → has_numbers (after_install k succeeds) ≡ true
-over_numbers k succeeds e =
-    let f = few_of k e in
-    let few = f.few in
-    let left = left_few k.instances (has_registered k && not succeeds) in
-    of_few (after_install k succeeds) (record { few = omega (arith, few, left); most = f.most })
+over_numbers k succeeds e = grind (arith, few_of, left_few, not, of_few)

@@ -1,43 +1,30 @@
 -- Objects that members make are arrays, numbered as Object is, and a store has the same limits behind them.
-use Rattle.std.proofs.Common.{◌≡◌, ◌≢◌, ◌⊎◌, inl, inr, ℕ, zero, suc, ◌+◌, true, List, [], ◌∷◌, ◌++◌, length, slice_get}
-use Rattle.std.proofs.Common.{Option, Some, None, refl, sym, ap, subst, ◌∙◌, arith}
+use Rattle.std.proofs.Common.{◌≡◌, ℕ, zero, suc, ◌+◌, true, List, [], ◌∷◌, ◌++◌, length, slice_get}
+use Rattle.std.proofs.Common.{Some, None, refl, sym, arith}
 use Rattle.std.proofs.lemmas.Option.{none-some, same_Some}
 use Rattle.jc_machine.specs.Lookup.{is_array}
-use Rattle.jc_machine.specs.WordNatives.{IsNumberedArray, KeepsLimits, NumbersArrays}
+use Rattle.jc_machine.specs.WordNatives.{KeepsLimits, NumbersArrays}
 use Rattle.jc_names.specs.declared.owner.Owner.{Owner}
 use Rattle.jc_natives.proofs.Getting.{other_object}
 use Rattle.jc_natives.proofs.Putting.{put_none, put_some, same_or_not}
 use Rattle.jc_natives.specs.Cells.{Write, put, put_all}
 use Rattle.jc_natives.specs.Kept.{Kept}
-use Rattle.jc_natives.specs.Meaning.{with_room}
 use Rattle.jc_natives.specs.PrivateWords.{Done, did_on_words, done_of, laid}
-use Rattle.jc_natives.specs.Work.{Asks, Does, Makes, Work, array_type}
+use Rattle.jc_natives.specs.Work.{Work, array_type}
 use Rattle.jc_natives.specs.declared.native.Elements.{Elements}
-use Rattle.jc_natives.specs.declared.native.Elements.TheVariants.{Booleans, Bytes, References, Shorts}
-use Rattle.jc_store.specs.Heap.{Heap, Object, object_at, with_cell}
-use Rattle.jc_store.specs.Store.{Store, class_number_at}
+use Rattle.jc_store.specs.Heap.{Heap, object_at}
+use Rattle.jc_store.specs.Store.{Store}
 
 -- ---- what a work makes is an array
 
 makes_array : (elements : Elements) → is_array (array_type elements) ≡ true
-makes_array Booleans = refl
-makes_array Bytes = refl
-makes_array Shorts = refl
-makes_array References = refl
+makes_array elements = grind arith
 
 -- ---- objects that aren't there aren't made by writing
 
 put_still_none : (heap : Heap ℕ) (number index word other : ℕ) → object_at heap other ≡ None
     → object_at (put heap number index word) other ≡ None
-put_still_none heap number index word other e = by_object (object_at heap number) refl (same_or_not number other)
-  where
-    by_object : (o : Option (Object ℕ)) → object_at heap number ≡ o → (number ≢ other) ⊎ (number ≡ other)
-        → object_at (put heap number index word) other ≡ None
-    by_object None f same = ap (λ h. object_at h other) (put_none heap number index word f) ∙ e
-    by_object (Some o) f (inl apart) =
-        ap (λ h. object_at h other) (put_some heap number index word o f)
-        ∙ other_object heap number other (with_cell o index word) apart ∙ e
-    by_object (Some o) f (inr same) = absurd (none-some o (sym e ∙ ap (object_at heap) (sym same) ∙ f))
+put_still_none heap number index word other e = grind (arith, same_or_not, put_none, put_some, other_object, none-some)
 
 put_all_still_none : (heap : Heap ℕ) (number from other : ℕ) (words : List ℕ) → object_at heap other ≡ None
     → object_at (put_all heap number from words) other ≡ None
@@ -72,52 +59,21 @@ behind [] [] x z y (suc n) e f g = absurd (none-some z g)
 behind [] (b ∷ bs) x z y n e f g = absurd (omega (arith, e))
 behind (a ∷ xs) [] x z y n e f g = absurd (omega (arith, e))
 behind (a ∷ xs) (b ∷ bs) x z y zero e f g = absurd (none-some a (sym f))
-behind (a ∷ xs) (b ∷ bs) x z y (suc n) e f g =
-    let r = behind xs bs x z y n (omega (arith, e)) f g in record { same = r.same; beside = r.beside }
+behind (a ∷ xs) (b ∷ bs) x z y (suc n) e f g = grind (arith, behind xs bs x z y n (omega (arith, e)) f g)
 
 -- ---- the store behind a work
 
 did_numbers : (owner : Owner) (s : Store) (k : Kept) (work : Work) → length s.objects ≡ length s.classes
     → NumbersArrays s (did_on_words owner s k work).store
-did_numbers owner s k (Does writes runtime ending) same = record {
-  kept = λ number class f. f;
-  made = λ number object f g. absurd (none-some object (sym (laid_still_none s.objects writes number f) ∙ g));
-}
-did_numbers owner s k (Makes array) same = record { kept = kept; made = made }
-  where
-    kept : (number class : ℕ) → class_number_at s.classes number ≡ Some class
-        → class_number_at (s.classes ++ 0 ∷ []) number ≡ Some class
-    kept zero class f = f
-    kept (suc n) class f = front s.classes (0 ∷ []) n class f
-
-    made : (number : ℕ) (object : Object ℕ) → object_at s.objects number ≡ None
-        → object_at (did_on_words owner s k (Makes array)).store.objects number ≡ Some object
-        → IsNumberedArray (did_on_words owner s k (Makes array)).store number object
-    made zero object f g = absurd (none-some object g)
-    made (suc n) object f g =
-        let b = behind s.objects s.classes _ object 0 n same f g in
-        record {
-          array = ap (λ (o : Object ℕ). is_array o.kind.object) b.same ∙ makes_array array.elements;
-          numbered = b.beside;
-        }
-did_numbers owner s k (Asks question) same = record {
-  kept = λ number class f. f;
-  made = λ number object f g. absurd (none-some object (sym f ∙ g));
-}
+did_numbers owner s k work h1 = grind (arith, none-some, laid_still_none, front, behind, makes_array)
 
 did_limits : (owner : Owner) (s : Store) (k : Kept) (work : Work) → KeepsLimits s (did_on_words owner s k work).store
-did_limits owner s k (Does writes runtime ending) = record { objects = refl; cells = refl }
-did_limits owner s k (Makes array) = record { objects = refl; cells = refl }
-did_limits owner s k (Asks question) = record { objects = refl; cells = refl }
+did_limits owner s k work = grind arith
 
 pub numbers_arrays : (owner : Owner) (s : Store) (k : Kept) (work : Work) (d : Done)
     → length s.objects ≡ length s.classes → d ≡ done_of owner s k work → NumbersArrays s d.store
-numbers_arrays owner s k work d same is =
-    subst (λ (x : Done). NumbersArrays s x.store) (sym is)
-    (did_numbers owner s k (with_room s.most_objects s.most_cells s.objects k work) same)
+numbers_arrays owner s k work d same is = grind (arith, did_numbers)
 
 pub keeps_limits : (owner : Owner) (s : Store) (k : Kept) (work : Work) (d : Done) → d ≡ done_of owner s k work
     → KeepsLimits s d.store
-keeps_limits owner s k work d is =
-    subst (λ (x : Done). KeepsLimits s x.store) (sym is)
-    (did_limits owner s k (with_room s.most_objects s.most_cells s.objects k work))
+keeps_limits owner s k work d is = grind (arith, did_limits)

@@ -1,12 +1,11 @@
 -- Parts of objects: bytes that are read and written many at once.
-use Rattle.std.proofs.Common.{◌≡◌, ◌⊎◌, inl, inr, ℕ, zero, suc, ◌+◌, ◌-◌, ◌<◌, ◌≤◌, ◌&&◌, List, [], ◌∷◌, ◌++◌}
+use Rattle.std.proofs.Common.{◌≡◌, ℕ, zero, suc, ◌+◌, ◌-◌, ◌<◌, ◌≤◌, ◌&&◌, List, [], ◌∷◌, ◌++◌}
 use Rattle.std.proofs.Common.{refl, sym, ap, ◌∙◌, arith, length, map, take, drop, get_or, slice_range, bytes_eq}
 use Rattle.std.proofs.Common.{Option, Some, None, Bor, IfNone, IfSome, unwrap_or}
 use Rattle.std.proofs.Math.Seq.{sets}
 use Rattle.std.proofs.lemmas.Bool.{eq-eqb, le-ltb}
 use Rattle.std.proofs.lemmas.List.{take-take}
 use Rattle.std.proofs.lemmas.List.Edits.{sets-eq}
-use Rattle.std.specs.Option.{option_map_or}
 use Rattle.std.specs.Slice.{IsGetRangeResult}
 use Rattle.jc_natives.proofs.Getting.{new_object}
 use Rattle.jc_natives.proofs.Putting.{cells_of_kind, put_some, same_heap, twice}
@@ -20,19 +19,12 @@ use Rattle.jc_store.specs.Heap.{Heap, Object, object_at, with_cell, with_object}
 -- a component is one of the list
 cell_in : (objects : Heap ℕ) (number index : ℕ)
     → cell_of objects number index ≡ get_or (components_of objects number) index 0
-cell_in objects number index = by_object (object_at objects number)
-  where
-    by_object : (o : Option (Object ℕ)) → option_map_or (λ (object : Object ℕ). get_or object.cells index 0) o 0
-        ≡ get_or (option_map_or (λ (object : Object ℕ). object.cells) o []) index 0
-    by_object None = refl
-    by_object (Some object) = refl
+cell_in objects number index = grind arith
 
 pub dropped : (xs : List ℕ) (at : ℕ) → at < length xs → drop at xs ≡ get_or xs at 0 ∷ drop (at + 1) xs
 dropped [] at h = absurd (omega (arith, h))
 dropped (x ∷ xs) zero h = refl
-dropped (x ∷ xs) (suc at) h =
-    let next : suc (at + 1) ≡ suc at + 1 = omega arith in
-    dropped xs at (omega (arith, h)) ∙ ap (λ k. get_or xs at 0 ∷ drop k (x ∷ xs)) next
+dropped (x ∷ xs) (suc at) h = grind (arith, dropped xs at (omega (arith, h)))
 
 -- so many components of an object are a part of all of them
 taken_words : (objects : Heap ℕ) (number from count : ℕ) → from + count ≤ length (components_of objects number)
@@ -47,65 +39,26 @@ taken_words objects number from (suc count) h =
 part_words : (objects : Heap ℕ) (number from count end : ℕ) (cells words : List ℕ)
     → cells ≡ components_of objects number → end ≡ from + count → end ≤ length cells
     → words ≡ slice_range cells from end → words_of objects number from count ≡ words
-part_words objects number from count end cells words are stop within is =
-    let size : end - from ≡ count = omega (arith, stop) in
-    let n = ap (λ (xs : List ℕ). length xs) are in
-    taken_words objects number from count (omega (arith, n, stop, within))
-    ∙ ap (λ xs. take count (drop from xs)) (sym are)
-    ∙ ap (λ k. take k (drop from cells)) (sym size)
-    ∙ sym is
+part_words objects number from count end cells words are stop within is = grind (arith, taken_words)
 
 -- a part that `get` gave, or none
 pub part_given : (objects : Heap ℕ) (number from count end : ℕ) (cells : List ℕ) (given : Option (Bor (List ℕ)))
     → cells ≡ components_of objects number → end ≡ from + count → IsGetRangeResult cells from end given
     → IfSome given (λ words. bytes_of objects number from count ≡ map low words.now)
-part_given objects number from count end cells None are stop h = tt
-part_given objects number from count end cells (Some words) are stop h =
-    let g = h.0 in ap (map low) (part_words objects number from count end cells words.now are stop g.1 g.2)
+part_given objects number from count end cells given h1 h2 h3 = grind (arith, part_words)
 
 size_in : (objects : Heap ℕ) (number : ℕ) → size_of objects number ≡ length (components_of objects number)
-size_in objects number = by_object (object_at objects number)
-  where
-    by_object : (o : Option (Object ℕ)) → option_map_or (λ (object : Object ℕ). length object.cells) o 0
-        ≡ length (option_map_or (λ (object : Object ℕ). object.cells) o [])
-    by_object None = refl
-    by_object (Some object) = refl
+size_in objects number = grind arith
 
 pub part_missing : (objects : Heap ℕ) (number from count end : ℕ) (cells : List ℕ) (given : Option (Bor (List ℕ)))
     → cells ≡ components_of objects number → end ≡ from + count → IsGetRangeResult cells from end given
     → IfNone given (size_of objects number < from + count)
-part_missing objects number from count end cells None are stop h = which h.0
-  where
-    which : (end < from) ⊎ (length cells < end) → size_of objects number < from + count
-    which (inl low) = absurd (omega (arith, low, stop))
-    which (inr past) =
-        let n = ap (λ (xs : List ℕ). length xs) are in
-        let size = size_in objects number in
-        omega (arith, past, stop, n, size)
-part_missing objects number from count end cells (Some words) are stop h = tt
+part_missing objects number from count end cells given h1 h2 h3 = grind (arith, size_in)
 
 -- ---- compared
 
-next_low : (words : List ℕ) (at : ℕ) → at < length words
-    → map low (drop at words) ≡ low (get_or words at 0) ∷ map low (drop (at + 1) words)
-next_low words at h = ap (map low) (dropped words at h)
-
--- the next bytes of both
-pub order_next : (one other : List ℕ) (at all first second : ℕ) → at < length one → at < length other
-    → all ≡ order_of (map low (drop at one)) (map low (drop at other))
-    → first ≡ low (get_or one at 0) → second ≡ low (get_or other at 0)
-    → (o : Option ℕ) → o ≡ byte_order first second
-    → all ≡ unwrap_or o (order_of (map low (drop (at + 1) one)) (map low (drop (at + 1) other)))
-order_next one other at all first second h k e f g o is =
-    let rest = order_of (map low (drop (at + 1) one)) (map low (drop (at + 1) other)) in
-    e ∙ ap (λ bytes. order_of bytes (map low (drop at other))) (next_low one at h)
-    ∙ ap (order_of (low (get_or one at 0) ∷ map low (drop (at + 1) one))) (next_low other at k)
-    ∙ ap (λ b. unwrap_or (byte_order b (low (get_or other at 0))) rest) (sym f)
-    ∙ ap (λ b. unwrap_or (byte_order first b) rest) (sym g) ∙ ap (λ x. unwrap_or x rest) (sym is)
-
 no_order : (n : ℕ) → byte_order n n ≡ None
-no_order n = let e = le-ltb n n (omega arith) in
-    rw e refl
+no_order n = grind (arith, le-ltb)
 
 -- what is the same in front makes no difference
 pub order_skips : (n : ℕ) (one other : List ℕ) → n ≤ length one → n ≤ length other → take n one ≡ take n other
@@ -192,7 +145,4 @@ put_part heap number from words object e h =
 -- a part, as it is
 pub words_in : (heap : Heap ℕ) (number from count : ℕ) (object : Object ℕ) → object_at heap number ≡ Some object
     → from + count ≤ length object.cells → part_in object from count ≡ words_of heap number from count
-words_in heap number from count object e h =
-    let are : object.cells ≡ components_of heap number =
-    ap (λ o. option_map_or (λ (x : Object ℕ). x.cells) o []) (sym e) in
-    sym (part_words heap number from count (from + count) object.cells (part_in object from count) are refl h refl)
+words_in heap number from count object e h = grind (arith, part_words)

@@ -1,9 +1,8 @@
 -- Words that are put into components: which stay as they are, and that the order doesn't matter.
-use Rattle.std.proofs.Common.{◌≡◌, ◌≢◌, ◌⊎◌, inl, inr, ℕ, zero, suc, ◌+◌, ◌<◌, ◌≤◌, List, [], ◌∷◌, length, get_or, set}
+use Rattle.std.proofs.Common.{◌≡◌, ◌≢◌, ◌⊎◌, ℕ, zero, suc, ◌+◌, ◌<◌, ◌≤◌, List, [], ◌∷◌, set}
 use Rattle.std.proofs.Common.{slice_get, Option, Some, None, refl, sym, ap, ◌∙◌, arith}
 use Rattle.std.proofs.lemmas.List.{get_or-set_other, set-set, set_comm, set_past}
 use Rattle.std.proofs.lemmas.Option.{same_Some}
-use Rattle.std.specs.Option.{option_map_or}
 use Rattle.jc_natives.proofs.Getting.{new_object, other_object}
 use Rattle.jc_natives.specs.Cells.{put, put_all}
 use Rattle.jc_natives.specs.PrivateCells.{cell_of, size_of, words_of}
@@ -13,18 +12,15 @@ use Rattle.jc_store.specs.Heap.{Heap, Object, object_at, with_cell, with_object}
 pub put_some : {V : Type 0} (heap : Heap V) (number index : ℕ) (value : V) (object : Object V)
     → object_at heap number ≡ Some object
     → put heap number index value ≡ with_object heap number (with_cell object index value)
-put_some heap number index value object e =
-    ap (λ o. option_map_or (λ object. with_object heap number (with_cell object index value)) o heap) e
+put_some heap number index value object e = grind arith
 
 pub put_none : {V : Type 0} (heap : Heap V) (number index : ℕ) (value : V) → object_at heap number ≡ None
     → put heap number index value ≡ heap
-put_none heap number index value e =
-    ap (λ o. option_map_or (λ object. with_object heap number (with_cell object index value)) o heap) e
+put_none heap number index value e = grind arith
 
 pub twice : {V : Type 0} (heap : Heap V) (number : ℕ) (one other : Object V)
     → with_object (with_object heap number one) number other ≡ with_object heap number other
-twice heap zero one other = refl
-twice heap (suc n) one other = set-set heap n one other
+twice heap number one other = grind (arith, set-set)
 
 -- ---- the order doesn't matter
 
@@ -65,14 +61,7 @@ put_before heap number index from v (w ∷ values) h =
 -- ---- other components stay
 
 pub same_or_not : (m n : ℕ) → (m ≢ n) ⊎ (m ≡ n)
-same_or_not zero zero = inr refl
-same_or_not zero (suc n) = inl (λ e. omega (arith, e))
-same_or_not (suc m) zero = inl (λ e. omega (arith, e))
-same_or_not (suc m) (suc n) = next (same_or_not m n)
-  where
-    next : (m ≢ n) ⊎ (m ≡ n) → (suc m ≢ suc n) ⊎ (suc m ≡ suc n)
-    next (inl h) = inl (λ e. h (omega (arith, e)))
-    next (inr h) = inr (ap suc h)
+same_or_not m n = grind arith
 
 pub cell_stays : (objects : Heap ℕ) (number index word other at : ℕ) → index ≢ at
     → cell_of (put objects number index word) other at ≡ cell_of objects other at
@@ -80,23 +69,11 @@ cell_stays objects number index word other at apart = by_object (object_at objec
   where
     by_number : (o : Object ℕ) → object_at objects number ≡ Some o → (n : ℕ) → (number ≢ n) ⊎ (number ≡ n)
         → cell_of (with_object objects number (with_cell o index word)) n at ≡ cell_of objects n at
-    by_number o e n (inl h) =
-        ap (λ x. option_map_or (λ (object : Object ℕ). get_or object.cells at 0) x 0)
-        (other_object objects number n (with_cell o index word) h)
-    by_number o e n (inr h) =
-        ap (λ m. cell_of (with_object objects number (with_cell o index word)) m at) (sym h)
-        ∙ ap (λ x. option_map_or (λ (object : Object ℕ). get_or object.cells at 0) x 0)
-        (new_object objects number o (with_cell o index word) e)
-        ∙ get_or-set_other o.cells index at word 0 (λ f. apart (sym f))
-        ∙ ap (λ x. option_map_or (λ (object : Object ℕ). get_or object.cells at 0) x 0) (sym e)
-        ∙ ap (λ m. cell_of objects m at) h
+    by_number o h1 n h2 = grind (arith, other_object, new_object, get_or-set_other, apart)
 
     by_object : (o : Option (Object ℕ)) → object_at objects number ≡ o
         → cell_of (put objects number index word) other at ≡ cell_of objects other at
-    by_object None e = ap (λ h. cell_of h other at) (put_none objects number index word e)
-    by_object (Some o) e =
-        ap (λ h. cell_of h other at) (put_some objects number index word o e)
-        ∙ by_number o e other (same_or_not number other)
+    by_object o h1 = grind (arith, put_none, put_some, by_number, same_or_not)
 
 -- components behind an index that is written, and a component before
 pub words_stay : (objects : Heap ℕ) (number index word other from count : ℕ) → index < from
@@ -130,21 +107,8 @@ same_set (y ∷ xs) (suc n) x e = ap (λ zs. y ∷ zs) (same_set xs n x e)
 
 pub same_heap : {V : Type 0} (heap : Heap V) (number : ℕ) (object : Object V) → object_at heap number ≡ Some object
     → with_object heap number object ≡ heap
-same_heap heap zero object e = refl
-same_heap heap (suc n) object e = same_set heap n object e
+same_heap heap number object h1 = grind (arith, same_set)
 
 pub put_past : (objects : Heap ℕ) (number index word : ℕ) → size_of objects number ≤ index
     → put objects number index word ≡ objects
-put_past objects number index word h = by_object (object_at objects number) refl
-  where
-    by_object : (o : Option (Object ℕ)) → object_at objects number ≡ o → put objects number index word ≡ objects
-    by_object None e = put_none objects number index word e
-    by_object (Some o) e =
-        put_some objects number index word o e
-        ∙ ap (λ cells. with_object objects number (cells_of_kind o cells))
-        (set_past o.cells index word
-        (short (ap (λ x. option_map_or (λ (object : Object ℕ). length object.cells) x 0) (sym e))))
-        ∙ same_heap objects number o e
-      where
-        short : length o.cells ≡ size_of objects number → length o.cells ≤ index
-        short f = omega (arith, f, h)
+put_past objects number index word h = grind (arith, put_none, put_some, set_past, same_heap)

@@ -1,7 +1,6 @@
 -- Bytes of objects one by one, and what is written one by one.
-use Rattle.std.proofs.Common.{◌≡◌, ◌≢◌, ℕ, zero, suc, ◌+◌, ◌-◌, ◌<◌, ◌≤◌, ◌&&◌, Bool, true, false, List, [], ◌∷◌, ◌++◌}
-use Rattle.std.proofs.Common.{bytes_eq, length, map, nat_eq, refl, sym, ap, ◌∙◌, arith}
-use Rattle.std.proofs.Common.{append_assoc}
+use Rattle.std.proofs.Common.{◌≡◌, ◌≢◌, ℕ, zero, suc, ◌+◌, ◌-◌, ◌<◌, ◌≤◌, ◌&&◌, Bool, false, List, [], ◌∷◌, ◌++◌}
+use Rattle.std.proofs.Common.{bytes_eq, length, map, nat_eq, refl, sym, ap, ◌∙◌, arith, append_assoc}
 use Rattle.std.proofs.lemmas.Bool.{eq-eqb}
 use Rattle.jc_natives.proofs.Putting.{cell_before, put_before, words_stay}
 use Rattle.jc_natives.specs.Cells.{low, put, put_all}
@@ -18,28 +17,12 @@ made_of f objects number from count = map f (words_of objects number from count)
 next_made : (f : ℕ → ℕ) (objects : Heap ℕ) (number from at count : ℕ) → at < count
     → made_of f objects number (from + at) (count - at)
     ≡ f (cell_of objects number (from + at)) ∷ made_of f objects number (from + (at + 1)) (count - (at + 1))
-next_made f objects number from at count h =
-    let more : count - at ≡ suc (count - (at + 1)) = omega (arith, h) in
-    let on : from + at + 1 ≡ from + (at + 1) = omega arith in
-    ap (made_of f objects number (from + at)) more
-    ∙ ap (λ k. f (cell_of objects number (from + at)) ∷ made_of f objects number k (count - (at + 1))) on
+next_made f objects number from at count h = grind arith
 
 pub next_bytes : (objects : Heap ℕ) (number from at count : ℕ) → at < count
     → bytes_of objects number (from + at) (count - at)
     ≡ byte_of objects number (from + at) ∷ bytes_of objects number (from + (at + 1)) (count - (at + 1))
 next_bytes objects number from at count h = next_made low objects number from at count h
-
-pub no_bytes : (objects : Heap ℕ) (number from at count : ℕ) → count ≤ at
-    → bytes_of objects number from (count - at) ≡ []
-no_bytes objects number from at count h =
-    let none : count - at ≡ 0 = omega (arith, h) in ap (bytes_of objects number from) none
-
-pub first_bytes : (objects : Heap ℕ) (number from count : ℕ)
-    → bytes_of objects number (from + 0) (count - 0) ≡ bytes_of objects number from count
-first_bytes objects number from count =
-    let a : from + 0 ≡ from = omega arith in
-    let b : count - 0 ≡ count = omega arith in
-    ap (λ f. bytes_of objects number f (count - 0)) a ∙ ap (bytes_of objects number from) b
 
 -- ---- appended
 
@@ -47,10 +30,7 @@ pub appended : (objects : Heap ℕ) (number from at count : ℕ) (bytes all : Li
     → bytes ++ bytes_of objects number (from + at) (count - at) ≡ all
     → (bytes ++ byte_of objects number (from + at) ∷ [])
     ++ bytes_of objects number (from + (at + 1)) (count - (at + 1)) ≡ all
-appended objects number from at count bytes all h e =
-    append_assoc bytes (byte_of objects number (from + at) ∷ [])
-    (bytes_of objects number (from + (at + 1)) (count - (at + 1)))
-    ∙ ap (λ more. bytes ++ more) (sym (next_bytes objects number from at count h)) ∙ e
+appended objects number from at count bytes all h e = grind (arith, append_assoc, next_bytes)
 
 -- ---- compared
 
@@ -63,8 +43,7 @@ length_of_bytes objects number from zero = refl
 length_of_bytes objects number from (suc count) = ap suc (length_of_bytes objects number (from + 1) count)
 
 no_more : (a b : Bool) → b ≡ false → (a && b) ≡ false
-no_more true b e = e
-no_more false b e = refl
+no_more a b h1 = grind arith
 
 pub bytes_differ : (xs ys : List ℕ) → length xs ≢ length ys → bytes_eq xs ys ≡ false
 bytes_differ [] [] h = absurd (h refl)
@@ -79,16 +58,7 @@ pub same_so_far : (objects : Heap ℕ) (one one_from other other_from at count :
     (bytes_of objects other (other_from + at) (count - at))
     → all ≡ bytes_eq (bytes_of objects one (one_from + (at + 1)) (count - (at + 1)))
     (bytes_of objects other (other_from + (at + 1)) (count - (at + 1)))
-same_so_far objects one one_from other other_from at count all h same e =
-    let x = byte_of objects one (one_from + at) in
-    let y = byte_of objects other (other_from + at) in
-    let xs = bytes_of objects one (one_from + (at + 1)) (count - (at + 1)) in
-    let ys = bytes_of objects other (other_from + (at + 1)) (count - (at + 1)) in
-    e
-    ∙ ap (λ bytes. bytes_eq bytes (bytes_of objects other (other_from + at) (count - at)))
-    (next_bytes objects one one_from at count h)
-    ∙ ap (λ bytes. bytes_eq (x ∷ xs) bytes) (next_bytes objects other other_from at count h)
-    ∙ ap (λ b. b && bytes_eq xs ys) (eq-eqb x y same)
+same_so_far objects one one_from other other_from at count all h same e = grind (arith, bytes_eq, next_bytes, eq-eqb)
 
 -- ---- written
 
@@ -99,9 +69,7 @@ holds s objects = with_objects s objects
 put_first : (s : Store) (number from at word : ℕ) (words : List ℕ)
     → holds s (put_all (put s.objects number (from + at) word) number (from + (at + 1)) words)
     ≡ holds s (put_all s.objects number (from + at) (word ∷ words))
-put_first s number from at word words =
-    let on : from + (at + 1) ≡ from + at + 1 = omega arith in
-    ap (λ f. holds s (put_all (put s.objects number (from + at) word) number f words)) on
+put_first s number from at word words = grind arith
 
 -- copied from the front: what is read is behind what was written
 pub copied_on : (f : ℕ → ℕ) (s : Store) (source source_from target target_from at count word : ℕ) → at < count

@@ -1,13 +1,12 @@
 -- A call that fits answers on tagged values what it answers on words without tags.
-use Rattle.std.proofs.Common.{◌≡◌, ℕ, ◌+◌, ◌==◌, ◌&&◌, Bool, true, false, cond, List, [], length, nat_le}
-use Rattle.std.proofs.Common.{Option, Some, None, refl, sym, ap, subst, ◌∙◌}
+use Rattle.std.proofs.Common.{◌≡◌, ℕ, ◌+◌, ◌==◌, ◌&&◌, Bool, true, false, cond, List, [], length, nat_le, arith}
+use Rattle.std.proofs.Common.{Option, Some, refl, sym, ap, ◌∙◌}
 use Rattle.std.specs.List.{AllByRecursion, list_all}
-use Rattle.std.specs.Option.{option_and_then, option_map, option_map_or}
+use Rattle.std.specs.Option.{option_and_then}
 use Rattle.jc_api.specs.Member.{ApiMember, member_of}
 use Rattle.jc_api.specs.Numbered.{numbered}
 use Rattle.jc_api.specs.declared.class.ApiClass.{ApiClass}
 use Rattle.jc_api.specs.declared.class.ApiClass.TheVariants as api
-use Rattle.jc_machine.specs.Lookup.{is_of_class}
 use Rattle.jc_machine.specs.Machine.{Calls, Gives, IsStuck, NativeAnswer, NativeCall, NativeEnd, ThrowsObject}
 use Rattle.jc_machine.specs.Runtime.{apdu_buffer}
 use Rattle.jc_names.specs.declared.name.ClassName.TheVariants.{Api}
@@ -22,19 +21,17 @@ use Rattle.jc_natives.proofs.Unstuck.{IsShown, There, aid_at, aids_have, bytes_a
 use Rattle.jc_natives.proofs.Unstuck.{has_component, has_object, has_range, has_reason, has_reference, has_word}
 use Rattle.jc_natives.proofs.Unstuck.{has_words, is_fit, object_leads, of_leads, tests_fit, tests_show}
 use Rattle.jc_natives.proofs.Unstuck.{there_unless_null}
-use Rattle.jc_natives.specs.Checks.{Passed, Refused, TestEnd, Unfit, are_aids, tested}
+use Rattle.jc_natives.specs.Checks.{Passed, TestEnd, are_aids, tested}
 use Rattle.jc_natives.specs.Cells.{is_within}
 use Rattle.jc_natives.specs.Kept.{Kept, has_aid_length, is_fresh, is_incoming, is_length_set, is_outgoing, most_sent}
-use Rattle.jc_natives.specs.Meaning.{answer_of, begun, done, end_of, ended, unchanged, with_room}
+use Rattle.jc_natives.specs.Meaning.{answer_of, begun, done, end_of, ended, unchanged}
 use Rattle.jc_natives.specs.Members as members
-use Rattle.jc_natives.specs.Members.{ends_with, in_buffer, member_of_native, natives}
-use Rattle.jc_natives.specs.Members.{on_installing, sends_at_once}
-use Rattle.jc_natives.specs.PrivateCells.{argument, bare}
+use Rattle.jc_natives.specs.Members.{ends_with, in_buffer, member_of_native, natives, on_installing, sends_at_once}
+use Rattle.jc_natives.specs.PrivateCells.{argument}
 use Rattle.jc_natives.specs.PrivateMeaning.{answer_on_words, begun_on_words}
 use Rattle.jc_natives.specs.PrivateSeen.{Seen, arguments_of, is_aid_object, seen_of}
 use Rattle.jc_natives.specs.Taking.{Called, called, on_range}
-use Rattle.jc_natives.specs.Work.{Asks, Does, Ending, GivesReference, GivesWord, Makes, NoResult, Throws, Work}
-use Rattle.jc_natives.specs.Work.{bad_length, buffer_bounds, illegal_use, illegal_value}
+use Rattle.jc_natives.specs.Work.{Ending, GivesWord, Work, bad_length, buffer_bounds, illegal_use, illegal_value}
 use Rattle.jc_natives.specs.declared.kept.Installing.{Installing}
 use Rattle.jc_natives.specs.declared.native.AidNative.{AidNative}
 use Rattle.jc_natives.specs.declared.native.AidNative.TheVariants as aids
@@ -51,18 +48,16 @@ use Rattle.jc_natives.specs.declared.native.SystemNative.TheVariants as system
 use Rattle.jc_natives.specs.declared.native.UtilityNative.{UtilityNative}
 use Rattle.jc_natives.specs.declared.native.UtilityNative.TheVariants as utilities
 use Rattle.jc_natives.specs.declared.row.Length.TheVariants.{ByteAt, ShortAt}
-use Rattle.jc_store.specs.Heap.{Heap, Object, object_at}
+use Rattle.jc_store.specs.Heap.{Heap}
 use Rattle.jc_words.specs.Values.{TaggedValue}
 
 requires_system : (h : Called) (reason : ℕ) (passes : Bool) (go : Option Work) → Has go
     → Has (members.require_system h reason passes go)
-requires_system h reason true go p = p
-requires_system h reason false go p = refl
+requires_system h reason passes go h1 = grind arith
 
 requires_apdu : (h : Called) (reason : ℕ) (passes : Bool) (go : Option Work) → Has go
     → Has (members.require_apdu h reason passes go)
-requires_apdu h reason true go p = p
-requires_apdu h reason false go p = refl
+requires_apdu h reason passes go h1 = grind arith
 
 unequal : false ≡ true → ⊥
 unequal g = cc
@@ -75,43 +70,7 @@ Shows known c native typed = AllByRecursion (IsShown known (takes native c) type
 -- each member's tests look at what it takes
 pub tests_suit : (native : Native) (c : ApiClass)
     → list_all (fits_kinds (takes native c)) (member_of_native native).tests ≡ true
-tests_suit (OfObject objects.Construct) c = refl
-tests_suit (OfObject objects.Equals) c = refl
-tests_suit (OfObject objects.ConstructWithReason) c = refl
-tests_suit (OfObject objects.GetReason) c = refl
-tests_suit (OfObject objects.SetReason) c = refl
-tests_suit (OfObject (objects.ThrowIt object)) c = refl
-tests_suit (OfAid aids.Construct) c = refl
-tests_suit (OfAid aids.Equals) c = refl
-tests_suit (OfAid aids.GetBytes) c = refl
-tests_suit (OfApdu apdus.GetBuffer) c = refl
-tests_suit (OfApdu apdus.SetIncomingAndReceive) c = refl
-tests_suit (OfApdu apdus.SetOutgoing) c = refl
-tests_suit (OfApdu apdus.SetOutgoingLength) c = refl
-tests_suit (OfApdu apdus.SendBytes) c = refl
-tests_suit (OfApdu apdus.SendBytesLong) c = refl
-tests_suit (OfApdu apdus.SetOutgoingAndSend) c = refl
-tests_suit (OfApplet applets.Register) c = refl
-tests_suit (OfApplet applets.RegisterBytes) c = refl
-tests_suit (OfApplet applets.Select) c = refl
-tests_suit (OfApplet applets.Deselect) c = refl
-tests_suit (OfApplet applets.Process) c = refl
-tests_suit (OfApplet applets.SelectingApplet) c = refl
-tests_suit (OfApplet applets.GetShareable) c = refl
-tests_suit (OfSystem system.GetAid) c = refl
-tests_suit (OfSystem system.LookupAid) c = refl
-tests_suit (OfSystem system.GetPreviousAid) c = refl
-tests_suit (OfSystem system.AskForShareable) c = refl
-tests_suit (OfSystem system.MakeBooleans) c = refl
-tests_suit (OfSystem system.MakeBytes) c = refl
-tests_suit (OfSystem system.MakeShorts) c = refl
-tests_suit (OfSystem system.MakeReferences) c = refl
-tests_suit (OfUtility utilities.ArrayCopy) c = refl
-tests_suit (OfUtility utilities.ArrayFill) c = refl
-tests_suit (OfUtility utilities.ArrayCompare) c = refl
-tests_suit (OfUtility utilities.GetShort) c = refl
-tests_suit (OfUtility utilities.SetShort) c = refl
-tests_suit (OfUtility utilities.MakeShort) c = refl
+tests_suit native c = grind arith
 
 module _ (known : Known) (c : ApiClass) where
   open known use {w, call, fit}
@@ -137,17 +96,7 @@ module _ (known : Known) (c : ApiClass) where
   -- ---- Object and the exceptions
 
   aid_of_seen : (number : ℕ) → is_aid_object s number ≡ true → LeadsToClass w.shapes heap number (Api api.Aid)
-  aid_of_seen number e =
-      by_object (object_at heap number) refl
-      (sym (ap (λ (o : Option (Object ℕ)). option_map_or
-      (λ (p : Object ℕ). is_of_class w.shapes (Api api.Aid) p.kind.object) o false) (bare_object heap number)) ∙ e)
-    where
-      by_object : (o : Option (Object TaggedValue)) → object_at heap number ≡ o
-          → option_map_or (λ (p : Object ℕ). is_of_class w.shapes (Api api.Aid) p.kind.object) (option_map bare o) false
-          ≡ true
-          → LeadsToClass w.shapes heap number (Api api.Aid)
-      by_object None f g = absurd (unequal g)
-      by_object (Some o) f g = record { object = o; found = f; below = g }
+  aid_of_seen number e = grind (arith, bare_object, unequal)
 
   equals_has : (t : Typed (OfObject objects.Equals)) → Has (members.equals h)
   equals_has t =
@@ -241,8 +190,7 @@ module _ (known : Known) (c : ApiClass) where
 
   installing_has : (x : Option Installing) (go : Installing → Option Work) → ((i : Installing) → Has (go i))
       → Has (on_installing h x go)
-  installing_has None go each = refl
-  installing_has (Some i) go each = each i
+  installing_has x go h1 = grind arith
 
   applet_has : (native : AppletNative) (t : Typed (OfApplet native)) → Shows known c (OfApplet native) t
       → Has ((members.applet_member native).does h)
@@ -320,23 +268,14 @@ is_stuck (Calls callback) = false
 is_stuck IsStuck = true
 
 ending_goes : (ending : Ending) → is_stuck (end_of ending) ≡ false
-ending_goes NoResult = refl
-ending_goes (GivesWord word) = refl
-ending_goes (GivesReference number) = refl
-ending_goes (Throws object) = refl
+ending_goes ending = grind arith
 
 done_goes : (call : NativeCall Kept) (touches : List _) (work : Work) → is_stuck (done call touches work).ends ≡ false
-done_goes call touches (Does writes k ending) = ending_goes ending
-done_goes call touches (Makes array) = refl
-done_goes call touches (Asks question) = refl
+done_goes call touches work = grind (arith, ending_goes)
 
 ended_goes : (call : NativeCall Kept) (touches : List _) (end : TestEnd) (o : Option Work) → is_fit end ≡ true
     → (end ≡ Passed → Has o) → is_stuck (ended call touches end o).ends ≡ false
-ended_goes call touches Passed None e has = absurd (unequal (has refl))
-ended_goes call touches Passed (Some work) e has =
-    done_goes call touches (with_room call.limits.objects call.limits.cells call.heap call.runtime work)
-ended_goes call touches (Refused object) o e has = refl
-ended_goes call touches Unfit o e has = absurd cc
+ended_goes call touches end o h1 h2 = grind (arith, unequal, done_goes)
 
 module _ (known : Known) (m : ApiMember) (native : Native) (m_is : member_of (known.call).member ≡ Some m)
     (n_is : numbered natives (known.call).member ≡ Some native)
@@ -344,9 +283,7 @@ module _ (known : Known) (m : ApiMember) (native : Native) (m_is : member_of (kn
   open known use {w, call, fit}
 
   its_kinds : AreOfKinds w.shapes call.heap call.arguments (takes native m.class)
-  its_kinds =
-      subst (AreOfKinds w.shapes call.heap call.arguments) (sym (takes_so call.member native m n_is m_is))
-      (of_kinds w.shapes call.heap m call.arguments typed)
+  its_kinds = grind (arith, takes_so, of_kinds)
 
   begun_goes : is_stuck (begun w call (Some native)).ends ≡ false
   begun_goes =

@@ -1,36 +1,33 @@
 -- What is done on words is what members mean on tagged values.
-use Rattle.std.proofs.Common.{◌≡◌, ℕ, zero, suc, ◌==◌, Bool, true, false, cond, List, [], ◌∷◌, ◌++◌, length, map}
+use Rattle.std.proofs.Common.{◌≡◌, ℕ, zero, suc, Bool, true, false, cond, List, [], ◌∷◌, ◌++◌, length, map}
 use Rattle.std.proofs.Common.{replicate, slice_get, Option, Some, None, refl, sym, ap, subst, ◌∙◌, arith}
 use Rattle.std.proofs.lemmas.Bool.{eqb-true}
 use Rattle.std.proofs.lemmas.Option.{none-some}
-use Rattle.std.specs.Option.{option_and_then, option_map, option_map_or}
-use Rattle.jc_api.specs.Class.{package_of}
+use Rattle.std.specs.Option.{option_map_or}
 use Rattle.jc_api.specs.Member.{ApiMember, member_of, members}
 use Rattle.jc_api.specs.Numbered.{numbered}
 use Rattle.jc_base.specs.Signature.{Signature}
-use Rattle.jc_classes.specs.Members.{DeclaredMethod, declared_in, method_at}
+use Rattle.jc_classes.specs.Members.{DeclaredMethod, method_at}
 use Rattle.jc_cap_desc.specs.Shape.{Shape}
 use Rattle.jc_link.specs.Linked.{World}
-use Rattle.jc_link.specs.MemberType.{declared_type_of}
 use Rattle.jc_link.specs.Named.{is_concrete}
-use Rattle.jc_machine.specs.Reading.{HeapReads, Pointwise, Reads, ReadsResult}
-use Rattle.jc_machine.specs.Lookup.{are_of_instance, are_of_types, is_object_of, may_begin_with}
+use Rattle.jc_machine.specs.Reading.{HeapReads, Pointwise, Reads}
+use Rattle.jc_machine.specs.Lookup.{are_of_instance, are_of_types, may_begin_with}
 use Rattle.jc_machine.specs.Machine.{Calls, Gives, IsStuck, NativeAnswer, NativeCall, ThrowsObject}
 use Rattle.jc_machine.specs.Natives.{IsFitCall}
 use Rattle.jc_machine.specs.WordNatives.{AnswerAgrees, CallAgrees, ReadsEnd, WordState}
 use Rattle.jc_machine.specs.declared.natives.WordCall.{WordCall}
 use Rattle.jc_machine.specs.declared.natives.WordOutcome.{WordOutcome}
-use Rattle.jc_machine.specs.declared.natives.WordOutcome.TheVariants.{CallsBack, Returned, Thrown}
+use Rattle.jc_machine.specs.declared.natives.WordOutcome.TheVariants.{Returned, Thrown}
 use Rattle.jc_machine.specs.Calls.{native_may_begin}
-use Rattle.jc_names.specs.Names.{api_home}
 use Rattle.jc_names.specs.declared.name.ClassName.{ClassName}
 use Rattle.jc_names.specs.declared.name.MethodName.TheVariants.{Api}
 use Rattle.jc_names.specs.declared.owner.Owner.{Owner}
 use Rattle.jc_natives.proofs.Bare.{argument_bits, bare_laid, bare_length, bare_new, bare_room, both, heap_bits}
 use Rattle.jc_natives.proofs.Bare.{reads_heap, receiver_bits}
-use Rattle.jc_natives.specs.Cells.{bits, has_room, written}
+use Rattle.jc_natives.specs.Cells.{bits, written}
 use Rattle.jc_natives.specs.Kept.{Kept}
-use Rattle.jc_natives.specs.Meaning.{answer_of, array_or_refusal, blank_of, done, end_of, meaning, new_array, reference}
+use Rattle.jc_natives.specs.Meaning.{answer_of, blank_of, done, end_of, meaning, new_array, reference}
 use Rattle.jc_natives.specs.Meaning.{unchanged, with_room}
 use Rattle.jc_natives.specs.Members.{natives}
 use Rattle.jc_natives.specs.PrivateCells.{bare, bared}
@@ -40,23 +37,20 @@ use Rattle.jc_natives.specs.PrivateSeen.{arguments_of, seen_of}
 use Rattle.jc_natives.specs.PrivateTests.{tested}
 use Rattle.jc_natives.specs.PrivateWords.{Done, TellsEnd, did_on_words, done_of, ended_of, kind_of, laid, native_work}
 use Rattle.jc_natives.specs.PrivateWords.{seen_in, tested_work, word_work}
-use Rattle.jc_natives.specs.Work.{Asks, Does, Ending, GivesReference, GivesWord, Makes, NewArray, NoResult, Throws}
-use Rattle.jc_natives.specs.Work.{Work}
+use Rattle.jc_natives.specs.Work.{Asks, Does, Ending, Makes, NewArray, Work}
 use Rattle.jc_natives.specs.declared.ended.Ended.TheVariants as ends
 use Rattle.jc_natives.specs.declared.ended.Question.{Question}
 use Rattle.jc_natives.specs.declared.native.Elements.{Elements}
-use Rattle.jc_natives.specs.declared.native.Elements.TheVariants.{Booleans, Bytes, References, Shorts}
 use Rattle.jc_natives.specs.declared.native.Native.{Native}
 use Rattle.jc_store.specs.Heap.{Heap, next_number, with_new}
 use Rattle.jc_store.specs.Store.{Store, fresh}
-use Rattle.jc_words.specs.Values.{Null, Ref, TaggedValue, Word}
+use Rattle.jc_words.specs.Values.{Ref, TaggedValue, Word}
 
 -- ---- the arguments of a call that may begin
 
 pub passed_some : {A : Type 0} (test : A → Bool) (o : Option A) → option_map_or test o false ≡ true
     → (x : A) × (o ≡ Some x) × (test x ≡ true)
-passed_some test None e = absurd cc
-passed_some test (Some x) e = (x, refl, e)
+passed_some test o h1 = grind arith
 
 abbrev takes : World → NativeCall Kept → DeclaredMethod → Signature ClassName → Bool
 takes w call d signature =
@@ -69,91 +63,38 @@ instance_bits : (w : World) (call : NativeCall Kept) (class : ClassName) (s : Si
 instance_bits w call class s [] [] r e = refl
 instance_bits w call class s [] (v ∷ vs) r e = absurd r
 instance_bits w call class s (x ∷ ws) [] r e = absurd r
-instance_bits w call class s (x ∷ ws) (v ∷ vs) r e =
-    let b = both (is_object_of w.shapes call.heap class v) (are_of_types w.shapes call.heap s.parameters vs) e in
-    ap (λ n. n ∷ ws) (receiver_bits call.heap _ x v r.0 b.0)
-    ∙ ap (λ ns. bits v ∷ ns) (argument_bits w.shapes call.heap s.parameters ws vs r.1 b.1)
+instance_bits w call class s (x ∷ ws) (v ∷ vs) r e = grind (arith, both, receiver_bits, argument_bits)
 
 arguments_are : (w : World) (call : NativeCall Kept) (ws : List ℕ) → Pointwise Reads ws call.arguments
     → IsFitCall meaning w call → ws ≡ arguments_of call
-arguments_are w call ws r fit =
-    let begins = both (is_concrete w.shapes (Api call.member))
-    (option_map_or (λ d. may_begin_with w.shapes call.heap d call.arguments) (method_at w.shapes (Api call.member))
-    false)
-    fit.begins in
-    let d = passed_some (λ d. may_begin_with w.shapes call.heap d call.arguments)
-    (method_at w.shapes (Api call.member)) begins.1 in
-    let s = passed_some (takes w call d.0) (declared_type_of w.shapes d.0) d.2 in
-    by_kind (d.0).method.is_static d.0 s.0 s.2
-  where
-    by_kind : (b : Bool) (d : DeclaredMethod) (s : Signature ClassName)
-        → cond b (are_of_types w.shapes call.heap s.parameters call.arguments)
-        (are_of_instance w.shapes call.heap d.class s.parameters call.arguments) ≡ true
-        → ws ≡ arguments_of call
-    by_kind true d s e = argument_bits w.shapes call.heap s.parameters ws call.arguments r e
-    by_kind false d s e = instance_bits w call d.class s ws call.arguments r e
+arguments_are w call ws r fit = grind (arith, both, passed_some, argument_bits, instance_bits)
 
 -- ---- how a work ends
 
 reads_reference : (number : ℕ) → Reads number (reference number)
-reads_reference number = by_null (number == 0) refl
-  where
-    by_null : (b : Bool) → (number == 0) ≡ b → Reads number (cond b Null (Ref number))
-    by_null true e = eqb-true number 0 e
-    by_null false e = refl
+reads_reference number = grind (arith, eqb-true)
 
 reads_end : (outcome : WordOutcome) (ending : Ending) → TellsEnd outcome (ended_of ending)
     → ReadsEnd outcome (end_of ending)
-reads_end (Returned word) NoResult e = subst (λ w. ReadsResult w None) (sym e) tt
-reads_end (Returned word) (GivesWord n) e = subst (λ w. ReadsResult w (Some (Word n))) (sym e) refl
-reads_end (Returned word) (GivesReference n) e =
-    subst (λ w. ReadsResult w (Some (reference n))) (sym e) (reads_reference n)
-reads_end (Returned word) (Throws object) e = absurd e
-reads_end (Thrown number) NoResult e = absurd e
-reads_end (Thrown number) (GivesWord n) e = absurd e
-reads_end (Thrown number) (GivesReference n) e = absurd e
-reads_end (Thrown number) (Throws object) e = e
-reads_end (CallsBack callback) NoResult e = absurd e
-reads_end (CallsBack callback) (GivesWord n) e = absurd e
-reads_end (CallsBack callback) (GivesReference n) e = absurd e
-reads_end (CallsBack callback) (Throws object) e = absurd e
+reads_end outcome ending h1 = grind (arith, reads_reference)
 
 reads_made : (outcome : WordOutcome) (n m : ℕ) → n ≡ m → TellsEnd outcome (ends.Returned (Some n))
     → ReadsEnd outcome (Gives (Some (Ref m)))
-reads_made (Returned word) n m same e = subst (λ w. ReadsResult w (Some (Ref m))) (sym e) same
-reads_made (Thrown number) n m same e = absurd e
-reads_made (CallsBack callback) n m same e = absurd e
+reads_made outcome n m h1 h2 = grind arith
 
 reads_question : (outcome : WordOutcome) (q : Question) → TellsEnd outcome (ends.Asks q)
     → ReadsEnd outcome (Calls
     (record { member = 40; object = q.object; arguments = reference q.aid ∷ Word q.word ∷ [] }))
-reads_question (Returned word) q e = absurd e
-reads_question (Thrown number) q e = absurd e
-reads_question (CallsBack callback) q e = record {
-  member = e.member;
-  object = e.object;
-  arguments =
-      subst (λ ws. Pointwise Reads ws (reference q.aid ∷ Word q.word ∷ [])) (sym e.arguments)
-      (reads_reference q.aid, (refl, tt));
-}
+reads_question outcome q h1 = grind (arith, reads_reference)
 
 -- ---- a work
 
 bare_blank : (elements : Elements) (n : ℕ) → map bits (replicate n (blank_of elements)) ≡ replicate n 0
 bare_blank elements zero = refl
-bare_blank elements (suc n) = ap (λ x. x ∷ map bits (replicate n (blank_of elements))) (blank elements)
-    ∙ ap (λ xs. 0 ∷ xs) (bare_blank elements n)
-  where
-    blank : (elements : Elements) → bits (blank_of elements) ≡ 0
-    blank Booleans = refl
-    blank Bytes = refl
-    blank Shorts = refl
-    blank References = refl
+bare_blank elements (suc n) = grind (arith, replicate, bare_blank elements n)
 
 bare_array : (owner : Owner) (array : NewArray) → fresh (kind_of array) owner array.size ≡ bare (new_array owner array)
-bare_array owner array =
-    ap (λ cells. record { kind = kind_of array; owner = owner; cells = cells })
-    (sym (bare_blank array.elements array.size))
+bare_array owner array = grind (arith, bare_blank)
 
 -- the same state in the words of a call that agrees
 abbrev state_of : Done → WordState Kept
@@ -179,26 +120,14 @@ did_agrees call touches s k (Makes array) outcome objects same told = record {
   ends = reads_made outcome (next_number s.objects) (next_number call.heap)
       (ap (λ (h : Heap ℕ). suc (length h)) objects ∙ ap suc (bare_length call.heap)) told;
 }
-did_agrees call touches s k (Asks q) outcome objects same told = record {
-  heap = subst (λ h. HeapReads h call.heap) (sym objects) (reads_heap call.heap);
-  runtime = same;
-  ends = reads_question outcome q told;
-}
+did_agrees call touches s k (Asks q) outcome objects same told = grind (arith, reads_heap, reads_question)
 
 -- room is the same with tags and without
 same_room : (call : NativeCall Kept) (s : Store) (work : Work) → s.objects ≡ bared call.heap
     → s.most_objects ≡ call.limits.objects → s.most_cells ≡ call.limits.cells
     → with_room s.most_objects s.most_cells s.objects call.runtime work
     ≡ with_room call.limits.objects call.limits.cells call.heap call.runtime work
-same_room call s (Does writes runtime ending) objects most cells = refl
-same_room call s (Makes array) objects most cells =
-    ap (λ n. array_or_refusal (has_room n s.most_cells s.objects array.size) array call.runtime) most
-    ∙ ap (λ n. array_or_refusal (has_room call.limits.objects n s.objects array.size) array call.runtime) cells
-    ∙ ap (λ h. array_or_refusal (has_room call.limits.objects call.limits.cells h array.size) array call.runtime)
-    objects
-    ∙ ap (λ b. array_or_refusal b array call.runtime)
-    (bare_room call.limits.objects call.limits.cells call.heap array.size)
-same_room call s (Asks question) objects most cells = refl
+same_room call s work h1 h2 h3 = grind (arith, bare_room)
 
 -- ---- a call
 
@@ -206,11 +135,7 @@ same_room call s (Asks question) objects most cells = refl
 thrown_agrees : (call : NativeCall Kept) (touches : List _) (s : Store) (k : Kept) (object : ℕ) (outcome : WordOutcome)
     → s.objects ≡ bared call.heap → k ≡ call.runtime → TellsEnd outcome (ends.Thrown object)
     → AnswerAgrees (record { store = s; runtime = k }) outcome (unchanged call touches (ThrowsObject object))
-thrown_agrees call touches s k object outcome objects same told = record {
-  heap = subst (λ h. HeapReads h call.heap) (sym objects) (reads_heap call.heap);
-  runtime = same;
-  ends = reads_end outcome (Throws object) told;
-}
+thrown_agrees call touches s k object outcome objects same told = grind (arith, reads_heap, reads_end)
 
 ended_agrees : (call : NativeCall Kept) (touches : List _) (s : Store) (thrown : Option ℕ) (work : Work)
     (outcome : WordOutcome) → s.objects ≡ bared call.heap
@@ -233,67 +158,7 @@ same_seen : (s : Store) (word : WordCall) (call : NativeCall Kept) → s.objects
     → word.active ≡ call.active → word.previous ≡ call.previous → word.selected ≡ call.selected
     → s.most_objects ≡ call.limits.objects → s.most_cells ≡ call.limits.cells
     → seen_in s word ≡ seen_of word.world.now call
-same_seen s word call objects active previous selected most cells =
-    ap (λ x. record {
-      shapes = word.world.now.shapes;
-      objects = x;
-      active = word.active;
-      previous = word.previous;
-      selected =
-          word.selected;
-      most_objects = s.most_objects;
-      most_cells = s.most_cells;
-    }) objects
-    ∙ ap (λ x. record {
-      shapes = word.world.now.shapes;
-      objects = bared call.heap;
-      active = x;
-      previous = word.previous;
-      selected =
-          word.selected;
-      most_objects = s.most_objects;
-      most_cells = s.most_cells;
-    }) active
-    ∙ ap (λ x. record {
-      shapes = word.world.now.shapes;
-      objects = bared call.heap;
-      active = call.active;
-      previous = x;
-      selected =
-          word.selected;
-      most_objects = s.most_objects;
-      most_cells = s.most_cells;
-    }) previous
-    ∙ ap (λ x. record {
-      shapes = word.world.now.shapes;
-      objects = bared call.heap;
-      active = call.active;
-      previous =
-          call.previous;
-      selected = x;
-      most_objects = s.most_objects;
-      most_cells = s.most_cells;
-    }) selected
-    ∙ ap (λ x. record {
-      shapes = word.world.now.shapes;
-      objects = bared call.heap;
-      active = call.active;
-      previous =
-          call.previous;
-      selected = call.selected;
-      most_objects = x;
-      most_cells = s.most_cells;
-    }) most
-    ∙ ap (λ x. record {
-      shapes = word.world.now.shapes;
-      objects = bared call.heap;
-      active = call.active;
-      previous =
-          call.previous;
-      selected = call.selected;
-      most_objects = call.limits.objects;
-      most_cells = x;
-    }) cells
+same_seen s word call objects active previous selected most cells = grind arith
 
 -- without a member the meaning is stuck, which the law excludes of calls that fit: a member has a number up to 55
 begun_agrees : (w : World) (s : Store) (call : NativeCall Kept) (native : Native) (outcome : WordOutcome)
@@ -324,14 +189,7 @@ numbered_native (suc n) m e = listed members natives n m refl e
 
 member_there : (n : ℕ) (world : List Shape) (d : DeclaredMethod) → method_at world (Api n) ≡ Some d
     → (m : ApiMember) × (member_of n ≡ Some m)
-member_there n world d e = by_member (member_of n) e
-  where
-    by_member : (o : Option ApiMember)
-        → option_and_then (λ home. option_and_then (declared_in home n) (slice_get world home))
-        (option_map (λ (m : ApiMember). api_home (package_of m.class)) o) ≡ Some d
-        → (m : ApiMember) × (o ≡ Some m)
-    by_member None f = absurd (none-some d f)
-    by_member (Some m) f = (m, refl)
+member_there n world d e = grind (arith, none-some)
 
 -- of a call that fits the member, and where it is declared
 pub record Begins (w : World) (call : NativeCall Kept) : Type 0 where

@@ -1,9 +1,8 @@
 -- What a member writes: objects that its tests reached, or the runtime's own. And what the runtime keeps names applets
 -- still.
 use Rattle.std.specs.Prelude.{⊤}
-use Rattle.std.proofs.Common.{◌≡◌, ◌⊎◌, inl, inr, ℕ, zero, suc, ◌+◌, ◌==◌, ◌||◌, not, Bool, true, false, cond}
-use Rattle.std.proofs.Common.{List, [], ◌∷◌, ◌++◌, is_some, length, nat_le, slice_get, Option, Some, None}
-use Rattle.std.proofs.Common.{refl, sym, ap, subst, ◌∙◌}
+use Rattle.std.proofs.Common.{◌≡◌, ◌⊎◌, inl, inr, ℕ, zero, suc, ◌+◌, ◌==◌, ◌||◌, not, Bool, true, cond, arith, List, []}
+use Rattle.std.proofs.Common.{◌∷◌, ◌++◌, nat_le, slice_get, Option, Some, refl, sym, ap, ◌∙◌}
 use Rattle.std.proofs.lemmas.Bool.{eqb-true}
 use Rattle.std.proofs.lemmas.Option.{none-some, same_Some}
 use Rattle.std.specs.List.{AllByRecursion, list_all}
@@ -16,26 +15,23 @@ use Rattle.jc_machine.specs.Runtime.{apdu_buffer, apdu_exception, iso_exception,
 use Rattle.jc_natives.proofs.Bare.{both}
 use Rattle.jc_natives.proofs.Changed.{either_is}
 use Rattle.jc_natives.proofs.Keeping.{both_are}
-use Rattle.jc_natives.specs.Cells.{Write, extended, has_room, is_count}
+use Rattle.jc_natives.specs.Cells.{Write, extended}
 use Rattle.jc_natives.specs.Checks.{access_of}
-use Rattle.jc_natives.specs.Kept.{Kept, aid_object, has_aid_length, instance_with, is_fresh, is_incoming}
-use Rattle.jc_natives.specs.Kept.{is_instance_number, is_length_set, is_outgoing, most_sent, now_registered}
-use Rattle.jc_natives.specs.Kept.{with_instance}
-use Rattle.jc_natives.specs.Meaning.{array_or_refusal, with_room}
+use Rattle.jc_natives.specs.Kept.{Kept, aid_object, has_aid_length, is_instance_number, now_registered, with_instance}
+use Rattle.jc_natives.specs.Meaning.{with_room}
 use Rattle.jc_natives.specs.Members.{natives}
 use Rattle.jc_natives.specs.PrivateAids.{aid_work}
-use Rattle.jc_natives.specs.PrivateApdus.{apdu_work, is_in_buffer, sends}
-use Rattle.jc_natives.specs.PrivateApplets.{allowed, applet_work, may_register, on_allowed, owner_of, registers}
+use Rattle.jc_natives.specs.PrivateApdus.{apdu_work, sends}
+use Rattle.jc_natives.specs.PrivateApplets.{allowed, applet_work, on_allowed, owner_of, registers}
 use Rattle.jc_natives.specs.PrivateCells.{argument}
 use Rattle.jc_natives.specs.PrivateMeaning.{work_of}
 use Rattle.jc_natives.specs.PrivateObjects.{object_work}
 use Rattle.jc_natives.specs.PrivateRows.{aid_row, object_row, row_of, utility_row}
 use Rattle.jc_natives.specs.PrivateSeen.{Seen}
-use Rattle.jc_natives.specs.PrivateSystem.{asks, makes, may_make, system_work}
+use Rattle.jc_natives.specs.PrivateSystem.{asks, makes, system_work}
 use Rattle.jc_natives.specs.PrivateUtilities.{utility_work}
 use Rattle.jc_natives.specs.Apart.{installs_applet, names_applets}
-use Rattle.jc_natives.specs.Work.{Asks, Does, Makes, Work, bad_length, buffer_bounds, illegal_aid, illegal_transient}
-use Rattle.jc_natives.specs.Work.{illegal_use, illegal_value, no_transient_space, throws_apdu, throws_system}
+use Rattle.jc_natives.specs.Work.{Asks, Does, Makes, Work, illegal_value, throws_apdu, throws_system}
 use Rattle.jc_natives.specs.declared.kept.Installing.{Installing}
 use Rattle.jc_natives.specs.declared.kept.Instance.{Instance}
 use Rattle.jc_natives.specs.declared.native.AidNative.{AidNative}
@@ -105,16 +101,11 @@ all_with_last p (y ∷ xs) x e f =
 
 still_installs : (o : Option Installing) → option_map_or installs_applet o true ≡ true
     → option_map_or installs_applet (option_map now_registered o) true ≡ true
-still_installs None e = refl
-still_installs (Some i) e = e
+still_installs o h1 = grind arith
 
 with_instance_named : (k : Kept) (i : Instance) → names_applets k ≡ true → is_applets i.owner ≡ true
     → names_applets (with_instance k i) ≡ true
-with_instance_named k i e f =
-    let b = both (list_all of_applet k.instances) (option_map_or installs_applet k.installing true) e in
-    both_are (list_all of_applet (k.instances ++ i ∷ []))
-    (option_map_or installs_applet (option_map now_registered k.installing) true)
-    (all_with_last of_applet k.instances i b.0 f) (still_installs k.installing b.1)
+with_instance_named k i e f = grind (arith, both, both_are, all_with_last, still_installs)
 
 -- ---- works
 
@@ -142,8 +133,7 @@ module _ (Spared : By → ℕ → Type 0) (s : Seen) (k : Kept) where
   IsApartWork (Asks question) = ⊤
 
   either_apart : (b : Bool) (x y : Work) → (b ≡ true → IsApartWork x) → IsApartWork y → IsApartWork (cond b x y)
-  either_apart true x y p q = p refl
-  either_apart false x y p q = q
+  either_apart b x y h1 h2 = grind arith
 
   -- an object that a row tests, by a way in which it may change
   abbrev pub AreTested : List ℕ → Row → Type 0
@@ -162,18 +152,7 @@ module _ (Spared : By → ℕ → Type 0) (s : Seen) (k : Kept) where
     apdu_apart reason = ((own.apdu, tt), kept)
 
     exception_spared : (object : ℕ) → is_own_exception object ≡ true → Spared ByRuntime object
-    exception_spared object e =
-        by_first (either_is (object == iso_exception) (object == system_exception || object == apdu_exception) e)
-      where
-        by_second : ((object == system_exception) ≡ true) ⊎ ((object == apdu_exception) ≡ true)
-            → Spared ByRuntime object
-        by_second (inl f) = subst (Spared ByRuntime) (sym (eqb-true object system_exception f)) own.system
-        by_second (inr f) = subst (Spared ByRuntime) (sym (eqb-true object apdu_exception f)) own.apdu
-
-        by_first : ((object == iso_exception) ≡ true)
-            ⊎ ((object == system_exception || object == apdu_exception) ≡ true) → Spared ByRuntime object
-        by_first (inl f) = subst (Spared ByRuntime) (sym (eqb-true object iso_exception f)) own.iso
-        by_first (inr f) = by_second (either_is (object == system_exception) (object == apdu_exception) f)
+    exception_spared object e = grind (arith, either_is, eqb-true)
 
     object_apart : (native : ObjectNative) → object_throws_own native ≡ true → AreTested args (object_row native)
         → IsApartWork (object_work s k args native)
@@ -192,32 +171,10 @@ module _ (Spared : By → ℕ → Type 0) (s : Seen) (k : Kept) where
     aid_apart aids.GetBytes tested = ((tested 1 ways.Stores refl (inr refl), tt), kept)
 
     sends_apart : (array offset count : ℕ) → IsApartWork (sends s k array offset count)
-    sends_apart array offset count =
-        either_apart (nat_le (length k.sent + count) k.announced) _ _ (λ e. (tt, kept)) (apdu_apart illegal_use)
+    sends_apart array offset count = grind (arith, either_apart, nat_le, kept, apdu_apart)
 
     apdu_work_apart : (native : ApduNative) → IsApartWork (apdu_work s k args native)
-    apdu_work_apart apdus.GetBuffer = (tt, kept)
-    apdu_work_apart apdus.SetIncomingAndReceive =
-        either_apart (is_fresh k.state) _ _ (λ e. ((own.buffer, tt), kept)) (apdu_apart illegal_use)
-    apdu_work_apart apdus.SetOutgoing =
-        either_apart (is_incoming k.state) _ _ (λ e. (tt, kept)) (apdu_apart illegal_use)
-    apdu_work_apart apdus.SetOutgoingLength =
-        either_apart (is_outgoing k.state) _ _
-        (λ e. either_apart (nat_le (argument args 1) most_sent) _ _ (λ f. (tt, kept)) (apdu_apart bad_length))
-        (apdu_apart illegal_use)
-    apdu_work_apart apdus.SendBytes =
-        either_apart (is_length_set k.state) _ _
-        (λ e. either_apart (is_in_buffer s (argument args 1) (argument args 2)) _ _
-        (λ f. sends_apart apdu_buffer (argument args 1) (argument args 2)) (apdu_apart buffer_bounds))
-        (apdu_apart illegal_use)
-    apdu_work_apart apdus.SendBytesLong =
-        either_apart (is_length_set k.state) _ _
-        (λ e. sends_apart (argument args 1) (argument args 2) (argument args 3)) (apdu_apart illegal_use)
-    apdu_work_apart apdus.SetOutgoingAndSend =
-        either_apart (is_incoming k.state) _ _
-        (λ e. either_apart (nat_le (argument args 2) most_sent) _ _
-        (λ f. either_apart (is_in_buffer s (argument args 1) (argument args 2)) _ _ (λ g. (tt, kept))
-        (apdu_apart buffer_bounds)) (apdu_apart bad_length)) (apdu_apart illegal_use)
+    apdu_work_apart native = grind (arith, kept, either_apart, apdu_apart, nat_le, sends_apart)
 
     -- the instance that is being installed, where an object may register in its name
     record May (object : ℕ) (i : Installing) : Type 0 where
@@ -226,81 +183,34 @@ module _ (Spared : By → ℕ → Type 0) (s : Seen) (k : Kept) where
 
     may_of : (object : ℕ) (o : Option Installing) (i : Installing) → k.installing ≡ o
         → allowed s object o ≡ Some i → May object i
-    may_of object None i e f = absurd (none-some i f)
-    may_of object (Some j) i e f = by_test (may_register s object j) refl f
-      where
-        by_test : (b : Bool) → may_register s object j ≡ b → cond b (Some j) None ≡ Some i → May object i
-        by_test true g h =
-            subst (May object) (same_Some j i h) (record {
-              installing = e;
-              number = (both (not j.registered) ((owner_of s.objects object).instance == j.owner.instance) g).1;
-            })
-        by_test false g h = absurd (none-some i h)
+    may_of object o i h1 h2 = grind (arith, none-some, same_Some, both, not)
 
     -- it has a number
     is_numbered : (object : ℕ) (i : Installing) → May object i → names_applets k ≡ true
         → is_instance_number (owner_of s.objects object).instance ≡ true
-    is_numbered object i may named =
-        let installs : option_map_or installs_applet k.installing true ≡ true =
-        (both (list_all of_applet k.instances) (option_map_or installs_applet k.installing true) named).1 in
-        let its : installs_applet i ≡ true =
-        ap (λ (o : Option Installing). option_map_or installs_applet o true) (sym may.installing) ∙ installs in
-        ap is_instance_number (eqb-true (owner_of s.objects object).instance i.owner.instance may.number)
-        ∙ (both (is_applets i.owner) (is_instance_number i.owner.instance) its).1
+    is_numbered object i may named = grind (arith, both, eqb-true)
 
     registers_apart : (object : ℕ) (aid : List ℕ) (i : Installing) → May object i
         → IsApartWork (registers s k i.owner.instance object aid)
-    registers_apart object aid i may =
-        either_apart (not (is_some (instance_with k.instances aid))) _ _
-        (λ e. (
-          (own.registers i may.installing, tt),
-          λ owners named.
-              with_instance_named k _ named (owners object (is_numbered object i may named)),
-        ))
-        (system_apart illegal_aid)
+    registers_apart object aid i may = grind (arith, either_apart, not, with_instance_named, is_numbered, system_apart)
 
     on_allowed_apart : (object : ℕ) (go : Installing → Work)
         → ((i : Installing) → May object i → IsApartWork (go i))
         → IsApartWork (on_allowed k (allowed s object k.installing) go)
-    on_allowed_apart object go each = by_option (allowed s object k.installing) refl
-      where
-        by_option : (o : Option Installing) → allowed s object k.installing ≡ o → IsApartWork (on_allowed k o go)
-        by_option None e = system_apart illegal_aid
-        by_option (Some i) e = each i (may_of object k.installing i refl e)
+    on_allowed_apart object go each = grind (arith, system_apart, may_of)
 
     applet_apart : (native : AppletNative) → IsApartWork (applet_work s k args native)
-    applet_apart applets.Register =
-        on_allowed_apart (argument args 0) _ (λ i may. registers_apart (argument args 0) _ i may)
-    applet_apart applets.RegisterBytes =
-        on_allowed_apart (argument args 0) _
-        (λ i may. either_apart (has_aid_length (extended (argument args 3))) _ _
-        (λ e. registers_apart (argument args 0) _ i may) (system_apart illegal_value))
-    applet_apart applets.Select = (tt, kept)
-    applet_apart applets.Deselect = (tt, kept)
-    applet_apart applets.Process = (tt, kept)
-    applet_apart applets.SelectingApplet = (tt, kept)
-    applet_apart applets.GetShareable = (tt, kept)
+    applet_apart native = grind (arith, on_allowed_apart, registers_apart, either_apart, system_apart, kept)
 
     asks_apart : (word : ℕ) (o : Option Instance) → IsApartWork (asks s k word o)
-    asks_apart word None = (tt, kept)
-    asks_apart word (Some i) = tt
+    asks_apart word o = grind (arith, kept)
 
     makes_apart : (elements : Elements) (size : ℕ) (event : Option ClearingEvent)
         → IsApartWork (makes s k elements size event)
-    makes_apart elements size None = system_apart illegal_value
-    makes_apart elements size (Some event) =
-        either_apart (may_make s event) _ _ (λ e. either_apart (is_count size) _ _ (λ f. tt) (tt, kept))
-        (system_apart illegal_transient)
+    makes_apart elements size event = grind (arith, system_apart, either_apart, kept)
 
     system_work_apart : (native : SystemNative) → IsApartWork (system_work s k args native)
-    system_work_apart system.GetAid = (tt, kept)
-    system_work_apart system.LookupAid = (tt, kept)
-    system_work_apart system.GetPreviousAid = (tt, kept)
-    system_work_apart system.AskForShareable = asks_apart (argument args 1) _
-    system_work_apart system.MakeBooleans = makes_apart _ (argument args 0) _
-    system_work_apart system.MakeBytes = makes_apart _ (argument args 0) _
-    system_work_apart system.MakeShorts = makes_apart _ (argument args 0) _
-    system_work_apart system.MakeReferences = makes_apart _ (argument args 0) _
+    system_work_apart native = grind (arith, kept, asks_apart, makes_apart)
 
     utility_apart : (native : UtilityNative) → AreTested args (utility_row native)
         → IsApartWork (utility_work s k args native)
@@ -323,10 +233,4 @@ module _ (Spared : By → ℕ → Type 0) (s : Seen) (k : Kept) where
     -- also where there is no room for an array
     pub roomy_apart : (objects cells : ℕ) {V : Type 0} (heap : Heap V) (work : Work) → IsApartWork work
         → IsApartWork (with_room objects cells heap k work)
-    roomy_apart objects cells heap (Does writes runtime ending) apart = apart
-    roomy_apart objects cells heap (Makes array) apart = by_room (has_room objects cells heap array.size)
-      where
-        by_room : (b : Bool) → IsApartWork (array_or_refusal b array k)
-        by_room true = tt
-        by_room false = system_apart no_transient_space
-    roomy_apart objects cells heap (Asks question) apart = tt
+    roomy_apart objects cells heap work h1 = grind (arith, system_apart)

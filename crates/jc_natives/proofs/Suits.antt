@@ -1,7 +1,6 @@
 -- What native members suit: the members of the API with their numbers, by what they take and give.
 use Rattle.std.specs.Prelude.{⊤}
-use Rattle.std.proofs.Common.{◌≡◌, ◌⊎◌, inl, inr, ℕ, zero, suc, Bool, true, false, List, [], ◌∷◌, slice_get, Some, refl}
-use Rattle.std.proofs.Common.{subst}
+use Rattle.std.proofs.Common.{◌≡◌, ◌⊎◌, ℕ, zero, suc, Bool, true, false, List, [], ◌∷◌, slice_get, Some, refl, arith}
 use Rattle.std.proofs.lemmas.Option.{none-some, same_Some}
 use Rattle.jc_api.specs.Member.{ApiMember, member_of, members}
 use Rattle.jc_api.specs.Numbered.{numbered}
@@ -129,179 +128,13 @@ gives_byte : Gives word (Value types.Byte)
 gives_byte = (types.Byte, refl, refl)
 
 all_suit : AllSuit natives members
-all_suit = (
-  refl,
-  (
-    gives_boolean,
-    (
-      refl,
-      (
-        refl,
-        (
-          refl,
-          (
-            refl,
-            (
-              refl,
-              (
-                refl,
-                (
-                  refl,
-                  (
-                    refl,
-                    (
-                      refl,
-                      (
-                        refl,
-                        (
-                          refl,
-                          (
-                            (refl, (inl refl, inl refl)),
-                            (
-                              gives_short,
-                              (
-                                (refl, (inr refl, inl refl)),
-                                (
-                                  (refl, (inl refl, inr (inl refl))),
-                                  (
-                                    (refl, inl refl),
-                                    (
-                                      (refl, (inl refl, inr (inr (inl refl)))),
-                                      (
-                                        (refl, inr (inl refl)),
-                                        (
-                                          (refl, (inl refl, inr (inr (inr refl)))),
-                                          (
-                                            (refl, inr (inr refl)),
-                                            (
-                                              (refl, (inl refl, refl)),
-                                              (
-                                                gives_boolean,
-                                                (
-                                                  (gives_byte, (inr refl, refl), refl),
-                                                  (
-                                                    refl,
-                                                    (
-                                                      gives_short,
-                                                      (
-                                                        gives_short,
-                                                        (
-                                                          refl,
-                                                          (
-                                                            refl,
-                                                            (
-                                                              refl,
-                                                              (
-                                                                refl,
-                                                                (
-                                                                  refl,
-                                                                  (
-                                                                    (refl, (inr refl, refl)),
-                                                                    (
-                                                                      (refl, (inr refl, refl)),
-                                                                      (
-                                                                        gives_boolean,
-                                                                        (
-                                                                          refl,
-                                                                          (
-                                                                            refl,
-                                                                            (
-                                                                              gives_boolean,
-                                                                              (
-                                                                                refl,
-                                                                                (
-                                                                                  refl,
-                                                                                  (
-                                                                                    refl,
-                                                                                    (
-                                                                                      refl,
-                                                                                      (
-                                                                                        (refl, refl),
-                                                                                        (
-                                                                                          refl,
-                                                                                          (
-                                                                                            refl,
-                                                                                            (
-                                                                                              refl,
-                                                                                              (
-                                                                                                refl,
-                                                                                                (
-                                                                                                  (gives_short, refl, refl, refl),
-                                                                                                  (
-                                                                                                    (gives_short, refl, refl, refl),
-                                                                                                    (
-                                                                                                      (gives_short, refl, refl),
-                                                                                                      (
-                                                                                                        gives_byte,
-                                                                                                        (
-                                                                                                          gives_short,
-                                                                                                          (
-                                                                                                            (gives_short, refl, refl),
-                                                                                                            (
-                                                                                                              gives_short,
-                                                                                                              tt,
-                                                                                                            ),
-                                                                                                          ),
-                                                                                                        ),
-                                                                                                      ),
-                                                                                                    ),
-                                                                                                  ),
-                                                                                                ),
-                                                                                              ),
-                                                                                            ),
-                                                                                          ),
-                                                                                        ),
-                                                                                      ),
-                                                                                    ),
-                                                                                  ),
-                                                                                ),
-                                                                              ),
-                                                                            ),
-                                                                          ),
-                                                                        ),
-                                                                      ),
-                                                                    ),
-                                                                  ),
-                                                                ),
-                                                              ),
-                                                            ),
-                                                          ),
-                                                        ),
-                                                      ),
-                                                    ),
-                                                  ),
-                                                ),
-                                              ),
-                                            ),
-                                          ),
-                                        ),
-                                      ),
-                                    ),
-                                  ),
-                                ),
-                              ),
-                            ),
-                          ),
-                        ),
-                      ),
-                    ),
-                  ),
-                ),
-              ),
-            ),
-          ),
-        ),
-      ),
-    ),
-  ),
-)
+all_suit = grind (arith, gives_boolean, gives_short, gives_byte)
 
 suit_at : (ns : List Native) (ms : List ApiMember) (i : ℕ) (n : Native) (m : ApiMember) → AllSuit ns ms
     → slice_get ns i ≡ Some n → slice_get ms i ≡ Some m → Suits n m
 suit_at [] ms i n m all e f = absurd (none-some n e)
 suit_at (x ∷ ns) [] i n m all e f = absurd all
-suit_at (x ∷ ns) (y ∷ ms) zero n m all e f =
-    subst (λ z. Suits n z) (same_Some y m f) (subst (λ z. Suits z y) (same_Some x n e) all.0)
+suit_at (x ∷ ns) (y ∷ ms) zero n m all e f = grind (arith, same_Some)
 suit_at (x ∷ ns) (y ∷ ms) (suc i) n m all e f = suit_at ns ms i n m all.1 e f
 
 pub suits : (number : ℕ) (n : Native) (m : ApiMember) → numbered natives number ≡ Some n → member_of number ≡ Some m

@@ -6,7 +6,7 @@ use Rattle.std.proofs.Common.{append_assoc, length-append}
 use Rattle.std.proofs.lemmas.List.{append-nil, length-map}
 use Rattle.std.proofs.lemmas.List.FromFn.{length-range_with_len}
 use Rattle.std.proofs.lemmas.Option.{same_Some}
-use Rattle.std.specs.List.{AllByRecursion, list_all, range_with_len}
+use Rattle.std.specs.List.{AllByRecursion, range_with_len}
 use Rattle.std.specs.Option.{option_map, option_map_or}
 use Rattle.jc_api.specs.Class as tables
 use Rattle.jc_api.specs.declared.class.ApiClass.{ApiClass}
@@ -41,11 +41,7 @@ blank_joined [] ys a b = b
 blank_joined (x ∷ xs) ys a b = (a.0, blank_joined xs ys a.1 b)
 
 joined : (xs ys : Fields) (m n : ℕ) → AreBlank xs m → AreBlank ys n → AreBlank (xs ++ ys) (n + m)
-joined xs ys m n a b =
-    let one = a.counted in
-    let two = b.counted in
-    let whole = length-append xs ys in
-    record { blank = blank_joined xs ys a.blank b.blank; counted = omega (arith, one, two, whole) }
+joined xs ys m n a b = grind (arith, length-append, blank_joined)
 
 blank_each : (f : ℕ → Option (DeclaredType ClassName)) → ((n : ℕ) → f n ≡ None) → (xs : List ℕ)
     → AllByRecursion (λ f. f ≡ None) (map f xs)
@@ -65,9 +61,6 @@ abbrev pub above_in : ℕ → ApiClass → ApiClass → Bool
 above_in zero d c = false
 above_in (suc n) d c = is_same_name (Api c) (Api d) || option_map_or (above_in n d) (tables.superclass_of c) false
 
-abbrev pub are_below : ApiClass → List ApiClass → Bool
-are_below d cs = list_all (λ c. above_in most_classes d c) cs
-
 module _ (world : List Shape) (there : (c : ApiClass) → StandsThere world c) where
   own_blank : (c : ApiClass) → AreBlank (own_fields world (Api c)) (tables.size_of c)
   own_blank c = record {
@@ -81,8 +74,7 @@ module _ (world : List Shape) (there : (c : ApiClass) → StandsThere world c) w
   blank_above : (n : ℕ) → ((c : ApiClass) → AreBlank (fields_within world n (Api c)) (cells_within n c))
       → (o : Option ApiClass)
       → AreBlank (option_map_or (fields_within world n) (option_map Api o) []) (option_map_or (cells_within n) o 0)
-  blank_above n each None = record { blank = tt; counted = refl }
-  blank_above n each (Some d) = each d
+  blank_above n h1 o = grind arith
 
   all_blank : (n : ℕ) (c : ApiClass) → AreBlank (fields_within world n (Api c)) (cells_within n c)
   all_blank zero c = record { blank = tt; counted = refl }
@@ -109,13 +101,10 @@ module _ (world : List Shape) (there : (c : ApiClass) → StandsThere world c) w
       by_super rest (Some e) = ap (λ b. is_same_name (Api c) (Api d) || b) (rest e)
 
   or_true : (a b : Bool) → b ≡ true → (a || b) ≡ true
-  or_true true b e = refl
-  or_true false b e = e
+  or_true a b h1 = grind arith
 
   pub below_is : (d c : ApiClass) → above_in most_classes d c ≡ true → is_class_below world (Api c) (Api d) ≡ true
-  below_is d c e =
-      or_true (is_same_name (Api api.Object) (Api d)) (is_at_or_above world most_classes (Api d) (Api c))
-      (above_is most_classes d c ∙ e)
+  below_is d c e = grind (arith, or_true, above_is)
 
   -- ---- classes below one of the API's begin with its cells
 
@@ -136,8 +125,7 @@ module _ (world : List Shape) (there : (c : ApiClass) → StandsThere world c) w
   }
 
   begins_with : (n : ℕ) (x c : ClassName) → IsHeir world c x → comes_to_end world n c ≡ true → BeginsWith n x c
-  begins_with n _ _ (itself c) ends =
-      record { left = n; ends = ends; rest = []; fields = sym (append-nil (fields_within world n c)) }
+  begins_with n _ _ (itself c) ends = grind (arith, append-nil)
   begins_with zero _ _ (behind c d x e h) ends = absurd cc
   begins_with (suc n) _ _ (behind c d x e h) ends =
       begins_on n x c d e
@@ -160,13 +148,11 @@ module _ (world : List Shape) (there : (c : ApiClass) → StandsThere world c) w
 
   -- AIDs have 17 cells, and exceptions with a reason one
   pub aid_cells : (n : ℕ) → comes_to_end world n (Api api.Aid) ≡ true → 17 ≤ cells_within n api.Aid
-  aid_cells zero e = absurd cc
-  aid_cells (suc n) e = omega arith
+  aid_cells n h1 = grind arith
 
   pub reason_cells : (n : ℕ) → comes_to_end world n (Api api.CardRuntimeException) ≡ true
       → 1 ≤ cells_within n api.CardRuntimeException
-  reason_cells zero e = absurd cc
-  reason_cells (suc n) e = omega arith
+  reason_cells n h1 = grind arith
 
   pub below_reason : (x : ApiClass) → tables.superclass_of x ≡ Some api.CardRuntimeException → (n : ℕ)
       → comes_to_end world n (Api x) ≡ true → 1 ≤ cells_within n x

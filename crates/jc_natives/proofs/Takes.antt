@@ -1,5 +1,5 @@
 -- The kinds of the arguments that native members take: words, arrays of bytes, references to objects of a class.
-use Rattle.std.proofs.Common.{◌≡◌, ℕ, zero, suc, Bool, true, false, cond, List, [], ◌∷◌, map, slice_get}
+use Rattle.std.proofs.Common.{◌≡◌, ℕ, zero, suc, true, cond, List, [], ◌∷◌, map, slice_get, arith}
 use Rattle.std.proofs.Common.{Some, refl, ap, subst}
 use Rattle.std.proofs.lemmas.Option.{none-some, same_Some}
 use Rattle.jc_api.specs.Member.{ApiMember, member_of, members}
@@ -11,7 +11,7 @@ use Rattle.jc_base.specs.declared.declared_type.DeclaredType.{DeclaredType}
 use Rattle.jc_base.specs.declared.declared_type.DeclaredType.TheVariants as types
 use Rattle.jc_cap_desc.specs.Shape.{Shape}
 use Rattle.jc_classes.specs.Api.{is_static}
-use Rattle.jc_machine.specs.Lookup.{are_of_instance, are_of_types, is_byte_array, is_object_of}
+use Rattle.jc_machine.specs.Lookup.{are_of_types, is_byte_array, is_object_of}
 use Rattle.jc_machine.specs.Lookup.{is_of_class, is_of_type, is_word, leads_to}
 use Rattle.jc_machine.specs.Reading.{Pointwise}
 use Rattle.jc_names.specs.declared.name.ClassName.{ClassName}
@@ -110,21 +110,14 @@ first_same : (x y : List Kind) (xs ys : List (List Kind)) → x ∷ xs ≡ y ∷
 first_same x y xs ys e = same_Some x y (ap (λ (l : List (List Kind)). slice_get l 0) e)
 
 rest_same : (x y : List Kind) (xs ys : List (List Kind)) → x ∷ xs ≡ y ∷ ys → xs ≡ ys
-rest_same x y xs ys e = ap rest e
-  where
-    rest : List (List Kind) → List (List Kind)
-    rest [] = []
-    rest (z ∷ zs) = zs
+rest_same x y xs ys e = grind arith
 
 takes_at : (ns : List Native) (ms : List ApiMember) (i : ℕ) (n : Native) (m : ApiMember)
     → all_take ns ms ≡ map kinds_of ms → slice_get ns i ≡ Some n → slice_get ms i ≡ Some m
     → takes n m.class ≡ kinds_of m
 takes_at [] ms i n m all e f = absurd (none-some n e)
 takes_at (x ∷ ns) [] i n m all e f = absurd (none-some m f)
-takes_at (x ∷ ns) (y ∷ ms) zero n m all e f =
-    subst (λ z. takes n z.class ≡ kinds_of z) (same_Some y m f)
-    (subst (λ z. takes z y.class ≡ kinds_of y) (same_Some x n e)
-    (first_same (takes x y.class) (kinds_of y) (all_take ns ms) (map kinds_of ms) all))
+takes_at (x ∷ ns) (y ∷ ms) zero n m all e f = grind (arith, same_Some, first_same)
 takes_at (x ∷ ns) (y ∷ ms) (suc i) n m all e f =
     takes_at ns ms i n m (rest_same (takes x y.class) (kinds_of y) (all_take ns ms) (map kinds_of ms) all) e f
 
@@ -148,14 +141,7 @@ module _ (world : List Shape) (heap : Heap TaggedValue) where
 
   kind_typed : (t : DeclaredType ApiClass) (v : TaggedValue) → is_of_type world heap (type_map counted_name t) v ≡ true
       → IsOfKind v (kind_of t)
-  kind_typed types.Boolean v e = e
-  kind_typed types.Byte v e = e
-  kind_typed types.Short v e = e
-  kind_typed (types.Reference c) v e = e
-  kind_typed types.BooleanArray v e = e
-  kind_typed types.ByteArray v e = e
-  kind_typed types.ShortArray v e = e
-  kind_typed (types.ReferenceArray c) v e = e
+  kind_typed t v h1 = grind arith
 
   kinds_typed : (ts : List (DeclaredType ApiClass)) (vs : List TaggedValue)
       → are_of_types world heap (map (type_map counted_name) ts) vs ≡ true → AreOfKinds vs (map kind_of ts)
@@ -169,24 +155,7 @@ module _ (world : List Shape) (heap : Heap TaggedValue) where
 
   -- the arguments of a call that begins are of the kinds that its member takes
   pub of_kinds : (m : ApiMember) (vs : List TaggedValue) → AreTyped world heap m vs → AreOfKinds vs (kinds_of m)
-  of_kinds m vs typed = by_kind (is_static m.kind) typed
-    where
-      of_instance : (us : List TaggedValue)
-          → are_of_instance world heap (Api m.class) (map (type_map counted_name) m.signature.parameters) us ≡ true
-          → AreOfKinds us (object (Api m.class) ∷ map kind_of m.signature.parameters)
-      of_instance [] e = absurd cc
-      of_instance (v ∷ us) e =
-          let b = both (is_object_of world heap (Api m.class) v)
-          (are_of_types world heap (map (type_map counted_name) m.signature.parameters) us) e in
-          (b.0, kinds_typed m.signature.parameters us b.1)
-
-      by_kind : (b : Bool)
-          → cond b (are_of_types world heap (map (type_map counted_name) m.signature.parameters) vs)
-          (are_of_instance world heap (Api m.class) (map (type_map counted_name) m.signature.parameters) vs) ≡ true
-          → AreOfKinds vs (cond b (map kind_of m.signature.parameters)
-          (object (Api m.class) ∷ map kind_of m.signature.parameters))
-      by_kind true e = kinds_typed m.signature.parameters vs e
-      by_kind false e = of_instance vs e
+  of_kinds m vs typed = grind (arith, both, kinds_typed)
 
   pub kind_at : (vs : List TaggedValue) (kinds : List Kind) (place : ℕ) (kind : Kind) → AreOfKinds vs kinds
       → slice_get kinds place ≡ Some kind → (v : TaggedValue) × (slice_get vs place ≡ Some v) × IsOfKind v kind

@@ -1,11 +1,10 @@
 -- What a member reads of objects that are typed: arrays of bytes, AIDs and exceptions with a reason hold words.
-use Rattle.std.proofs.Common.{◌≡◌, ℕ, zero, suc, ◌+◌, ◌<◌, ◌≤◌, ◌||◌, Bool, true, false, List, [], ◌∷◌, is_some}
+use Rattle.std.proofs.Common.{◌≡◌, ℕ, zero, suc, ◌+◌, ◌<◌, ◌≤◌, ◌||◌, true, false, List, [], ◌∷◌, is_some}
 use Rattle.std.proofs.Common.{slice_get, Option, Some, None, refl, sym, ap, subst, ◌∙◌, arith}
-use Rattle.std.proofs.Common.{cond, nat_lt}
 use Rattle.std.proofs.lemmas.Bool.{ltb-true}
 use Rattle.std.proofs.lemmas.Option.{none-some, same_Some}
 use Rattle.std.specs.List.{AllByRecursion}
-use Rattle.std.specs.Option.{option_and_then, option_map, option_map_or}
+use Rattle.std.specs.Option.{option_and_then, option_map}
 use Rattle.jc_api.specs.declared.class.ApiClass.{ApiClass}
 use Rattle.jc_api.specs.declared.class.ApiClass.TheVariants as api
 use Rattle.jc_base.specs.declared.declared_type.DeclaredType.{DeclaredType}
@@ -31,7 +30,7 @@ use Rattle.jc_store.specs.Heap.{Heap, Object, object_at}
 use Rattle.jc_store.specs.declared.kind.ObjectType.{ObjectType}
 use Rattle.jc_store.specs.declared.kind.ObjectType.TheVariants.{BooleanArray, ByteArray, Instance as OfClass}
 use Rattle.jc_store.specs.declared.kind.ObjectType.TheVariants.{ReferenceArray, ShortArray}
-use Rattle.jc_words.specs.Values.{Null, Ref, TaggedValue, Unset, Word}
+use Rattle.jc_words.specs.Values.{TaggedValue}
 
 -- ---- something is there
 
@@ -39,36 +38,25 @@ abbrev pub Has : {A : Type 0} → Option A → Type 0
 Has o = is_some o ≡ true
 
 has_none : {A : Type 0} (o : Option A) → o ≡ None → Has o → ⊥
-has_none o e h = unequal (sym (ap is_some e) ∙ h)
-  where
-    unequal : false ≡ true → ⊥
-    unequal g = cc
+has_none o e h = grind arith
 
 pub what_it_has : {A : Type 0} (o : Option A) (x : A) → Only o x → Has o → o ≡ Some x
-what_it_has o x (nothing e) h = absurd (has_none o e h)
-what_it_has o x (just e) h = e
+what_it_has o x h1 h2 = grind (arith, nothing, has_none, just)
 
 pub has_and_goes : {A B : Type 0} (go : A → Option B) (o : Option A) (x : A) → Only o x → Has o → Has (go x)
     → Has (option_and_then go o)
 has_and_goes go o x only h k = ap (λ p. is_some (option_and_then go p)) (what_it_has o x only h) ∙ k
 
 pub has_mapped : {A B : Type 0} (f : A → B) (o : Option A) → Has o → Has (option_map f o)
-has_mapped f None h = absurd cc
-has_mapped f (Some x) h = refl
+has_mapped f o h1 = grind arith
 
 -- ---- words in cells
 
 pub word_value : (v : TaggedValue) → is_word v ≡ true → Has (as_word v)
-word_value (Word n) e = refl
-word_value (Ref n) e = absurd cc
-word_value Null e = absurd cc
-word_value Unset e = absurd cc
+word_value v h1 = grind arith
 
 byte_value : (v : TaggedValue) → is_byte v ≡ true → Has (as_word v)
-byte_value (Word n) e = refl
-byte_value (Ref n) e = absurd cc
-byte_value Null e = absurd cc
-byte_value Unset e = absurd cc
+byte_value v h1 = grind arith
 
 -- a component that is there is a word
 abbrev pub IsWordAt : List TaggedValue → ℕ → Type 0
@@ -76,14 +64,7 @@ IsWordAt cells index = (v : TaggedValue) → slice_get cells index ≡ Some v �
 
 module _ (heap : Heap TaggedValue) (number : ℕ) (o : Object TaggedValue) (found : object_at heap number ≡ Some o) where
   pub word_there : (index : ℕ) → IsWordAt o.cells index → Has (word_at heap number index)
-  word_there index is =
-      ap (λ x. is_some (option_and_then
-      (λ (p : Object TaggedValue). option_map_or as_word (slice_get p.cells index) (Some 0)) x)) found
-      ∙ by_cell (slice_get o.cells index) refl
-    where
-      by_cell : (c : Option TaggedValue) → slice_get o.cells index ≡ c → Has (option_map_or as_word c (Some 0))
-      by_cell None e = refl
-      by_cell (Some v) e = is v e
+  word_there index is = grind arith
 
   pub words_there : (from count : ℕ) → ((i : ℕ) → from ≤ i → i < from + count → IsWordAt o.cells i)
       → Has (words_in heap number from count)
@@ -99,11 +80,7 @@ module _ (heap : Heap TaggedValue) (number : ℕ) (o : Object TaggedValue) (foun
   bytes_there from count are = has_mapped _ (words_in heap number from count) (words_there from count are)
 
 aid_short : (count : ℕ) → aid_length count ≤ 16
-aid_short count = by_test (nat_lt count 16) refl
-  where
-    by_test : (b : Bool) → nat_lt count 16 ≡ b → cond b count 16 ≤ 16
-    by_test true e = let f = ltb-true count 16 e in omega (arith, f)
-    by_test false e = omega arith
+aid_short count = grind (arith, ltb-true)
 
 -- ---- typed objects
 

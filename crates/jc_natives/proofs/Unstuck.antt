@@ -1,16 +1,13 @@
 -- Of a call that fits no member is stuck: so it answers what it answers on words without tags.
 use Rattle.std.specs.Prelude.{⊤}
-use Rattle.std.proofs.Common.{◌≡◌, ℕ, zero, suc, ◌==◌, ◌&&◌, Bool, true, false, cond, List, [], ◌∷◌}
-use Rattle.std.proofs.Common.{is_some, map, slice_get, Option, Some, None, refl, sym, ap, subst, ◌∙◌}
+use Rattle.std.proofs.Common.{◌≡◌, ℕ, zero, suc, ◌==◌, ◌&&◌, Bool, true, false, cond, List, [], ◌∷◌, arith}
+use Rattle.std.proofs.Common.{is_some, map, slice_get, Option, Some, refl, sym, ap, subst, ◌∙◌}
 use Rattle.std.proofs.lemmas.Bool.{eq-eqb}
 use Rattle.std.proofs.lemmas.Option.{none-some, same_Some}
 use Rattle.std.specs.List.{AllByRecursion, list_all}
 use Rattle.std.specs.Option.{option_and_then, option_map, option_map_or}
 use Rattle.jc_api.specs.declared.class.ApiClass.TheVariants as api
-use Rattle.jc_firewall.specs.Verdict.{verdict_of}
 use Rattle.jc_firewall.specs.declared.access.Verdict.{Verdict}
-use Rattle.jc_firewall.specs.declared.access.Verdict.TheVariants.{Allowed, AllowedSwitch, Denied}
-use Rattle.jc_machine.specs.Going.{facts_in}
 use Rattle.jc_machine.specs.Lookup.{is_of_class, leads_to}
 use Rattle.jc_names.specs.declared.name.ClassName.{ClassName}
 use Rattle.jc_names.specs.declared.name.ClassName.TheVariants.{Api}
@@ -27,9 +24,8 @@ use Rattle.jc_natives.proofs.TypedCells.{reason_word, word_there, word_value, wo
 use Rattle.jc_natives.specs.Cells.{bits}
 use Rattle.jc_natives.specs.Checks as checks
 use Rattle.jc_natives.specs.Checks.{CallsOtherAid, Check, Checked, HasRange, Passed, Refused, TestEnd, Unfit, Uses}
-use Rattle.jc_natives.specs.Checks.{UsesUnlessNull, access_of, are_aids, calls_other, goes_on, in_range}
-use Rattle.jc_natives.specs.Checks.{is_aid_at, is_aid_object, is_aid_value, is_in_range, is_range_in, judged, refused}
-use Rattle.jc_natives.specs.Checks.{test, tested, unfit, uses, uses_value}
+use Rattle.jc_natives.specs.Checks.{UsesUnlessNull, are_aids, calls_other, goes_on, in_range, is_aid_at, is_aid_value}
+use Rattle.jc_natives.specs.Checks.{is_in_range, is_range_in, judged, refused, test, tested, unfit, uses, uses_value}
 use Rattle.jc_natives.specs.PrivateCells.{aid_bytes, argument, bared, bytes_of, cell_of, words_of}
 use Rattle.jc_natives.specs.PrivateSeen.{Seen, arguments_of, seen_of}
 use Rattle.jc_natives.specs.Taking.{Called, as_reference, as_word, called, on_aid, on_bytes, on_component}
@@ -160,8 +156,7 @@ module _ (known : Known) (kinds : List Kind)
 
   found_by : (n : ℕ) (o : Option (Object TaggedValue)) → object_at heap n ≡ o → (p : Object TaggedValue → Bool)
       → option_map_or p o false ≡ true → There heap n
-  found_by n None e p f = absurd cc
-  found_by n (Some o) e p f = record { object = o; found = e }
+  found_by n o h1 p h2 = grind arith
 
   leading_value : (v : TaggedValue) (k : Kind) → is_leading k ≡ true → IsOfKind w.shapes heap v k → Leading heap v
   leading_value (Word n) word e is = absurd cc
@@ -195,8 +190,7 @@ module _ (known : Known) (kinds : List Kind)
       record { value = v.value; is = v.is; leads = leading_value v.value v.kind v.passes v.of_kind }
 
   leading_reference : (v : TaggedValue) → Leading heap v → Has (as_reference v)
-  leading_reference v (to_null e) = ap (λ x. is_some (as_reference x)) e
-  leading_reference v (to_object n o e found) = ap (λ x. is_some (as_reference x)) e
+  leading_reference v h1 = grind arith
 
   reference_has : (place : ℕ) → at kinds is_leading place ≡ true
       → Has (option_and_then as_reference (slice_get call.arguments place))
@@ -258,16 +252,7 @@ module _ (known : Known) (kinds : List Kind)
 
   -- an AID among the arguments leads to an object
   aid_leads : (place : ℕ) → at kinds is_aid_kind place ≡ true → at kinds is_leading place ≡ true
-  aid_leads place e =
-      let k = passed_some is_aid_kind (slice_get kinds place) e in
-      ap (λ x. option_map_or is_leading x false) k.1 ∙ by_kind k.0 k.2
-    where
-      by_kind : (k : Kind) → is_aid_kind k ≡ true → is_leading k ≡ true
-      by_kind word e = absurd cc
-      by_kind bytes e = absurd cc
-      by_kind (of c) e = absurd cc
-      by_kind (an_object c) e = refl
-      by_kind (other_array t) e = absurd cc
+  aid_leads place e = grind (arith, passed_some, word, bytes, an_object, other_array)
 
   -- where there is one, an object of a class
   pub of_leads : (c : ClassName) (place : ℕ) → slice_get kinds place ≡ Some (of c) → There heap (argument args place)
@@ -279,13 +264,7 @@ module _ (known : Known) (kinds : List Kind)
     where
       by_value : (v : TaggedValue) → leads_to heap (is_of_class w.shapes c) v ≡ true → There heap (bits v)
           → LeadsToClass w.shapes heap (bits v) c
-      by_value (Word n) is t = absurd cc
-      by_value (Ref n) is t =
-          let a = passed_some (λ (o : Object TaggedValue). is_of_class w.shapes c o.kind.object) (object_at heap n) is
-          in
-          record { object = a.0; found = a.1; below = a.2 }
-      by_value Null is t = absurd (none-some t.object t.found)
-      by_value Unset is t = absurd cc
+      by_value v h1 h2 = grind (arith, passed_some, none-some)
 
   -- ---- what a member goes on with is there
 
@@ -310,23 +289,15 @@ module _ (known : Known) (kinds : List Kind)
 
     pub has_words : (number : ℕ) → LeadsToBytes heap number → There heap number → (from count : ℕ)
         (go : List ℕ → Option A) → Has (go (words_of objs number from count)) → Has (on_words h number from count go)
-    has_words number leads t from count go k =
-        has_and_goes go _ _ (words_among heap number from count)
-        (words_there heap number t.object t.found from count
-        (λ i low high. byte_word known number leads t.object t.found i)) k
+    has_words number leads t from count go k = grind (arith, has_and_goes, words_among, words_there, byte_word)
 
     pub has_bytes : (number : ℕ) → LeadsToBytes heap number → There heap number → (from count : ℕ)
         (go : List ℕ → Option A) → Has (go (bytes_of objs number from count)) → Has (on_bytes h number from count go)
-    has_bytes number leads t from count go k =
-        has_and_goes go _ _ (bytes_among heap number from count)
-        (bytes_there heap number t.object t.found from count
-        (λ i low high. byte_word known number leads t.object t.found i)) k
+    has_bytes number leads t from count go k = grind (arith, has_and_goes, bytes_among, bytes_there, byte_word)
 
     pub has_component : (number : ℕ) → LeadsToBytes heap number → There heap number → (index : ℕ) (go : ℕ → Option A)
         → Has (go (cell_of objs number index)) → Has (on_component h number index go)
-    has_component number leads t index go k =
-        has_and_goes go _ _ (component_of heap number index)
-        (word_there heap number t.object t.found index (byte_word known number leads t.object t.found index)) k
+    has_component number leads t index go k = grind (arith, has_and_goes, component_of, word_there, byte_word)
 
     pub has_reason : (number : ℕ) → LeadsToClass w.shapes heap number (Api api.CardRuntimeException)
         → (go : ℕ → Option A) → Has (go (cell_of objs number 0)) → Has (on_component h number 0 go)
@@ -353,18 +324,11 @@ module _ (known : Known) (kinds : List Kind)
   -- ---- tests
 
   verdict_fit : (way : Way) (number : ℕ) (v : Verdict) → is_fit (checks.by_verdict h way number v).ends ≡ true
-  verdict_fit way number Allowed = refl
-  verdict_fit way number (AllowedSwitch owner) = refl
-  verdict_fit way number (Denied rule) = refl
+  verdict_fit way number v = grind arith
 
   value_fit : (way : Way) (null : Checked) → is_fit null.ends ≡ true → (v : TaggedValue) → Leading heap v
       → is_fit (uses_value h way null v).ends ≡ true
-  value_fit way null fits v (to_null e) = ap (λ x. is_fit (uses_value h way null x).ends) e ∙ fits
-  value_fit way null fits v (to_object n o e found) =
-      ap (λ x. is_fit (uses_value h way null x).ends) e
-      ∙ ap (λ x. is_fit (option_map_or (judged h way n) x unfit).ends) found
-      ∙ verdict_fit way n
-      (verdict_of (access_of way) call.active.context (facts_in w.shapes call.selected o None false))
+  value_fit way null h1 v h2 = grind (arith, verdict_fit)
 
   uses_fit : (place : ℕ) (way : Way) (null : Checked) → is_fit null.ends ≡ true → at kinds is_leading place ≡ true
       → is_fit (uses h place way null).ends ≡ true
@@ -374,9 +338,7 @@ module _ (known : Known) (kinds : List Kind)
       ∙ value_fit way null fits v.value v.leads
 
   aid_value_has : (v : TaggedValue) → Leading heap v → Has (is_aid_value h v)
-  aid_value_has v (to_null e) = ap (λ x. is_some (is_aid_value h x)) e
-  aid_value_has v (to_object n o e found) =
-      ap (λ x. is_some (is_aid_value h x)) e ∙ ap (λ x. is_some (option_map (is_aid_object h) x)) found
+  aid_value_has v h1 = grind arith
 
   aid_has : (place : ℕ) → at kinds is_leading place ≡ true → Has (is_aid_at h place)
   aid_has place e =
@@ -390,22 +352,19 @@ module _ (known : Known) (kinds : List Kind)
 
   some_fit : (f : Bool → Checked) → ((b : Bool) → is_fit (f b).ends ≡ true) → (o : Option Bool) → Has o
       → is_fit (option_map_or f o unfit).ends ≡ true
-  some_fit f each None e = absurd cc
-  some_fit f each (Some b) e = each b
+  some_fit f h1 o h2 = grind arith
 
   other_fit : at kinds is_leading 1 ≡ true → (b : Bool) → is_fit (calls_other h b).ends ≡ true
   other_fit e true = uses_fit 1 Calls (refused 6) refl e
   other_fit e false = refl
 
   range_fit : (b : Bool) → is_fit (in_range b).ends ≡ true
-  range_fit true = refl
-  range_fit false = refl
+  range_fit b = grind arith
 
   within_has : (place offset : ℕ) (count : Length) → at kinds is_word_kind offset ≡ true
       → length_fits kinds count ≡ true → There heap (argument args place)
       → Has (is_range_in h (argument args place) offset count)
-  within_has place offset count e f t =
-      has_object (argument args place) t _ (has_word offset e _ (has_length count f _ (λ n. refl)))
+  within_has place offset count e f t = grind (arith, has_object, has_word, has_length)
 
   range_has : (place offset : ℕ) (count : Length) → at kinds is_leading place ≡ true
       → at kinds is_word_kind offset ≡ true → length_fits kinds count ≡ true
@@ -455,17 +414,11 @@ module _ (known : Known) (kinds : List Kind)
     where
       by_object : (n : ℕ) (o : Option (Object TaggedValue)) → object_at heap n ≡ o
           → (option_map_or (judged h way n) o unfit).ends ≡ Passed → There heap n
-      by_object n None f g = absurd cc
-      by_object n (Some o) f g = record { object = o; found = f }
+      by_object n o h1 h2 = grind arith
 
       by_value : (v : Option TaggedValue) → slice_get call.arguments place ≡ v
           → (option_map_or (uses_value h way (refused 6)) v unfit).ends ≡ Passed → There heap (argument args place)
-      by_value None f g = absurd cc
-      by_value (Some (Word n)) f g = absurd cc
-      by_value (Some (Ref n)) f g =
-          subst (There heap) (sym (argument_is call.arguments place (Ref n) f)) (by_object n (object_at heap n) refl g)
-      by_value (Some Null) f g = absurd cc
-      by_value (Some Unset) f g = absurd cc
+      by_value v h1 h2 = grind (arith, argument_is, by_object)
 
   test_shows : (one : Check) → (test h one).ends ≡ Passed → IsShown one
   test_shows (Uses place way) e = uses_show place way e

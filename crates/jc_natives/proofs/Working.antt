@@ -1,8 +1,8 @@
 -- What a member does on tagged values it does on words without tags, or it is stuck.
-use Rattle.std.proofs.Common.{◌≡◌, ℕ, ◌+◌, ◌==◌, ◌&&◌, ◌||◌, Bool, true, false, cond, List, [], ◌∷◌, ◌++◌, bytes_eq}
-use Rattle.std.proofs.Common.{length, nat_le, nat_lt, Option, Some, None, refl, sym, ap, subst, ◌∙◌, arith}
+use Rattle.std.proofs.Common.{◌≡◌, ℕ, ◌+◌, ◌==◌, ◌&&◌, ◌||◌, Bool, true, false, cond, List, [], ◌∷◌, bytes_eq}
+use Rattle.std.proofs.Common.{length, nat_le, Option, Some, refl, sym, ap, subst, ◌∙◌, arith}
 use Rattle.std.proofs.lemmas.Bool.{eq-eqb, ltb-true}
-use Rattle.std.specs.Option.{option_and_then, option_map, option_map_or}
+use Rattle.std.specs.Option.{option_and_then}
 use Rattle.jc_firewall.specs.Verdict.{runtime}
 use Rattle.jc_link.specs.Linked.{World}
 use Rattle.jc_machine.specs.Machine.{NativeCall}
@@ -16,8 +16,7 @@ use Rattle.jc_natives.proofs.Ranges.{bytes_differ, length_of_bytes}
 use Rattle.jc_natives.specs.Cells as cells
 use Rattle.jc_natives.specs.Cells.{bit, extended, is_within}
 use Rattle.jc_natives.specs.Checks.{are_aids}
-use Rattle.jc_natives.specs.Kept.{Kept, has_aid_length, is_fresh, is_incoming, is_length_set}
-use Rattle.jc_natives.specs.Kept.{is_outgoing, most_sent, with_sent}
+use Rattle.jc_natives.specs.Kept.{Kept, has_aid_length, is_fresh, is_incoming, is_length_set, is_outgoing, most_sent}
 use Rattle.jc_natives.specs.Members as members
 use Rattle.jc_natives.specs.Members.{allowed, ends_with, in_buffer, keeps_aid, makes_array, member_of_native}
 use Rattle.jc_natives.specs.Members.{on_allowed, on_installing, sends, sends_at_once, sets_reason}
@@ -26,7 +25,7 @@ use Rattle.jc_natives.specs.PrivateApdus.{apdu_work, is_in_buffer, unless_apdu}
 use Rattle.jc_natives.specs.PrivateApdus as apdu
 use Rattle.jc_natives.specs.PrivateApplets as applet
 use Rattle.jc_natives.specs.PrivateApplets.{applet_work, owner_of}
-use Rattle.jc_natives.specs.PrivateCells.{aid_bytes, aid_count, argument, bare, bared, bytes_of, cell_of}
+use Rattle.jc_natives.specs.PrivateCells.{aid_bytes, aid_count, argument, bared, bytes_of, cell_of}
 use Rattle.jc_natives.specs.PrivateMeaning.{work_of}
 use Rattle.jc_natives.specs.PrivateObjects.{equals, have_same_aid, object_work}
 use Rattle.jc_natives.specs.PrivateRows.{row_of}
@@ -60,64 +59,17 @@ use Rattle.jc_words.specs.Values.{TaggedValue}
 -- ---- each member tests what its row says
 
 pub same_tests : (native : Native) → checks_of (row_of native) ≡ (member_of_native native).tests
-same_tests (OfObject objects.Construct) = refl
-same_tests (OfObject objects.Equals) = refl
-same_tests (OfObject objects.ConstructWithReason) = refl
-same_tests (OfObject objects.GetReason) = refl
-same_tests (OfObject objects.SetReason) = refl
-same_tests (OfObject (objects.ThrowIt object)) = refl
-same_tests (OfAid aids.Construct) = refl
-same_tests (OfAid aids.Equals) = refl
-same_tests (OfAid aids.GetBytes) = refl
-same_tests (OfApdu apdus.GetBuffer) = refl
-same_tests (OfApdu apdus.SetIncomingAndReceive) = refl
-same_tests (OfApdu apdus.SetOutgoing) = refl
-same_tests (OfApdu apdus.SetOutgoingLength) = refl
-same_tests (OfApdu apdus.SendBytes) = refl
-same_tests (OfApdu apdus.SendBytesLong) = refl
-same_tests (OfApdu apdus.SetOutgoingAndSend) = refl
-same_tests (OfApplet applets.Register) = refl
-same_tests (OfApplet applets.RegisterBytes) = refl
-same_tests (OfApplet applets.Select) = refl
-same_tests (OfApplet applets.Deselect) = refl
-same_tests (OfApplet applets.Process) = refl
-same_tests (OfApplet applets.SelectingApplet) = refl
-same_tests (OfApplet applets.GetShareable) = refl
-same_tests (OfSystem system.GetAid) = refl
-same_tests (OfSystem system.LookupAid) = refl
-same_tests (OfSystem system.GetPreviousAid) = refl
-same_tests (OfSystem system.AskForShareable) = refl
-same_tests (OfSystem system.MakeBooleans) = refl
-same_tests (OfSystem system.MakeBytes) = refl
-same_tests (OfSystem system.MakeShorts) = refl
-same_tests (OfSystem system.MakeReferences) = refl
-same_tests (OfUtility utilities.ArrayCopy) = refl
-same_tests (OfUtility utilities.ArrayFill) = refl
-same_tests (OfUtility utilities.ArrayCompare) = refl
-same_tests (OfUtility utilities.GetShort) = refl
-same_tests (OfUtility utilities.SetShort) = refl
-same_tests (OfUtility utilities.MakeShort) = refl
+same_tests native = grind arith
 
 -- ---- bytes of AIDs
 
 -- lists of the same bytes are of the same length
 counted_first : (m n : ℕ) (xs ys : List ℕ) → length xs ≡ m → length ys ≡ n → (m == n && bytes_eq xs ys) ≡ bytes_eq xs ys
-counted_first m n xs ys e f = by_count (m == n) refl
-  where
-    by_count : (b : Bool) → (m == n) ≡ b → (b && bytes_eq xs ys) ≡ bytes_eq xs ys
-    by_count true g = refl
-    by_count false g = sym (bytes_differ xs ys (λ same. unequal (sym g ∙ eq-eqb m n (sym e ∙ same ∙ f))))
-      where
-        unequal : false ≡ true → ⊥
-        unequal i = cc
+counted_first m n xs ys e f = grind (arith, bytes_eq, bytes_differ, eq-eqb)
 
 -- 16 at most
 few : (count : ℕ) → cells.word (aid_length count) ≡ aid_length count
-few count = by_test (nat_lt count 16) refl
-  where
-    by_test : (b : Bool) → nat_lt count 16 ≡ b → cells.word (cond b count 16) ≡ cond b count 16
-    by_test true e = let f = ltb-true count 16 e in omega (arith, f)
-    by_test false e = refl
+few count = grind (arith, ltb-true)
 
 module _ (w : World) (call : NativeCall Kept) where
   abbrev h : Called
@@ -189,12 +141,7 @@ module _ (w : World) (call : NativeCall Kept) where
 
   aid_kept : (aid array offset count : ℕ)
       → Only (keeps_aid h aid (bytes_of o array offset count)) (constructs s k aid array offset count)
-  aid_kept aid array offset count =
-      subst (λ n. Only (keeps_aid h aid (bytes_of o array offset count))
-      (unless_system k illegal_value (has_aid_length n)
-      (writes_to k aid 0 (n ∷ bytes_of o array offset count) NoResult)))
-      (length_of_bytes o array offset count)
-      (either (has_aid_length (length (bytes_of o array offset count))) _ _ _ _ (just refl) (just refl))
+  aid_kept aid array offset count = grind (arith, length_of_bytes, either, just)
 
   aid_does : (native : AidNative) → Only ((members.aid_member native).does h) (aid_work s k args native)
   aid_does aids.Construct =
@@ -240,13 +187,7 @@ module _ (w : World) (call : NativeCall Kept) where
 
   sends_so : (array offset count : ℕ)
       → Only (sends h (bytes_of o array offset count)) (apdu.sends s k array offset count)
-  sends_so array offset count =
-      subst (λ n. Only (sends h (bytes_of o array offset count))
-      (unless_apdu k 1 (nat_le (length k.sent + n) k.announced)
-      (gives (with_sent k (k.sent ++ bytes_of o array offset count)) NoResult)))
-      (length_of_bytes o array offset count)
-      (either (nat_le (length k.sent + length (bytes_of o array offset count)) k.announced) _ _ _ _ (just refl)
-      (just refl))
+  sends_so array offset count = grind (arith, nat_le, length_of_bytes, either, just)
 
   apdu_does : (native : ApduNative) → Only ((members.apdu_member native).does h) (apdu_work s k args native)
   apdu_does apdus.GetBuffer = just refl
@@ -272,13 +213,11 @@ module _ (w : World) (call : NativeCall Kept) where
 
   owner_is : (number : ℕ) (object : Object TaggedValue) → object_at heap number ≡ Some object
       → owner_of o number ≡ object.owner
-  owner_is number object e =
-      ap (λ x. option_map_or (λ (p : Object ℕ). p.owner) x runtime) (bare_object heap number ∙ ap (option_map bare) e)
+  owner_is number object e = grind (arith, bare_object)
 
   installing_so : (x : Option Installing) (go : Installing → Option Work) (work : Installing → Work)
       → ((i : Installing) → Only (go i) (work i)) → Only (on_installing h x go) (applet.on_allowed k x work)
-  installing_so None go work p = just refl
-  installing_so (Some i) go work p = p i
+  installing_so x go work h1 = grind (arith, just)
 
   allowed_so : (go : ℕ → Owner → Installing → Option Work) (work : Owner → Installing → Work)
       → ((owner : Owner) (i : Installing) → Only (go (argument args 0) owner i) (work owner i))
@@ -295,12 +234,7 @@ module _ (w : World) (call : NativeCall Kept) where
       → Only (members.registers_under h (argument args 0) owner i (bytes_of o array offset count))
       (unless_system k illegal_value (has_aid_length count)
       (members.registers k i.owner.instance (argument args 0) owner (bytes_of o array offset count)))
-  registers_so i owner array offset count =
-      subst (λ n. Only (members.registers_under h (argument args 0) owner i (bytes_of o array offset count))
-      (unless_system k illegal_value (has_aid_length n)
-      (members.registers k i.owner.instance (argument args 0) owner (bytes_of o array offset count))))
-      (length_of_bytes o array offset count)
-      (either (has_aid_length (length (bytes_of o array offset count))) _ _ _ _ (just refl) (just refl))
+  registers_so i owner array offset count = grind (arith, length_of_bytes, either, just)
 
   applet_does : (native : AppletNative) → Only ((members.applet_member native).does h) (applet_work s k args native)
   applet_does applets.Register =

@@ -1,8 +1,8 @@
 -- Commands on the card, as the defensive machine does them.
-use Rattle.std.proofs.Common.{◌≡◌, ℕ, true, List, Option, Some, None, Result, Ok, Err, refl, ap}
+use Rattle.std.proofs.Common.{◌≡◌, ℕ, true, List, Option, Some, None, Result, Ok, Err, refl, arith}
 use Rattle.jc_card.specs.Card.{CardState}
 use Rattle.jc_card.specs.Commands.{Response, apdu_command}
-use Rattle.jc_card.specs.Install.{HasNumber, Installed as Outcome, Refused, install_command}
+use Rattle.jc_card.specs.Install.{Installed as Outcome, install_command}
 use Rattle.jc_card.specs.Parts.{Left}
 use Rattle.jc_card.specs.Reads.{CardWords, Holds, IsDone, ReadsInstalled, ReadsResponse}
 use Rattle.jc_card.specs.declared.answer.Answer.{Answer}
@@ -17,8 +17,7 @@ use Rattle.jc_script.specs.Script.{Apdu, Install, Load, ScriptCommand}
 -- what is read of what a command gives
 pub also : {A : Type 0} (done : Option (Left A)) (after : CardWords) (reads says : A → Type 0)
     → ((v : A) → reads v → says v) → IsDone after reads done → IsDone after says done
-also None after reads says f h = h
-also (Some l) after reads says f h = (h.0, f l.value h.1)
+also done after reads says h1 h2 = grind arith
 
 -- a command that isn't stuck
 record Gives {A : Type 0} (done : Option (Left A)) (after : CardWords) (reads : A → Type 0) : Type 0 where
@@ -40,10 +39,7 @@ said_of (Err fault) = NotInstalled fault
 
 pub says_install : (result : Result ℕ InstallFault) (outcome : Outcome) → ReadsInstalled result outcome
     → said_of result ≡ install_answer outcome
-says_install (Ok number) (HasNumber taken) e = ap Installed e
-says_install (Ok number) (Refused fault) h = elim h [ ]
-says_install (Err why) (HasNumber taken) h = elim h [ ]
-says_install (Err why) (Refused fault) e = ap NotInstalled e
+says_install result outcome h1 = grind arith
 
 pub install_done : (images certificates : List ℕ → List ℕ → Type 0) (c : CardState) (command : ScriptCommand)
     (applet instance incoming : List ℕ) (answer : Answered) (after : CardWords)
@@ -62,8 +58,7 @@ install_done images certificates c command applet instance incoming answer after
 
 pub says_response : (answer : Answer) (response : Response) → ReadsResponse answer response
     → Responds (shown_response answer) ≡ Responds response
-says_response answer response h =
-    λ i. Responds (record { sent = h.sent i; status = h.status i; cause = h.cause i })
+says_response answer response h = grind arith
 
 pub apdu_done : (images certificates : List ℕ → List ℕ → Type 0) (c : CardState) (command : ScriptCommand)
     (bytes : List ℕ) (answer : Answered) (after : CardWords) → command ≡ Apdu bytes

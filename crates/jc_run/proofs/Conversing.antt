@@ -1,7 +1,7 @@
 -- A session, line by line.
-use Rattle.std.proofs.Common.{◌≡◌, ◌≤◌, ℕ, List, [], ◌∷◌, ◌++◌, length}
-use Rattle.std.proofs.Common.{Option, Some, None, Result, IfErr, false, nat_lt, refl, sym}
-use Rattle.std.proofs.Common.{ap, ◌∙◌, append_assoc, rules, subst}
+use Rattle.std.proofs.Common.{◌≡◌, ◌≤◌, ℕ, List, [], ◌∷◌, ◌++◌, length, arith}
+use Rattle.std.proofs.Common.{Option, Some, Result, IfErr, false, nat_lt, refl}
+use Rattle.std.proofs.Common.{◌∙◌, append_assoc, rules, subst}
 use Rattle.std.proofs.lemmas.Result.{err_from_is_err_and}
 use Rattle.std.specs.Io.KnownBytes.{Appends}
 use Rattle.std.specs.Prelude.{IsErrAnd}
@@ -23,19 +23,14 @@ use Rattle.jc_run.specs.PrivateSession.IsDoneOrRefused.{left_out, played}
 use Rattle.jc_run.specs.Session.{MayRefuse}
 use Rattle.jc_script.specs.Reading.{SkipsLine, TakesShortLine, TellsInSession}
 use Rattle.jc_script.specs.declared.reader.NextLine.TheVariants as next
-use Rattle.jc_script.specs.Script.{Apdu, Asks, Bad, Cells, Install, Load, Objects, Reset, ScriptCommand, ScriptLine}
+use Rattle.jc_script.specs.Script.{Asks, Bad, ScriptCommand, ScriptLine}
 use Rattle.jc_script.specs.Script.{Skipped, lines_of, most_in_line, said_in_session, session_line}
 
 -- ---- a line
 
 -- what asks the source may be refused
 pub asking : (command : ScriptCommand) → AsksSource command → MayRefuse (Asks command)
-asking (Load folder certificate) asks = tt
-asking (Install applet instance incoming) asks = elim asks [ ]
-asking (Apdu bytes) asks = elim asks [ ]
-asking Reset asks = elim asks [ ]
-asking Cells asks = elim asks [ ]
-asking Objects asks = elim asks [ ]
+asking command h1 = grind arith
 
 module _ (images certificates : List ℕ → List ℕ → Type 0) (c : CardState) where
   pub line_refused : (said : ScriptLine) (after : CardWords) (before : List ℕ) (now : Option (List ℕ))
@@ -46,8 +41,7 @@ module _ (images certificates : List ℕ → List ℕ → Type 0) (c : CardState
 
   pub bad_refused : (said : ScriptLine) (after : CardWords) (before : List ℕ) (now : Option (List ℕ)) → Bad ≡ said
       → Holds after c → now ≡ Some before → IsLineHeld images certificates c said after before now
-  bad_refused said after before now bad h is =
-      line_refused said after before now (subst MayRefuse bad tt) h is
+  bad_refused said after before now bad h is = grind (arith, line_refused)
 
   pub nothing_said : (said : ScriptLine) (after : CardWords) (before : List ℕ) (now : Option (List ℕ))
       → Skipped ≡ said → Holds after c → now ≡ Some before → IsLineHeld images certificates c said after before now
@@ -78,16 +72,7 @@ module _ (images certificates : List ℕ → List ℕ → Type 0) (c : CardState
   unwritten_by is before now known bad_line = absurd cc
   unwritten_by is before now known (source folder certificate failing) = absurd cc
   unwritten_by is before now known (memory folder certificate) = absurd cc
-  unwritten_by is before now known (cut_short command written answer after answered part) = record {
-    written = written;
-    command = command;
-    is = refl;
-    answer = answer;
-    card = after;
-    answered = answered;
-    part = part;
-    now_is = known;
-  }
+  unwritten_by is before now known (cut_short command written answer after answered part) = search arith
 
   pub command_not_written : (command : ScriptCommand) (answer : Answered) (after : CardWords)
       (old now : Option (List ℕ)) (before : List ℕ) → Answers images certificates c command answer after
@@ -101,9 +86,7 @@ module _ (images certificates : List ℕ → List ℕ → Type 0) (c : CardState
 
 pub told_end : (line : List ℕ) (old new : Option (List ℕ)) (bytes : List ℕ) → old ≡ Some bytes
     → TellsInSession line old new next.End → lines_of bytes ≡ []
-told_end line None new bytes is t = absurd cc
-told_end line (Some b) None bytes is t = elim t [ ]
-told_end line (Some b) (Some r) bytes is t = let same : b ≡ bytes = cc in rw (← same) t
+told_end line old new bytes h1 h2 = grind arith
 
 pub record IsLineOff (line bytes : List ℕ) (new : Option (List ℕ)) : Type 0 where
   pub rest : List ℕ
@@ -112,10 +95,7 @@ pub record IsLineOff (line bytes : List ℕ) (new : Option (List ℕ)) : Type 0 
 
 pub told_line : (line : List ℕ) (old new : Option (List ℕ)) (bytes : List ℕ) → old ≡ Some bytes
     → TellsInSession line old new next.Line → IsLineOff line bytes new
-told_line line None new bytes is t = absurd cc
-told_line line (Some b) None bytes is t = elim t [ ]
-told_line line (Some b) (Some r) bytes is t =
-    let same : b ≡ bytes = cc in record { rest = r; is = refl; takes = rw (← same) t }
+told_line line old new bytes h1 h2 = grind arith
 
 pub record IsLineLeftOut (bytes : List ℕ) (new : Option (List ℕ)) : Type 0 where
   pub rest : List ℕ
@@ -124,10 +104,7 @@ pub record IsLineLeftOut (bytes : List ℕ) (new : Option (List ℕ)) : Type 0 w
 
 pub told_bad : (line : List ℕ) (old new : Option (List ℕ)) (bytes : List ℕ) → old ≡ Some bytes
     → TellsInSession line old new next.Bad → IsLineLeftOut bytes new
-told_bad line None new bytes is t = absurd cc
-told_bad line (Some b) None bytes is t = elim t [ ]
-told_bad line (Some b) (Some r) bytes is t =
-    let same : b ≡ bytes = cc in record { rest = r; is = refl; skips = rw (← same) t }
+told_bad line old new bytes h1 h2 = grind arith
 
 -- ---- a turn
 
@@ -142,25 +119,12 @@ module _ (images certificates : List ℕ → List ℕ → Type 0) (c : CardState
       (now : Option (List ℕ)) → left ≡ Some rest → TakesShortLine line bytes rest
       → IsLineHeld images certificates c (said_in_session line) after before now
       → IsSessionTurn images certificates bytes c after left before now
-  turn_done line rest after left before now is t h = record {
-    first = line;
-    rest = rest;
-    left_is = is;
-    lines = t.lines;
-    done = rw (short_line line t.short) h;
-  }
+  turn_done line rest after left before now is t h = grind (arith, short_line)
 
   pub turn_skipped : (rest : List ℕ) (after : CardWords) (left : Option (List ℕ)) (before : List ℕ)
       (now : Option (List ℕ)) → left ≡ Some rest → SkipsLine bytes rest → Holds after c → now ≡ Some before
       → IsSessionTurn images certificates bytes c after left before now
-  turn_skipped rest after left before now is s h known = record {
-    first = s.first;
-    rest = rest;
-    left_is = is;
-    lines = s.lines;
-    done = line_refused images certificates c (session_line s.first) after before now
-        (subst MayRefuse (sym s.bad) tt) h known;
-  }
+  turn_skipped rest after left before now is s h known = grind (arith, line_refused)
 
   pub none_left : (before : List ℕ) (now : Option (List ℕ)) → lines_of bytes ≡ [] → now ≡ Some before
       → ConversesFrom images certificates bytes c before now Over
@@ -190,9 +154,7 @@ module _ (images certificates : List ℕ → List ℕ → Type 0) (c : CardState
 
 pub handed_on : {A E : Type 0} (result : Result A E) (error : E) (P : E → Type 0)
     → IsErrAnd result (λ told. told ≡ error) → P error → IfErr result P
-handed_on result error P is p =
-    let told = err_from_is_err_and result is in
-    rw (told.1, told.2) p
+handed_on result error P is p = grind (arith, err_from_is_err_and)
 
 -- ---- lines that are done
 
@@ -208,42 +170,19 @@ one_line images certificates c after first rest written behind end (left_out may
 module _ (images certificates : List ℕ → List ℕ → Type 0) (c : CardState) (input before : List ℕ) where
   pub begun : (after : CardWords) (left now : Option (List ℕ)) → Holds after c → left ≡ Some input
       → now ≡ Some before → HasConversed images certificates c input before after left now
-  begun after left now holds is known = record {
-    card = c;
-    holds = holds;
-    rest = input;
-    left_is = is;
-    written = [];
-    now_is = none_more known;
-    leads = λ behind end p. p;
-  }
+  begun after left now holds is known = grind (arith, none_more)
 
   pub one_more : {card after : CardWords} {left rest now further : Option (List ℕ)}
       → (h : HasConversed images certificates c input before card left now)
       → IsSessionTurn images certificates h.rest h.card after rest (before ++ h.written) further
       → HasConversed images certificates c input before after rest further
-  one_more h t = record {
-    card = t.done.card;
-    holds = t.done.holds;
-    rest = t.rest;
-    left_is = t.left_is;
-    written = h.written ++ t.done.written;
-    now_is = t.done.now_is ∙ ap (λ (bs : List ℕ). Some bs) (append_assoc before h.written t.done.written);
-    leads = λ behind end p.
-        rw (append_assoc h.written t.done.written behind) (h.leads (t.done.written ++ behind) end
-        (rw t.lines (one_line images certificates h.card t.done.card t.first t.rest t.done.written behind end
-        t.done.done p)));
-  }
+  one_more h t = grind (arith, append_assoc, one_line)
 
   pub at_end : {card : CardWords} {left now last : Option (List ℕ)} {end : ScriptEnd}
       → (h : HasConversed images certificates c input before card left now)
       → ConversesFrom images certificates h.rest h.card (before ++ h.written) last end
       → ConversesFrom images certificates input c before last end
-  at_end {end = end} h p = record {
-    written = h.written ++ p.written;
-    converses = h.leads p.written end p.converses;
-    now_is = p.now_is ∙ ap (λ (bs : List ℕ). Some bs) (append_assoc before h.written p.written);
-  }
+  at_end h h1 = grind (arith, append_assoc)
 
 -- ---- what a source holds that holds the same
 
@@ -275,16 +214,4 @@ module _ (images certificates older old : List ℕ → List ℕ → Type 0) (sam
   pub turn_as : {bytes : List ℕ} {c : CardState} {after : CardWords} {left : Option (List ℕ)} {before : List ℕ}
       {now : Option (List ℕ)} → IsSessionTurn images certificates bytes c after left before now
       → IsSessionTurn older old bytes c after left before now
-  turn_as t = record {
-    first = t.first;
-    rest = t.rest;
-    left_is = t.left_is;
-    lines = t.lines;
-    done = record {
-      card = t.done.card;
-      written = t.done.written;
-      done = done_as t.done.done;
-      holds = t.done.holds;
-      now_is = t.done.now_is;
-    };
-  }
+  turn_as t = grind (arith, done_as)

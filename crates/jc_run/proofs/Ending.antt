@@ -1,5 +1,5 @@
 -- Lines that end a script, and commands that are done.
-use Rattle.std.proofs.Common.{◌≡◌, ◌≤◌, ℕ, List, [], ◌++◌, length, Option, Some, None, Result, IfErr, false, nat_lt}
+use Rattle.std.proofs.Common.{◌≡◌, ◌≤◌, ℕ, List, [], ◌++◌, length, Option, Some, Result, IfErr, false, nat_lt, arith}
 use Rattle.std.proofs.Common.{refl, sym, ap, ◌∙◌, append-nil, rules}
 use Rattle.std.proofs.lemmas.Result.{err_from_is_err_and}
 use Rattle.std.specs.Io.KnownBytes.{Appends}
@@ -9,7 +9,7 @@ use Rattle.jc_card.specs.Reads.{CardWords}
 use Rattle.jc_source.specs.Source.{Asked}
 use Rattle.jc_run.specs.Answer.{Answered}
 use Rattle.jc_run.specs.Performs.{Answers, AsksSource, IsFailingOf}
-use Rattle.jc_run.specs.Play.{BadLimits, BadLine, IsPart, NoMemory, NotRead, NotWritten, Over, ScriptEnd}
+use Rattle.jc_run.specs.Play.{BadLine, IsPart, NoMemory, NotRead, NotWritten, Over, ScriptEnd}
 use Rattle.jc_run.specs.Play.{SourceFailed, answer_line}
 use Rattle.jc_run.specs.PrivatePlay.{AppendsPart, IsEnd, IsLineDone, IsLineEnd, IsTaken, IsUnread, PlaysFrom}
 use Rattle.jc_run.specs.PrivatePlay.EndsAt.{bad, memory, source, unwritten}
@@ -25,8 +25,7 @@ none_more {before = before} is = is ∙ ap (λ (bs : List ℕ). Some bs) (sym (a
 
 grown_known : (before : List ℕ) (now : Option (List ℕ)) (bytes : List ℕ) → Appends (Some before) now bytes
     → now ≡ Some (before ++ bytes)
-grown_known before None bytes h = elim h [ ]
-grown_known before (Some after) bytes h = ap (λ (bs : List ℕ). Some bs) h
+grown_known before now bytes h1 = grind arith
 
 grown : (old now : Option (List ℕ)) (before bytes : List ℕ) → old ≡ Some before → Appends old now bytes
     → now ≡ Some (before ++ bytes)
@@ -39,9 +38,7 @@ record IsParted (before whole : List ℕ) (now : Option (List ℕ)) : Type 0 whe
 
 parted_known : (before : List ℕ) (now : Option (List ℕ)) (whole : List ℕ) → AppendsPart (Some before) now whole
     → IsParted before whole now
-parted_known before None whole h = elim h [ ]
-parted_known before (Some after) whole h =
-    record { bytes = h.bytes; part = h.part; now_is = ap (λ (bs : List ℕ). Some bs) h.after_is }
+parted_known before now whole h1 = grind arith
 
 parted : (old now : Option (List ℕ)) (before whole : List ℕ) → old ≡ Some before → AppendsPart old now whole
     → IsParted before whole now
@@ -132,23 +129,11 @@ module _ (images certificates : List ℕ → List ℕ → Type 0) (failed_at : A
 
   pub unread_plays : (end : ScriptEnd) → IsUnread number bytes end → now ≡ Some before
       → PlaysFrom images certificates failed_at number bytes c before now end
-  unread_plays Over u known = elim u [ ]
-  unread_plays (BadLine n) u known = rw u.0 (bad_first u.1 known)
-  unread_plays (SourceFailed n) u known = elim u [ ]
-  unread_plays NotRead u known = not_read known
-  unread_plays NotWritten u known = elim u [ ]
-  unread_plays NoMemory u known = elim u [ ]
-  unread_plays BadLimits u known = elim u [ ]
+  unread_plays end h1 h2 = grind (arith, bad_first, not_read)
 
   pub end_plays : (end : ScriptEnd) → IsEnd number bytes end → now ≡ Some before
       → PlaysFrom images certificates failed_at number bytes c before now end
-  end_plays Over u known = none_left u known
-  end_plays (BadLine n) u known = rw u.0 (bad_first u.1 known)
-  end_plays (SourceFailed n) u known = elim u [ ]
-  end_plays NotRead u known = not_read known
-  end_plays NotWritten u known = elim u [ ]
-  end_plays NoMemory u known = elim u [ ]
-  end_plays BadLimits u known = elim u [ ]
+  end_plays end h1 h2 = grind (arith, none_left, bad_first, not_read)
 
   pub line_ends : (line : List ℕ) (left : Option (List ℕ)) (end : ScriptEnd) → IsTaken number line bytes left
       → IsLineEnd images certificates failed_at c number (said_by line) before now end
@@ -164,6 +149,4 @@ module _ (images certificates : List ℕ → List ℕ → Type 0) (failed_at : A
 
 pub handed_on : {A E : Type 0} (result : Result A E) (error : E) (P : E → Type 0)
     → IsErrAnd result (λ told. told ≡ error) → P error → IfErr result P
-handed_on result error P is p =
-    let told = err_from_is_err_and result is in
-    rw (told.1, told.2) p
+handed_on result error P is p = grind (arith, err_from_is_err_and)

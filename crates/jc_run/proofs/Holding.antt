@@ -1,5 +1,5 @@
 -- What a session comes to is a run of the card.
-use Rattle.std.proofs.Common.{◌≡◌, ℕ, List, [], ◌∷◌, ◌++◌, Option, Some, false, Result, Ok, Err, ◌↔◌, rules}
+use Rattle.std.proofs.Common.{◌≡◌, ℕ, List, [], ◌∷◌, ◌++◌, Option, Some, false, Result, Ok, Err, ◌↔◌, rules, arith}
 use Rattle.std.proofs.Common.{refl, sym, ap, ◌∙◌, append_assoc}
 use Rattle.jc_api.specs.Bound.{Bound}
 use Rattle.jc_card.specs.Card.{CardState}
@@ -98,10 +98,8 @@ module _ (images certificates : List ℕ → List ℕ → Type 0) where
       (written behind : List ℕ) (end : ScriptEnd) → session_line first ≡ said
       → IsLinePlayed images certificates c said written after → Is lines after behind end
       → Is (first ∷ lines) c (written ++ behind) end
-  line_done first lines Skipped c after written behind end is p d =
-      rw (p.0, ← p.1) (one_skipped first lines after behind end is d)
-  line_done first lines (Asks asked) c after written behind end is p d =
-      rw p.written_is (one_more first lines asked c after p.answer behind end is p.answered d)
+  line_done first lines Skipped c after written behind end is p d = search (arith, one_skipped, one_more)
+  line_done first lines (Asks asked) c after written behind end is p d = search (arith, one_skipped, one_more)
   line_done first lines Bad c after written behind end is p d = elim p [ ]
 
   held_of : {lines : List (List ℕ)} {c : CardState} {written : List ℕ} {end : ScriptEnd}
@@ -128,12 +126,7 @@ module _ (images certificates : List ℕ → List ℕ → Type 0) (limits : Limi
   simulated : (written : List ℕ) (end : ScriptEnd)
       → SessionRunsTo images certificates limits binding input written end
       → IsSessionSimulated images certificates limits binding input written end
-  simulated written end runs = record {
-    responses = runs;
-    accesses = lawful.accesses;
-    apart = lawful.apart;
-    never_stuck = lawful.never_stuck;
-  }
+  simulated written end runs = grind arith
 
   pub made_holds : (card : A) (end : ScriptEnd) → result ≡ Ok card
       → ConversesOn images certificates input (new_card limits binding) before now end

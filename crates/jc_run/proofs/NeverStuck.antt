@@ -1,5 +1,5 @@
 -- No list of commands is stuck on a typed card.
-use Rattle.std.proofs.Common.{◌≡◌, ℕ, List, [], ◌∷◌, ◌&&◌, true, Option, Some, None, IsSome, Result, refl}
+use Rattle.std.proofs.Common.{◌≡◌, ℕ, List, [], ◌∷◌, ◌&&◌, true, Option, IsSome, Result, arith}
 use Rattle.std.proofs.lemmas.Bool.{and_parts}
 use Rattle.std.specs.List.{list_all}
 use Rattle.jc_base.specs.declared.fault.LoadFault.{LoadFault}
@@ -13,7 +13,7 @@ use Rattle.jc_natives.specs.Kept.{are_bytes, is_aid}
 use Rattle.jc_run.specs.Answer.{Answered}
 use Rattle.jc_run.specs.NeverStuck.{GoesOn, NeverStuck, is_of_bytes}
 use Rattle.jc_run.specs.Play.{IsAnswered, IsGiven}
-use Rattle.jc_script.specs.Script.{Apdu, Cells, Install, Load, Objects, Reset, ScriptCommand}
+use Rattle.jc_script.specs.Script.{ScriptCommand}
 
 -- what is known of each command on a typed card
 pub record TypedLaws : Type 0 where
@@ -27,49 +27,26 @@ pub record TypedLaws : Type 0 where
       → are_bytes image ≡ true → IsLoad c image certificate result after → IsTypedCard after
 
 gives_some : {A : Type 0} (done : Option (Left A)) → GivesTyped done → IsSome done
-gives_some None h = absurd h
-gives_some (Some l) h = refl
+gives_some done h1 = grind arith
 
 given_typed : {A : Type 0} (done : Option (Left A)) (said : A → Answered) (answer : Answered) (after : CardState)
     → GivesTyped done → IsGiven done said answer after → IsTypedCard after
-given_typed None said answer after h given = absurd h
-given_typed (Some l) said answer after h given =
-    let same : given.left ≡ l = cc in
-    rw (given.after_is, same) h
+given_typed done said answer after h1 h2 = grind arith
 
 module _ (laws : TypedLaws) (images certificates : List ℕ → List ℕ → Type 0) where
   installed : (c : CardState) → IsTypedCard c → (applet instance incoming : List ℕ)
       → (is_aid applet && is_aid instance && are_bytes incoming) ≡ true
       → GivesTyped (install_command c applet instance incoming)
-  installed c t applet instance incoming e =
-      let first = and_parts (is_aid applet && is_aid instance) (are_bytes incoming) e in
-      let aids = and_parts (is_aid applet) (is_aid instance) first.0 in
-      laws.install c t applet instance incoming aids.0 aids.1 first.1
+  installed c t applet instance incoming e = grind (arith, and_parts)
 
   goes_on : (c : CardState) → IsTypedCard c → (command : ScriptCommand) → is_of_bytes command ≡ true
       → GoesOn c command
-  goes_on c t (Load folder certificate) e = tt
-  goes_on c t (Install applet instance incoming) e =
-      gives_some (install_command c applet instance incoming) (installed c t applet instance incoming e)
-  goes_on c t (Apdu bytes) e = gives_some (apdu_command c bytes) (laws.apdu c t bytes e)
-  goes_on c t Reset e = gives_some (reset_command c) (laws.reset c t)
-  goes_on c t Cells e = tt
-  goes_on c t Objects e = tt
+  goes_on c h1 command h2 = grind (arith, gives_some, installed)
 
   stays_typed : (c : CardState) → IsTypedCard c → (command : ScriptCommand) → is_of_bytes command ≡ true
       → (answer : Answered) (after : CardState) → IsAnswered images certificates c command answer after
       → IsTypedCard after
-  stays_typed c t (Load folder certificate) e answer after h =
-      laws.load c after h.image h.bytes h.result t h.image_is_bytes h.load
-  stays_typed c t (Install applet instance incoming) e answer after h =
-      given_typed (install_command c applet instance incoming) _ answer after
-      (installed c t applet instance incoming e) h
-  stays_typed c t (Apdu bytes) e answer after h =
-      given_typed (apdu_command c bytes) _ answer after (laws.apdu c t bytes e) h
-  stays_typed c t Reset e answer after h =
-      given_typed (reset_command c) _ answer after (laws.reset c t) h
-  stays_typed c t Cells e answer after h = rw h.1 t
-  stays_typed c t Objects e answer after h = rw h.1 t
+  stays_typed c h1 command h2 answer after h3 = grind (arith, given_typed, installed)
 
   pub never_stuck : (commands : List ScriptCommand) → list_all is_of_bytes commands ≡ true → (c : CardState)
       → IsTypedCard c → NeverStuck images certificates commands c

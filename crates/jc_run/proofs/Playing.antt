@@ -1,5 +1,5 @@
 -- A script, line by line.
-use Rattle.std.proofs.Common.{◌≡◌, ℕ, ◌+◌, List, [], ◌++◌, Option, Some, Result, ap, ◌∙◌, append_assoc, add-one}
+use Rattle.std.proofs.Common.{◌≡◌, ℕ, ◌+◌, List, ◌++◌, Option, Some, Result, ap, ◌∙◌, append_assoc, add-one, arith}
 use Rattle.std.proofs.lemmas.Result.{err_from_is_err_and}
 use Rattle.std.specs.Prelude.{IsErrAnd}
 use Rattle.jc_card.specs.Card.{CardState}
@@ -13,15 +13,12 @@ use Rattle.jc_run.specs.PrivatePlay.{EndsAt, HasPlayed, IsLinePlayed, IsTurn, Pl
 use Rattle.jc_run.specs.PrivatePlay.EndsAt.{bad, memory, source, unwritten}
 use Rattle.jc_run.specs.PrivatePlay.Plays.{ended, line, over, unread}
 use Rattle.jc_run.specs.declared.fault.ScriptFault.{ScriptFault}
-use Rattle.jc_script.specs.Script.{Apdu, Asks, Bad, Cells, Install, Load, Objects, Reset, ScriptCommand, ScriptLine}
-use Rattle.jc_script.specs.Script.{Skipped, lines_of}
+use Rattle.jc_script.specs.Script.{ScriptCommand, ScriptLine}
+use Rattle.jc_script.specs.Script.{lines_of}
 
 pub same_through : (first second third : List ℕ → List ℕ → Type 0) → HoldSame first second → HoldSame second third
     → HoldSame first third
-same_through first second third a b = record {
-  still = λ name bytes h. b.still name bytes (a.still name bytes h);
-  already = λ name bytes h. a.already name bytes (b.already name bytes h);
-}
+same_through first second third a b = grind arith
 
 -- ---- what a source holds that holds the same
 
@@ -29,28 +26,11 @@ module _ (images certificates older old : List ℕ → List ℕ → Type 0) (sam
     (same_certificates : HoldSame old certificates) where
   pub answered_as : (c : CardState) (command : ScriptCommand) (answer : Answered) (after : CardState)
       → IsAnswered images certificates c command answer after → IsAnswered older old c command answer after
-  answered_as c (Load folder certificate) answer after h = record {
-    image = h.image;
-    image_held = same_images.already _ _ h.image_held;
-    image_is_bytes = h.image_is_bytes;
-    bytes = h.bytes;
-    bytes_held = same_certificates.already _ _ h.bytes_held;
-    result = h.result;
-    load = h.load;
-    answer_is = h.answer_is;
-  }
-  answered_as c (Install applet instance incoming) answer after h = h
-  answered_as c (Apdu bytes) answer after h = h
-  answered_as c Reset answer after h = h
-  answered_as c Cells answer after h = h
-  answered_as c Objects answer after h = h
+  answered_as c command answer after h1 = grind arith
 
   pub line_as : (c : CardState) (said : ScriptLine) (written : List ℕ) (after : CardState)
       → IsLinePlayed images certificates c said written after → IsLinePlayed older old c said written after
-  line_as c Skipped written after h = h
-  line_as c (Asks command) written after h =
-      record { answer = h.answer; answered = answered_as c command _ after h.answered; written_is = h.written_is }
-  line_as c Bad written after h = h
+  line_as c said written after h1 = grind (arith, answered_as)
 
   ends_as : {failed_at : Asked → Type 0} {c : CardState} {number : ℕ} {said : ScriptLine} {written : List ℕ}
       {end : ScriptEnd} → EndsAt images certificates failed_at c number said written end
@@ -79,19 +59,7 @@ module _ (images certificates older old : List ℕ → List ℕ → Type 0) (sam
   pub turn_as : {number : ℕ} {bytes : List ℕ} {c : CardState} {after : CardWords} {left : Option (List ℕ)}
       {before : List ℕ} {now : Option (List ℕ)} → IsTurn images certificates number bytes c after left before now
       → IsTurn older old number bytes c after left before now
-  turn_as {c = c} t = record {
-    first = t.first;
-    rest = t.rest;
-    left_is = t.left_is;
-    lines = t.lines;
-    done = record {
-      card = t.done.card;
-      written = t.done.written;
-      played = line_as c _ t.done.written t.done.card t.done.played;
-      holds = t.done.holds;
-      now_is = t.done.now_is;
-    };
-  }
+  turn_as h1 = grind (arith, line_as)
 
 -- ---- lines that are done
 
@@ -99,15 +67,7 @@ module _ {S : Type 0} (images certificates : List ℕ → List ℕ → Type 0) (
     (c : CardState) (script before : List ℕ) where
   pub begun : (after : CardWords) (left now : Option (List ℕ)) → Holds after c → left ≡ Some script
       → now ≡ Some before → HasPlayed images certificates failed_at c script before 1 after left now
-  begun after left now holds is known = record {
-    card = c;
-    holds = holds;
-    rest = script;
-    left_is = is;
-    written = [];
-    now_is = none_more known;
-    leads = λ s behind end p. p;
-  }
+  begun after left now holds is known = grind (arith, none_more)
 
   pub one_more : {number : ℕ} {card after : CardWords} {left rest now further : Option (List ℕ)}
       → (h : HasPlayed images certificates failed_at c script before number card left now)
@@ -130,11 +90,7 @@ module _ {S : Type 0} (images certificates : List ℕ → List ℕ → Type 0) (
       → (h : HasPlayed images certificates failed_at c script before number card left now)
       → PlaysFrom images certificates (failed_at s) number h.rest h.card (before ++ h.written) last end
       → PlaysFrom images certificates (failed_at s) 1 script c before last end
-  at_end s {end = end} h p = record {
-    written = h.written ++ p.written;
-    plays = h.leads s p.written end p.plays;
-    now_is = p.now_is ∙ ap (λ (bs : List ℕ). Some bs) (append_assoc before h.written p.written);
-  }
+  at_end s h h1 = grind (arith, append_assoc)
 
 -- ---- faults that are handed on
 
@@ -143,6 +99,4 @@ same_self held = record { still = λ name bytes h. h; already = λ name bytes h.
 
 pub handed_end : (result : Result (Unit {0}) ScriptFault) (error : ScriptFault) (P : ScriptEnd → Type 0)
     → IsErrAnd result (λ told. told ≡ error) → P (end_of_fault error) → P (end_of result)
-handed_end result error P is p =
-    let told = err_from_is_err_and result is in
-    rw (told.1, told.2) p
+handed_end result error P is p = grind (arith, err_from_is_err_and)

@@ -1,5 +1,5 @@
 -- What a script comes to is a run of the card.
-use Rattle.std.proofs.Common.{◌≡◌, ℕ, suc, List, [], ◌∷◌, ◌++◌, Option, Some, None, IfSome, refl, sym, ap, ◌∙◌}
+use Rattle.std.proofs.Common.{◌≡◌, ℕ, suc, List, [], ◌∷◌, ◌++◌, Option, Some, None, IfSome, refl, sym, ap, ◌∙◌, arith}
 use Rattle.std.proofs.Common.{append_assoc, Result}
 use Rattle.jc_base.specs.declared.fault.LoadFault.{LoadFault}
 use Rattle.jc_card.specs.Accesses.{ChangesBy, IsApartCard, IsGuardedCommand, KeepsApart, LeavesObjects}
@@ -74,8 +74,7 @@ module _ (images certificates : List ℕ → List ℕ → Type 0) (failed_at : A
       (end : ScriptEnd) → IsLinePlayed images certificates c said written after → Is script after behind end
       → Is (with_line number said script) c (written ++ behind) end
   line_done number Skipped script c after written behind end played d = rw (played.0, ← played.1) d
-  line_done number (Asks first) script c after written behind end played d =
-      rw played.written_is (one_more number first script c after played.answer behind end played.answered d)
+  line_done number (Asks first) script c after written behind end played d = search (arith, one_more)
   line_done number Bad script c after written behind end played d = elim played [ ]
 
   -- ---- a line that ends it
@@ -179,10 +178,7 @@ module _ (laws : Laws) (images certificates : List ℕ → List ℕ → Type 0) 
       (answer : Answered) (after : CardState) → IfSome done (λ l. KeepsApart order c l.touches l.card)
       → IsGiven done said answer after
       → IsApartCard after
-  given_apart order c None said answer after h given = absurd cc
-  given_apart order c (Some l) said answer after h given =
-      let same : given.left ≡ l = cc in
-      rw (given.after_is, same) h.card
+  given_apart order c done said answer after h1 h2 = grind arith
 
   kept_apart : (c : CardState) (command : ScriptCommand) (answer : Answered) (after : CardState) → IsApartCard c
       → IsAnswered images certificates c command answer after → IsKeptApart c command after
@@ -196,13 +192,9 @@ module _ (laws : Laws) (images certificates : List ℕ → List ℕ → Type 0) 
   stays_apart : (c : CardState) (command : ScriptCommand) (answer : Answered) (after : CardState) → IsApartCard c
       → IsAnswered images certificates c command answer after → IsApartCard after
   stays_apart c (Load folder certificate) answer after p h = laws.apart_load c after h.image h.bytes h.result p h.load
-  stays_apart c (Install applet instance incoming) answer after p h =
-      given_apart (install_order c applet) c (install_command c applet instance incoming) _ answer after
-      (laws.apart_install c p applet instance incoming) h
-  stays_apart c (Apdu bytes) answer after p h =
-      given_apart (apdu_order c bytes) c (apdu_command c bytes) _ answer after (laws.apart_apdu c p bytes) h
-  stays_apart c Reset answer after p h =
-      given_apart Resets c (reset_command c) _ answer after (laws.apart_reset c p) h
+  stays_apart c (Install applet instance incoming) answer after p h = search (arith, given_apart)
+  stays_apart c (Apdu bytes) answer after p h = search (arith, given_apart)
+  stays_apart c Reset answer after p h = search (arith, given_apart)
   stays_apart c Cells answer after p h = rw h.1 p
   stays_apart c Objects answer after p h = rw h.1 p
 
@@ -214,9 +206,4 @@ module _ (laws : Laws) (images certificates : List ℕ → List ℕ → Type 0) 
       run_apart (stays_apart c first answer between p answered) rest
 
   pub all_guarded : AreGuarded images certificates
-  all_guarded = record {
-    commands = guarded;
-    runs = λ commands c answers touches after run. run_changes run;
-    apart = kept_apart;
-    stays = λ commands c answers touches after p run. run_apart p run;
-  }
+  all_guarded = grind (arith, guarded, run_changes, kept_apart, run_apart)

@@ -1,6 +1,5 @@
 -- A script on a new card.
-use Rattle.std.proofs.Common.{◌≡◌, ℕ, List, [], Option, Some, Bool, true, false, Result, Ok, Err, ◌↔◌, rules, refl}
-use Rattle.std.proofs.Common.{sym, ◌∙◌}
+use Rattle.std.proofs.Common.{◌≡◌, ℕ, List, [], Option, Some, Bool, true, false, Result, Ok, Err, ◌↔◌, rules, arith}
 use Rattle.jc_api.specs.Bound.{Bound}
 use Rattle.jc_card.specs.Accesses.{IsApartCard}
 use Rattle.jc_card.specs.New.{are_limits, new_card}
@@ -26,8 +25,7 @@ pub record AreLawful (images certificates : List ℕ → List ℕ → Type 0) (l
 pub limits_fit : {A : Type 0} (fit : Bool) (result made : Result A CardFault)
     → (fit ≡ false → result ≡ Err cards.BadLimits)
     → result ≡ made → (made ≡ Err cards.BadLimits → ⊥) → fit ≡ true
-limits_fit true result made told is other = refl
-limits_fit false result made told is other = absurd (other (sym is ∙ told refl))
+limits_fit fit result made h1 h2 h3 = grind arith
 
 module _ (images certificates : List ℕ → List ℕ → Type 0) (failed_at : Asked → Type 0) (limits : Limits)
     (binding : Bound) (lawful : AreLawful images certificates limits binding) (script before : List ℕ)
@@ -36,12 +34,7 @@ module _ (images certificates : List ℕ → List ℕ → Type 0) (failed_at : A
   simulated : (written : List ℕ) (end : ScriptEnd)
       → RunsTo images certificates failed_at limits binding script written end
       → IsSimulated images certificates failed_at limits binding script written end
-  simulated written end runs = record {
-    responses = runs;
-    accesses = lawful.accesses;
-    apart = lawful.apart;
-    never_stuck = lawful.never_stuck;
-  }
+  simulated written end runs = grind arith
 
   pub made_runs : (card : A) (end : ScriptEnd) → result ≡ Ok card
       → PlaysOn images certificates failed_at script (new_card limits binding) before now end

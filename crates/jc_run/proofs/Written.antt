@@ -1,6 +1,5 @@
 -- Bytes that are written, a part of some or all.
-use Rattle.std.proofs.Common.{ℕ, ◌+◌, List, [], Option, Some, None, OnErr, Result, Ok, Err, take, drop, sym, refl}
-use Rattle.std.proofs.Common.{append-nil}
+use Rattle.std.proofs.Common.{ℕ, ◌+◌, List, Option, Some, None, OnErr, Result, take, drop, sym, arith}
 use Rattle.std.proofs.KnownBytes.{Appends-kept, Appends-trans}
 use Rattle.std.proofs.Math.Seq.{take-add}
 use Rattle.std.proofs.lemmas.List.{take-append-drop}
@@ -26,26 +25,5 @@ pub part_kept : (a b c : Option (List ℕ)) (bytes : List ℕ) (done : ℕ) → 
     → AppendsPart a c bytes
 part_kept a b c bytes done so_far kept = part_of a c bytes done (Appends-kept a b c _ so_far kept)
 
--- all of them are a part
-pub all_kept : (a b c : Option (List ℕ)) (bytes : List ℕ) → Appends a b bytes → Keeps b c → AppendsPart a c bytes
-all_kept None b c bytes h kept = tt
-all_kept (Some before) None c bytes h kept = elim h [ ]
-all_kept (Some before) (Some middle) None bytes h kept = kept
-all_kept (Some before) (Some middle) (Some after) bytes h kept = record {
-  bytes = bytes;
-  part = record { rest = []; whole_is = sym (append-nil bytes) };
-  after_is = rw kept h;
-}
-
--- none is
-pub none_written : (a : Option (List ℕ)) (bytes : List ℕ) → AppendsPart a a bytes
-none_written None bytes = tt
-none_written (Some before) bytes = record {
-  bytes = [];
-  part = record { rest = bytes; whole_is = refl };
-  after_is = sym (append-nil before);
-}
-
 pub on_err : {A E : Type 0} (result : Result A E) (P : Type 0) → P → OnErr result P
-on_err (Ok value) P p = tt
-on_err (Err error) P p = p
+on_err result P h1 = grind arith

@@ -1,10 +1,9 @@
 -- The members of the API in a built world are what its tables say.
-use Rattle.std.proofs.Common.{◌≡◌, ◌⊎◌, inl, inr, ℕ, ◌+◌, ◌==◌, List, Bool}
-use Rattle.std.proofs.Common.{true, false, cond, Option, Some, slice_get, refl}
-use Rattle.std.proofs.Common.{sym, ap, ◌∙◌, subst, arith}
+use Rattle.std.proofs.Common.{◌≡◌, ◌⊎◌, inl, inr, ℕ, ◌==◌, List, Bool, true, cond, Option, Some, slice_get, sym, ap}
+use Rattle.std.proofs.Common.{◌∙◌, subst, arith}
 use Rattle.std.specs.List.{position}
-use Rattle.std.specs.Option.{option_and_then, option_map}
-use Rattle.jc_api.specs.Class.{is_interface, package_of}
+use Rattle.std.specs.Option.{option_and_then}
+use Rattle.jc_api.specs.Class.{package_of}
 use Rattle.jc_api.specs.Member.{ApiMember, member_of}
 use Rattle.jc_api.specs.Token.{is_same_class}
 use Rattle.jc_api.specs.declared.class.ApiClass.{ApiClass}
@@ -12,7 +11,7 @@ use Rattle.jc_api.specs.declared.member.MemberKind.TheVariants.{Static, Virtual}
 use Rattle.jc_cap.specs.declared.record.ClassRecord.{ClassRecord}
 use Rattle.jc_cap.specs.declared.record.InterfaceRecord.{InterfaceRecord}
 use Rattle.jc_cap.specs.declared.record.RecordBody.TheVariants.{Class, Interface}
-use Rattle.jc_cap_desc.specs.Shape.{ClassShape, Shape}
+use Rattle.jc_cap_desc.specs.Shape.{Shape}
 use Rattle.jc_classes.specs.Api.{is_static, method_in}
 use Rattle.jc_classes.specs.Members.{DeclaredMethod, declared_in, method_at}
 use Rattle.jc_classes.specs.Record.{public_entries}
@@ -27,7 +26,7 @@ use Rattle.jc_names.specs.declared.name.ClassName.{ClassName}
 use Rattle.jc_names.specs.declared.name.ClassName.TheVariants as classes
 use Rattle.jc_names.specs.declared.name.MethodName.{MethodName}
 use Rattle.jc_names.specs.declared.name.MethodName.TheVariants.{Api}
-use Rattle.jc_machine.specs.Calls.{token_in, virtual_member, virtual_member_in}
+use Rattle.jc_machine.specs.Calls.{token_in, virtual_member}
 use Rattle.jc_machine.specs.Machine.{Surroundings}
 use Rattle.jc_api.specs.declared.class.ApiClass.TheVariants as api_classes
 use Rattle.jc_safety.proofs.ApiCode.{applet_alone}
@@ -40,14 +39,10 @@ use Rattle.jc_safety.proofs.Natives.{below_heir}
 token_told : (n token : ℕ) (b : Bool) (i : InterfaceRecord) (r : ClassRecord) → r.public_methods.base ≡ 0
     → position (λ m. m == n) (public_entries (cond b (Interface i) (Class r))) ≡ Some token
     → token_in n (cond b (Interface i) (Class r)) ≡ Some token
-token_told n token true i r at_zero e = absurd cc
-token_told n token false i r at_zero e =
-    let same : r.public_methods.base + token ≡ token = omega (arith, at_zero) in
-    ap (option_map (λ k. r.public_methods.base + k)) e ∙ ap Some same
+token_told n token b i r h1 h2 = grind arith
 
 applet_is : (c : ApiClass) → is_same_class c api_classes.Applet ≡ true → c ≡ api_classes.Applet
-applet_is api_classes.Applet e = refl
-applet_is c e = absurd cc
+applet_is c h1 = grind arith
 
 some_same : (o : Option DeclaredMethod) (y z : DeclaredMethod) → o ≡ Some y → o ≡ Some z → y ≡ z
 some_same o y z e f = cc
@@ -89,12 +84,7 @@ module _ {C : Type 0} (s : Surroundings C) (ground : Ground s) where
     its = on.virtual n x is virtual
 
     listed_here : virtual_member shapes n ≡ Some (record { class = classes.Api x.class; token = its.token })
-    listed_here =
-        ap (option_and_then (λ (m : ApiMember). virtual_member_in shapes (classes.Api m.class) n)) is
-        ∙ ap (λ (o : Option ClassShape). option_map (λ token. record { class = classes.Api x.class; token = token })
-        (option_and_then (λ (k : ClassShape). token_in n k.body) o)) (on.classes x.class)
-        ∙ ap (option_map (λ token. record { class = classes.Api x.class; token = token }))
-        (token_told n its.token (is_interface x.class) _ _ refl its.listed)
+    listed_here = grind (arith, token_told)
 
     -- what is found below is declared below
     declared_below : (c : ClassName) (name : MethodName) (d : DeclaredMethod) → IsHeir shapes c (classes.Api x.class)

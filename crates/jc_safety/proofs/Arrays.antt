@@ -1,9 +1,7 @@
 -- Instructions on arrays are safe.
-use Rattle.std.proofs.Common.{◌≡◌, ℕ, ◌<◌, List, [], ◌∷◌, length, drop, set, slice_get, true, false, ◌&&◌, not}
-use Rattle.std.proofs.Common.{Option, Some, nat_lt, pos, refl, sym, ap, ◌∙◌, subst, arith}
+use Rattle.std.proofs.Common.{◌≡◌, ℕ, ◌<◌, List, [], ◌∷◌, length, drop, set, slice_get, true, ◌&&◌, not}
+use Rattle.std.proofs.Common.{Some, nat_lt, refl, ap, arith}
 use Rattle.std.proofs.lemmas.Bool.{lt-ltb, ltb-true}
-use Rattle.std.specs.Option.{option_map_or}
-use Rattle.std.specs.Prelude.{int_lt}
 use Rattle.jc_api.specs.declared.class.ApiClass.TheVariants as api
 use Rattle.jc_cap_desc.specs.Shape.{Shape}
 use Rattle.jc_classes.specs.Members.{DeclaredMethod}
@@ -29,14 +27,14 @@ use Rattle.jc_machine.specs.Arrays.{act_length, act_load, act_store_reference, a
 use Rattle.jc_machine.specs.Arrays.{is_in_bounds, loads, stored_as}
 use Rattle.jc_machine.specs.Going.{Here, accessed, check, on_object, on_some, require}
 use Rattle.jc_machine.specs.Lookup.{class_of, component_class, is_array, is_byte, is_instance, is_of_class}
-use Rattle.jc_machine.specs.Lookup.{is_short_array, is_word, leads_to}
+use Rattle.jc_machine.specs.Lookup.{is_word, leads_to}
 use Rattle.jc_firewall.specs.declared.access.Access.TheVariants.{ArrayLength, LoadComponent, StoreComponent}
 use Rattle.jc_firewall.specs.declared.access.Access.TheVariants.{StoreReference}
 use Rattle.jc_machine.specs.Machine.{Machine, Surroundings}
 use Rattle.jc_machine.specs.Runtime.{array_index_exception, array_store_exception}
 use Rattle.jc_machine.specs.Typed.{CellsTyped, HoldTypes, IsTyped, has_type}
-use Rattle.jc_words.specs.Shorts.{low_byte, short}
-use Rattle.jc_words.specs.Values.{Null, Ref, TaggedValue, Unset, Word, is_reference}
+use Rattle.jc_words.specs.Shorts.{low_byte}
+use Rattle.jc_words.specs.Values.{Null, Ref, TaggedValue, Word, is_reference}
 use Rattle.jc_safety.proofs.Below.{instance_below}
 use Rattle.jc_safety.proofs.Ground.{Ground}
 use Rattle.jc_safety.proofs.Lists.{both, each_at, each_set, get_within}
@@ -53,9 +51,7 @@ use Rattle.jc_safety.proofs.Writing.{byte_number, ref_case, typed_at, word_numbe
 
 -- an index within an array
 in_bounds : (index : ℕ) (o : heaps.Object TaggedValue) → is_in_bounds index o ≡ true → index < length o.cells
-in_bounds index o e =
-    let b = both (not (int_lt (short index) (pos 0))) (nat_lt index (length o.cells)) e in
-    ltb-true index (length o.cells) b.1
+in_bounds index o e = grind (arith, both, not, ltb-true)
 
 -- ---- what arrays of a form hold
 
@@ -88,20 +84,7 @@ stored_number : (world : List Shape) (heap : Heap TaggedValue) (form : Form) (ce
     → (n index : ℕ) → CellsTyped world heap cells o → is_array_of form o ≡ true
     → component_stored form ≡ Below types.Word → nat_lt n 65536 ≡ true
     → CellsTyped world heap (set cells index (stored_as form (Word n))) o
-stored_number world heap Forms.Reference cells o n index h is word small = absurd cc
-stored_number world heap Forms.Byte cells (Instance c) n index h is word small = absurd cc
-stored_number world heap Forms.Byte cells BooleanArray n index h is word small =
-    each_set (λ v. is_byte v ≡ true) cells index (Word (low_byte n)) h (stored_byte n)
-stored_number world heap Forms.Byte cells ByteArray n index h is word small =
-    each_set (λ v. is_byte v ≡ true) cells index (Word (low_byte n)) h (stored_byte n)
-stored_number world heap Forms.Byte cells ShortArray n index h is word small = absurd cc
-stored_number world heap Forms.Byte cells (ReferenceArray c) n index h is word small = absurd cc
-stored_number world heap Forms.Short cells (Instance c) n index h is word small = absurd cc
-stored_number world heap Forms.Short cells BooleanArray n index h is word small = absurd cc
-stored_number world heap Forms.Short cells ByteArray n index h is word small = absurd cc
-stored_number world heap Forms.Short cells ShortArray n index h is word small =
-    each_set (λ v. is_word v ≡ true) cells index (Word n) h small
-stored_number world heap Forms.Short cells (ReferenceArray c) n index h is word small = absurd cc
+stored_number world heap form cells o n index h1 h2 h3 h4 = grind (arith, world, each_set, stored_byte)
 
 -- an array of references
 record HoldsReferences (o : ObjectType) : Type 0 where
@@ -110,11 +93,7 @@ record HoldsReferences (o : ObjectType) : Type 0 where
 
 holds_references : (world : List Shape) (c : ClassName) (o : ObjectType) → holds_below world c o ≡ true
     → HoldsReferences o
-holds_references world c (Instance k) e = absurd cc
-holds_references world c BooleanArray e = absurd cc
-holds_references world c ByteArray e = absurd cc
-holds_references world c ShortArray e = absurd cc
-holds_references world c (ReferenceArray k) e = record { class = k; is = refl }
+holds_references world c o h1 = grind (arith, world)
 
 module _ {C : Type 0} (s : Surroundings C) (ground : Ground s) (m : Machine C) (t : IsTyped s m) (d : DeclaredMethod)
     (next : ℕ) where
@@ -131,17 +110,10 @@ module _ {C : Type 0} (s : Surroundings C) (ground : Ground s) (m : Machine C) (
 
   references_are : (o : ObjectType) → holds_below shapes (Api api.Object) o ≡ true
       → is_array_of Forms.Reference o ≡ true
-  references_are (Instance k) e = absurd cc
-  references_are BooleanArray e = absurd cc
-  references_are ByteArray e = absurd cc
-  references_are ShortArray e = absurd cc
-  references_are (ReferenceArray k) e = refl
+  references_are o h1 = grind arith
 
   are_arrays : (form : Form) → AreArrays form
-  are_arrays Forms.Reference v h =
-      leads_up m.heap (holds_below shapes (Api api.Object)) (is_array_of Forms.Reference) v references_are h.type
-  are_arrays Forms.Byte v h = h
-  are_arrays Forms.Short v h = leads_up m.heap is_short_array (is_array_of Forms.Short) v (λ o e. e) h.type
+  are_arrays form = grind (arith, leads_up, holds_below, references_are)
 
   object_typed : (n : ℕ) (o : heaps.Object TaggedValue) → object_at m.heap n ≡ Some o
       → CellsTyped shapes m.heap o.cells o.kind.object
@@ -203,10 +175,7 @@ module _ {C : Type 0} (s : Surroundings C) (ground : Ground s) (m : Machine C) (
   -- a reference to an object passes the test that its type is
   ref_holds : (c : ClassName) (n : ℕ) (o : heaps.Object TaggedValue) → object_at m.heap n ≡ Some o
       → leads_to m.heap (holds_below shapes c) (Ref n) ≡ true → holds_below shapes c o.kind.object ≡ true
-  ref_holds c n o found h =
-      sym (ap (λ (x : Option (heaps.Object TaggedValue)). option_map_or (λ o. holds_below shapes c o.kind.object) x
-      false) found)
-      ∙ h
+  ref_holds c n o found h = grind (arith, holds_below)
 
   -- a component of an array whose components count below a class is of that class
   component_has : (c : ClassName) (o : ObjectType) (cells : List TaggedValue) (index : ℕ) (v : TaggedValue)
@@ -305,19 +274,13 @@ module _ {C : Type 0} (s : Surroundings C) (ground : Ground s) (m : Machine C) (
 
   -- a reference, or null
   leads_reference : (v : TaggedValue) → leads_to m.heap any_object v ≡ true → is_reference v ≡ true
-  leads_reference (Word n) e = absurd cc
-  leads_reference (Ref n) e = refl
-  leads_reference Null e = refl
-  leads_reference Unset e = absurd cc
+  leads_reference v h1 = grind arith
 
   -- with a reference in place of a component the array is still typed
   reference_put : (o : ObjectType) (k : ClassName) (cells : List TaggedValue) (index : ℕ) (v : TaggedValue)
       → o ≡ ReferenceArray k → CellsTyped shapes m.heap cells o → leads_to m.heap (is_instance shapes k) v ≡ true
       → CellsTyped shapes m.heap (set cells index v) o
-  reference_put o k cells index v is typed has =
-      let old = subst (λ (x : ObjectType). CellsTyped shapes m.heap cells x) is typed in
-      subst (λ (x : ObjectType). CellsTyped shapes m.heap (set cells index v) x) (sym is)
-      (each_set (λ v. leads_to m.heap (is_instance shapes k) v ≡ true) cells index v old has)
+  reference_put o k cells index v is typed has = grind (arith, set, each_set)
 
   pub store_reference : (after_it : Types)
       → Applied (below s ground m t) (most s ground m t)

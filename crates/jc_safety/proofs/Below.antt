@@ -1,12 +1,8 @@
 -- What is a subtype of a class or an interface is below each class that this counts below.
-use Rattle.std.proofs.Common.{◌≡◌, Bool, true, false, cond, not, Option, Some, None, refl, sym, ◌∙◌, subst}
-use Rattle.std.specs.Option.{option_map_or}
-use Rattle.jc_cap.specs.ClassComponent.{is_class}
+use Rattle.std.proofs.Common.{◌≡◌, Bool, true, false, cond, not, refl, sym, ◌∙◌, subst, arith}
 use Rattle.jc_api.specs.declared.class.ApiClass.TheVariants as api
-use Rattle.jc_cap_desc.specs.Shape.{ClassShape}
 use Rattle.jc_classes.specs.Subtype.{IsSubtype, is_class_at, is_class_below, is_interface_at, is_subtype}
 use Rattle.jc_classes.specs.Subtype.IsSubtype.{by_interface, by_superclass, object, same}
-use Rattle.jc_classes.specs.World.{class_at}
 use Rattle.jc_link.specs.MemberType.{counted}
 use Rattle.jc_names.specs.declared.name.ClassName.{ClassName}
 use Rattle.jc_names.specs.declared.name.ClassName.TheVariants.{Api}
@@ -59,16 +55,7 @@ module _ {C : Type 0} (s : Surroundings C) (ground : Ground s) where
 
   -- a class isn't an interface
   not_both : (c : ClassName) → is_class_at s.world.shapes c ≡ true → is_interface_at s.world.shapes c ≡ true → ⊥
-  not_both c a b = by_class (class_at s.world.shapes c) a b
-    where
-      by_body : (b : Bool) → b ≡ true → not b ≡ true → ⊥
-      by_body true e f = absurd cc
-      by_body false e f = absurd cc
-
-      by_class : (k : Option ClassShape) → option_map_or (λ k. is_class k.body) k false ≡ true
-          → option_map_or (λ k. not (is_class k.body)) k false ≡ true → ⊥
-      by_class None e f = absurd cc
-      by_class (Some k) e f = by_body (is_class k.body) e f
+  not_both c a b = grind (arith, not)
 
   -- an interface is below no class but Object
   pub interface_object : (c e : ClassName) → IsSubtype s.world.shapes c e → is_interface_at s.world.shapes c ≡ true
@@ -99,9 +86,7 @@ module _ {C : Type 0} (s : Surroundings C) (ground : Ground s) where
 
   pub counted_below : (c e : ClassName) → is_subtype s.world.shapes c e ≡ true
       → is_class_below s.world.shapes (counted s.world.shapes c) (counted s.world.shapes e) ≡ true
-  counted_below c e sub =
-      counted_as c e (is_interface_at s.world.shapes c) (is_class_at s.world.shapes e)
-      (is_interface_at s.world.shapes e) refl refl refl sub
+  counted_below c e sub = grind (arith, counted_as)
 
   pub counted_reflexive : (c : ClassName)
       → is_class_below s.world.shapes (counted s.world.shapes c) (counted s.world.shapes c) ≡ true

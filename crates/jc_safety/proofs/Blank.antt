@@ -1,5 +1,5 @@
 -- Objects of the API's classes have no fields that a package declares: each of their cells is a word.
-use Rattle.std.proofs.Common.{◌≡◌, ℕ, zero, suc, List, [], ◌∷◌, map, Option, Some, None, slice_get, sym, subst}
+use Rattle.std.proofs.Common.{◌≡◌, ℕ, zero, suc, List, [], ◌∷◌, map, Option, Some, None, slice_get, sym, subst, arith}
 use Rattle.std.specs.List.{AllByRecursion, range_with_len}
 use Rattle.std.specs.Option.{option_map, option_map_or}
 use Rattle.jc_api.specs.Class as tables
@@ -26,8 +26,7 @@ blank_each f none (x ∷ xs) = (none x, blank_each f none xs)
 module _ (world : List Shape) (there : (c : ApiClass) → StandsThere world c) where
   blank_above : (n : ℕ) → ((c : ApiClass) → AreBlank (fields_within world n (Api c))) → (o : Option ApiClass)
       → AreBlank (option_map_or (fields_within world n) (option_map Api o) [])
-  blank_above n each None = tt
-  blank_above n each (Some d) = each d
+  blank_above n h1 o = grind arith
 
   all_blank : (n : ℕ) (c : ApiClass) → AreBlank (fields_within world n (Api c))
   all_blank zero c = tt

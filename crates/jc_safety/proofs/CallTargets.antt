@@ -1,7 +1,6 @@
 -- What the entries of a constant pool lead to that calls are for: the method is there, and of the type that they name.
-use Rattle.std.proofs.Common.{◌≡◌, ℕ, ◌==◌, List}
-use Rattle.std.proofs.Common.{Bool, true, false, cond, Option, Some, None, slice_get}
-use Rattle.std.proofs.Common.{refl, sym, ap, ◌∙◌, subst, eqb-true}
+use Rattle.std.proofs.Common.{◌≡◌, ℕ, ◌==◌, List, arith, Bool, true, cond, Option, Some, None, slice_get, refl, sym, ap}
+use Rattle.std.proofs.Common.{◌∙◌, subst, eqb-true}
 use Rattle.std.specs.List.{find}
 use Rattle.std.specs.Option.{option_and_then}
 use Rattle.jc_base.specs.Signature.{Signature}
@@ -11,14 +10,12 @@ use Rattle.jc_cap.specs.declared.entry.MemberRef.{MemberRef}
 use Rattle.jc_cap.specs.declared.entry.PoolEntry.{PoolEntry}
 use Rattle.jc_cap.specs.declared.entry.PoolEntry.TheVariants as Entries
 use Rattle.jc_classes.specs.Members.{DeclaredMethod, method_at}
-use Rattle.jc_classes.specs.Methods.{method_name}
-use Rattle.jc_classes.specs.Methods.{virtual_method_of}
+use Rattle.jc_classes.specs.Methods.{method_name, virtual_method_of}
 use Rattle.jc_classes.specs.Subtype.{is_class_at}
 use Rattle.jc_classes.specs.World.{class_at, class_named, superclass_of}
 use Rattle.jc_link.specs.MemberType.{declared_type_of, member_type_of, method_type_of}
 use Rattle.jc_link.specs.Named.{if_passes, is_concrete, method_above, named_above, named_by, named_field}
-use Rattle.jc_link.specs.Named.{named_static_field}
-use Rattle.jc_link.specs.Named.{named_static_method, named_virtual, static_place}
+use Rattle.jc_link.specs.Named.{named_static_field, named_static_method, named_virtual, static_place}
 use Rattle.jc_link.specs.Target.{pool_target_of, target_of, target_of_declared}
 use Rattle.jc_link.specs.declared.named.Named.{Named}
 use Rattle.jc_link.specs.declared.named.Named.TheVariants as Names
@@ -31,12 +28,10 @@ use Rattle.jc_safety.proofs.Callees.{and_then, mapped_from}
 use Rattle.jc_safety.proofs.Ground.{found_there}
 
 pub if_so : {A : Type 0} (b : Bool) (a : A) (x : A) → cond b (Some a) None ≡ Some x → (b ≡ true) × (a ≡ x)
-if_so true a x e = (refl, cc)
-if_so false a x e = absurd cc
+if_so b a x h1 = grind arith
 
 pub then_so : {A : Type 0} (b : Bool) (o : Option A) (x : A) → cond b o None ≡ Some x → (b ≡ true) × (o ≡ Some x)
-then_so true o x e = (refl, e)
-then_so false o x e = absurd cc
+then_so b o x h1 = grind arith
 
 -- a virtual method, as its class finds it
 pub record IsVirtual (world : List Shape) (home : ℕ) (entry : PoolEntry) (class : ClassName) (token : ℕ)
@@ -80,32 +75,16 @@ module _ (world : List Shape) (home : ℕ) where
   names_virtual : (named : Named) (class : ClassName) (token : ℕ) (signature : Signature ClassName)
       → target_of world named ≡ Some (To.VirtualMethod class token signature) → NamesVirtual named class token signature
   names_virtual (Names.Class c) class token signature e = absurd cc
-  names_virtual (Names.InstanceField c k) class token signature e =
-      let a = mapped_from _ _ (To.VirtualMethod class token signature) e in absurd cc
-  names_virtual (Names.StaticField place) class token signature e =
-      let a = mapped_from _ _ (To.VirtualMethod class token signature) e in absurd cc
-  names_virtual (Names.VirtualMethod c k x) class token signature e =
-      let a = mapped_from (To.VirtualMethod c k) (method_type_of world x) (To.VirtualMethod class token signature) e in
-      let is_class : c ≡ class = cc in
-      let is_token : k ≡ token = cc in
-      let is_type : a.0 ≡ signature = cc in record {
-        method = x;
-        is =
-            ap (λ (y : ClassName). Names.VirtualMethod y k x) is_class
-            ∙ ap (λ (y : ℕ). Names.VirtualMethod class y x) is_token;
-        type = a.1 ∙ ap Some is_type;
-      }
-  names_virtual (Names.SuperMethod c x) class token signature e =
-      let a = mapped_from _ _ (To.VirtualMethod class token signature) e in absurd cc
-  names_virtual (Names.StaticMethod x) class token signature e =
-      let a = and_then (target_of_declared world x) (method_at world x) _ e in
-      let b = mapped_from _ _ (To.VirtualMethod class token signature) a.2 in absurd cc
+  names_virtual (Names.InstanceField c k) class token signature e = grind (arith, mapped_from)
+  names_virtual (Names.StaticField place) class token signature e = grind (arith, mapped_from)
+  names_virtual (Names.VirtualMethod c k x) class token signature e = grind (arith, mapped_from)
+  names_virtual (Names.SuperMethod c x) class token signature e = grind (arith, mapped_from)
+  names_virtual (Names.StaticMethod x) class token signature e = grind (arith, and_then, mapped_from)
 
   by_entry_virtual : (entry : PoolEntry) (class : ClassName) (token : ℕ) (signature : Signature ClassName)
       → (method : MethodName) → named_by world home entry ≡ Some (Names.VirtualMethod class token method)
       → method_type_of world method ≡ Some signature → IsVirtual world home entry class token signature
-  by_entry_virtual (Entries.Classref ref) class token signature method e type =
-      let a = mapped_from Names.Class (class_named world home ref) _ e in absurd cc
+  by_entry_virtual (Entries.Classref ref) class token signature method e type = grind (arith, mapped_from)
   by_entry_virtual (Entries.InstanceFieldref r) class token signature method e type =
       let a = and_then (named_field world r.token) (class_named world home r.class) _ e in
       let b = mapped_from _ _ (Names.VirtualMethod class token method) a.2 in absurd cc
@@ -130,9 +109,7 @@ module _ (world : List Shape) (home : ℕ) where
       let a = and_then (named_above world home r.token) (class_named world home r.class) _ e in
       let b = then_so (is_class_at world a.0) _ _ a.2 in
       let c = mapped_from _ _ (Names.VirtualMethod class token method) b.1 in absurd cc
-  by_entry_virtual (Entries.StaticFieldref r) class token signature method e type =
-      let a = and_then (named_static_field world) (static_place (λ row. row.fields) world home r) _ e in
-      let b = mapped_from _ _ (Names.VirtualMethod class token method) a.2 in absurd cc
+  by_entry_virtual (Entries.StaticFieldref r) class token signature method e type = grind (arith, and_then, mapped_from)
   by_entry_virtual (Entries.StaticMethodref r) class token signature method e type =
       let a = and_then (named_static_method world) (static_place (λ row. row.methods) world home r) _ e in
       let b = mapped_from _ _ (Names.VirtualMethod class token method) a.2 in absurd cc
@@ -155,12 +132,9 @@ module _ (world : List Shape) (home : ℕ) where
   names_super : (named : Named) (class : ClassName) (method : MethodName) (signature : Signature ClassName)
       → target_of world named ≡ Some (To.SuperMethod class method signature) → NamesSuper named class method signature
   names_super (Names.Class c) class method signature e = absurd cc
-  names_super (Names.InstanceField c k) class method signature e =
-      let a = mapped_from _ _ (To.SuperMethod class method signature) e in absurd cc
-  names_super (Names.StaticField place) class method signature e =
-      let a = mapped_from _ _ (To.SuperMethod class method signature) e in absurd cc
-  names_super (Names.VirtualMethod c k x) class method signature e =
-      let a = mapped_from _ _ (To.SuperMethod class method signature) e in absurd cc
+  names_super (Names.InstanceField c k) class method signature e = grind (arith, mapped_from)
+  names_super (Names.StaticField place) class method signature e = grind (arith, mapped_from)
+  names_super (Names.VirtualMethod c k x) class method signature e = grind (arith, mapped_from)
   names_super (Names.SuperMethod c x) class method signature e =
       let a = mapped_from (To.SuperMethod c x) (method_type_of world x) (To.SuperMethod class method signature) e in
       let is_class : c ≡ class = cc in
@@ -171,18 +145,13 @@ module _ (world : List Shape) (home : ℕ) where
             ∙ ap (λ (y : MethodName). Names.SuperMethod class y) is_method;
         type = ap (method_type_of world) (sym is_method) ∙ a.1 ∙ ap Some is_type;
       }
-  names_super (Names.StaticMethod x) class method signature e =
-      let a = and_then (target_of_declared world x) (method_at world x) _ e in
-      let b = mapped_from _ _ (To.SuperMethod class method signature) a.2 in absurd cc
+  names_super (Names.StaticMethod x) class method signature e = grind (arith, and_then, mapped_from)
 
   by_entry_super : (entry : PoolEntry) (class : ClassName) (method : MethodName) (signature : Signature ClassName)
       → named_by world home entry ≡ Some (Names.SuperMethod class method)
       → method_type_of world method ≡ Some signature → IsSuper world home class method signature
-  by_entry_super (Entries.Classref ref) class method signature e type =
-      let a = mapped_from Names.Class (class_named world home ref) _ e in absurd cc
-  by_entry_super (Entries.InstanceFieldref r) class method signature e type =
-      let a = and_then (named_field world r.token) (class_named world home r.class) _ e in
-      let b = mapped_from _ _ (Names.SuperMethod class method) a.2 in absurd cc
+  by_entry_super (Entries.Classref ref) class method signature e type = grind (arith, mapped_from)
+  by_entry_super (Entries.InstanceFieldref r) class method signature e type = grind (arith, and_then, mapped_from)
   by_entry_super (Entries.VirtualMethodref r) class method signature e type =
       let a = and_then (named_virtual world home r.token) (class_named world home r.class) _ e in
       let b = then_so (is_class_at world a.0) _ _ a.2 in
@@ -205,12 +174,8 @@ module _ (world : List Shape) (home : ℕ) where
         concrete = subst (λ (x : MethodName). is_concrete world x ≡ true) (g.1 ∙ is_method) g.0;
         type = type;
       }
-  by_entry_super (Entries.StaticFieldref r) class method signature e type =
-      let a = and_then (named_static_field world) (static_place (λ row. row.fields) world home r) _ e in
-      let b = mapped_from _ _ (Names.SuperMethod class method) a.2 in absurd cc
-  by_entry_super (Entries.StaticMethodref r) class method signature e type =
-      let a = and_then (named_static_method world) (static_place (λ row. row.methods) world home r) _ e in
-      let b = mapped_from _ _ (Names.SuperMethod class method) a.2 in absurd cc
+  by_entry_super (Entries.StaticFieldref r) class method signature e type = grind (arith, and_then, mapped_from)
+  by_entry_super (Entries.StaticMethodref r) class method signature e type = grind (arith, and_then, mapped_from)
 
   pub is_super : (entry : PoolEntry) (class : ClassName) (method : MethodName) (signature : Signature ClassName)
       → pool_target_of world home entry ≡ Some (To.SuperMethod class method signature)
@@ -235,14 +200,10 @@ module _ (world : List Shape) (home : ℕ) where
       → (signature : Signature ClassName) → target_of world named ≡ Some (To.StaticMethod class method static signature)
       → NamesStatic named class method static signature
   names_static (Names.Class c) class method static signature e = absurd cc
-  names_static (Names.InstanceField c k) class method static signature e =
-      let a = mapped_from _ _ (To.StaticMethod class method static signature) e in absurd cc
-  names_static (Names.StaticField place) class method static signature e =
-      let a = mapped_from _ _ (To.StaticMethod class method static signature) e in absurd cc
-  names_static (Names.VirtualMethod c k x) class method static signature e =
-      let a = mapped_from _ _ (To.StaticMethod class method static signature) e in absurd cc
-  names_static (Names.SuperMethod c x) class method static signature e =
-      let a = mapped_from _ _ (To.StaticMethod class method static signature) e in absurd cc
+  names_static (Names.InstanceField c k) class method static signature e = grind (arith, mapped_from)
+  names_static (Names.StaticField place) class method static signature e = grind (arith, mapped_from)
+  names_static (Names.VirtualMethod c k x) class method static signature e = grind (arith, mapped_from)
+  names_static (Names.SuperMethod c x) class method static signature e = grind (arith, mapped_from)
   names_static (Names.StaticMethod x) class method static signature e =
       let a = and_then (target_of_declared world x) (method_at world x) _ e in
       let b = mapped_from (To.StaticMethod (a.0).class x (a.0).method.is_static) (declared_type_of world a.0)
@@ -302,8 +263,7 @@ module _ (world : List Shape) (home : ℕ) where
       }
 
 else_so : {A : Type 0} (b : Bool) (o : Option A) (x : A) → cond b None o ≡ Some x → o ≡ Some x
-else_so true o x e = absurd cc
-else_so false o x e = e
+else_so b o x h1 = grind arith
 
 -- the row that says an interface's method, where the interface stands
 pub record IsOfInterface (world : List Shape) (interface : ClassName) (token : ℕ)

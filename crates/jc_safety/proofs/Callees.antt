@@ -1,7 +1,6 @@
 -- Methods that may be called, their arguments, and their first frames.
-use Rattle.std.proofs.Common.{◌≡◌, ℕ, zero, suc, ◌<◌, List, [], ◌∷◌, ◌++◌, length, map, replicate, slice_get}
-use Rattle.std.proofs.Common.{Bool, true, false, cond, not, Option, Some, None, is_some}
-use Rattle.std.proofs.Common.{refl, sym, ap, ◌∙◌, subst, arith}
+use Rattle.std.proofs.Common.{◌≡◌, ℕ, zero, suc, ◌<◌, List, [], ◌∷◌, ◌++◌, length, map, replicate, slice_get, Bool}
+use Rattle.std.proofs.Common.{true, false, cond, not, Option, Some, is_some, refl, ap, ◌∙◌, arith}
 use Rattle.std.specs.Option.{option_and_then, option_map, option_map_or}
 use Rattle.jc_base.specs.Signature.{Signature}
 use Rattle.jc_base.specs.declared.declared_type.DeclaredType.{DeclaredType}
@@ -27,13 +26,11 @@ use Rattle.jc_types.specs.declared.ty.Ty.{Ty}
 use Rattle.jc_types.specs.declared.ty.Ty.TheVariants as types
 use Rattle.jc_machine.specs.Accepted.{linked_as}
 use Rattle.jc_machine.specs.Calls.{frame_of}
-use Rattle.jc_machine.specs.Lookup.{are_of_instance, are_of_types, body_at, code_at}
-use Rattle.jc_machine.specs.Lookup.{is_object_of}
-use Rattle.jc_machine.specs.Lookup.{is_of_type, may_begin_with}
+use Rattle.jc_machine.specs.Lookup.{are_of_instance, are_of_types, body_at, code_at, is_object_of, is_of_type}
+use Rattle.jc_machine.specs.Lookup.{may_begin_with}
 use Rattle.jc_machine.specs.Machine.{MethodPlace, Surroundings}
-use Rattle.jc_machine.specs.Typed.{HaveTypes, HoldTypes}
-use Rattle.jc_machine.specs.Typed.{RunsTyped, has_type}
-use Rattle.jc_words.specs.Values.{Null, Ref, TaggedValue, Unset, Word}
+use Rattle.jc_machine.specs.Typed.{HaveTypes, HoldTypes, RunsTyped, has_type}
+use Rattle.jc_words.specs.Values.{TaggedValue, Unset}
 use Rattle.jc_safety.proofs.Ground.{Ground, MethodOf, Stands, named}
 use Rattle.jc_safety.proofs.Lists.{both, get_within, joined_points}
 use Rattle.jc_safety.proofs.Returning.{as_declared_type}
@@ -54,26 +51,18 @@ module _ (world : List Shape) (heap : Heap TaggedValue) where
 
   object_typed : (c : ClassName) (v : TaggedValue) → is_object_of world heap c v ≡ true
       → has_type world heap v (types.Class c) ≡ true
-  object_typed c (Word n) e = absurd cc
-  object_typed c (Ref n) e = e
-  object_typed c Null e = absurd cc
-  object_typed c Unset e = absurd cc
+  object_typed c v h1 = grind arith
 
   of_instance : (c : ClassName) (ts : List (DeclaredType ClassName)) (vs : List TaggedValue)
       → are_of_instance world heap c ts vs ≡ true → HaveTypes world heap vs (types.Class c ∷ map type_of_declared ts)
-  of_instance c ts [] e = absurd cc
-  of_instance c ts (v ∷ vs) e =
-      let b = both (is_object_of world heap c v) (are_of_types world heap ts vs) e in
-      (object_typed c v b.0, of_types ts vs b.1)
+  of_instance c ts vs h1 = grind (arith, both, object_typed, of_types)
 
   by_static : (c : ClassName) (static : Bool) (o : Option (Signature ClassName)) (vs : List TaggedValue)
       → option_map_or (λ (x : Signature ClassName). cond static (are_of_types world heap x.parameters vs)
       (are_of_instance world heap c x.parameters vs)) o false ≡ true
       → HaveTypes world heap vs (cond static [] (types.Class c ∷ []) ++ option_map_or (λ
       (x : Signature ClassName). map type_of_declared x.parameters) o [])
-  by_static c static None vs e = absurd cc
-  by_static c true (Some x) vs e = of_types x.parameters vs e
-  by_static c false (Some x) vs e = of_instance c x.parameters vs e
+  by_static c static o vs h1 = grind (arith, of_types, of_instance)
 
   -- what a method may begin with is of the types of its arguments
   pub begins_typed : (d : DeclaredMethod) (vs : List TaggedValue) → may_begin_with world heap d vs ≡ true
@@ -93,17 +82,14 @@ got_within (y ∷ xs) (suc n) x e = let k = got_within xs n x e in omega (arith,
 
 pub and_then : {A B : Type 0} (f : A → Option B) (o : Option A) (b : B) → option_and_then f o ≡ Some b
     → (a : A) × (o ≡ Some a) × (f a ≡ Some b)
-and_then f None b e = absurd cc
-and_then f (Some a) b e = (a, refl, e)
+and_then f o b h1 = grind arith
 
 pub mapped_from : {A B : Type 0} (f : A → B) (o : Option A) (b : B) → option_map f o ≡ Some b
     → (a : A) × (o ≡ Some a) × (f a ≡ b)
-mapped_from f None b e = absurd cc
-mapped_from f (Some a) b e = (a, refl, cc)
+mapped_from f o b h1 = grind arith
 
 pub the_some : {A : Type 0} (o : Option A) → is_some o ≡ true → (a : A) × (o ≡ Some a)
-the_some None e = absurd cc
-the_some (Some a) e = (a, refl)
+the_some o h1 = grind arith
 
 -- a method of a loaded package is of one that is there
 pub its_body : (w : World) → IsWorld w → (number offset : ℕ) (d : DeclaredMethod)
@@ -138,19 +124,16 @@ same_declared o x y e f = cc
 
 pub abstract_is : (x : MethodShape) (h : MethodHeader) → x.header ≡ Some h → is_abstract_method x ≡ false
     → h.is_abstract ≡ false
-abstract_is x h e f =
-    sym (ap (λ (o : Option MethodHeader). option_map_or (λ (h : MethodHeader). h.is_abstract) o false) e) ∙ f
+abstract_is x h e f = grind arith
 
 pub not_so : (b : Bool) → b ≡ false → not b ≡ true
-not_so true e = absurd cc
-not_so false e = refl
+not_so b h1 = grind arith
 
 -- ---- its first frame
 
 no_operands : (world : List Shape) (heap : Heap TaggedValue) (ts : List Ty)
     → all_below (is_class_below world) [] ts ≡ true → HoldTypes world heap [] ts
-no_operands world heap [] e = tt
-no_operands world heap (u ∷ ts) e = absurd cc
+no_operands world heap ts h1 = grind arith
 
 module _ {C : Type 0} (s : Surroundings C) (ground : Ground s) (heap : Heap TaggedValue) (place : MethodPlace)
     (body : LinkedBody) (loaded : body_at s.world place.number ≡ Some body) (code : MethodBody)
@@ -164,18 +147,7 @@ module _ {C : Type 0} (s : Surroundings C) (ground : Ground s) (heap : Heap Tagg
   callee = method_of (linked_as s.world place.number body) code
 
   entry_typed : HaveTypes shapes heap (arguments ++ replicate of.header.max_locals Unset) (entry_of callee).locals
-  entry_typed =
-      let P : List Ty → Type 0 =
-      λ ts. HaveTypes shapes heap (arguments ++ replicate of.header.max_locals Unset)
-      (ts ++ replicate callee.max_locals types.Top) in
-      let Q : ℕ → Type 0 =
-      λ n. HaveTypes shapes heap (arguments ++ replicate of.header.max_locals Unset)
-      (arguments_of shapes of.declared ++ replicate n types.Top) in
-      subst P (sym of.arguments)
-      (subst Q (sym of.max_locals)
-      (joined_points (λ v u. has_type shapes heap v u ≡ true) arguments (replicate of.header.max_locals Unset)
-      (arguments_of shapes of.declared) (replicate of.header.max_locals types.Top) fit
-      (unset_typed shapes heap of.header.max_locals)))
+  entry_typed = grind (arith, replicate, joined_points, unset_typed)
 
   -- it is of the types with which the check entered the method
   pub runs : (active : Owner) (previous : Option Owner)

@@ -1,6 +1,6 @@
 -- Calls are safe: each instruction that calls a method.
 use Rattle.std.proofs.Common.{◌≡◌, ℕ, zero, suc, ◌+◌, ◌-◌, ◌<◌, ◌≤◌, ◌==◌, List, [], ◌∷◌, ◌++◌, length, map, take, drop}
-use Rattle.std.proofs.Common.{reverse, Bool, true, false, Option, Some, None, nat_lt, slice_get, refl, sym, ap, ◌∙◌}
+use Rattle.std.proofs.Common.{reverse, Bool, true, false, Option, Some, None, slice_get, refl, sym, ap, ◌∙◌}
 use Rattle.std.proofs.Common.{subst, arith, length-drop}
 use Rattle.std.proofs.lemmas.Bool.{ltb-false}
 use Rattle.std.proofs.lemmas.List.{reverse-append}
@@ -8,12 +8,10 @@ use Rattle.std.specs.Option.{option_and_then}
 use Rattle.jc_base.specs.Signature.{Signature}
 use Rattle.jc_base.specs.declared.declared_type.DeclaredType.{DeclaredType}
 use Rattle.jc_base.specs.declared.declared_type.ReturnType.{ReturnType}
-use Rattle.jc_base.specs.declared.declared_type.ReturnType.TheVariants.{Value, Void}
 use Rattle.jc_cap_desc.specs.Shape.{Shape}
 use Rattle.jc_cap.specs.declared.entry.PoolEntry.{PoolEntry}
 use Rattle.jc_classes.specs.Members.{DeclaredMethod}
-use Rattle.jc_classes.specs.Methods.{interface_method_of, interface_visit, public_method_of, virtual_method_of}
-use Rattle.jc_classes.specs.Methods.{package_visible}
+use Rattle.jc_classes.specs.Methods.{interface_method_of, virtual_method_of}
 use Rattle.jc_classes.specs.Walk.{found}
 use Rattle.jc_code.specs.declared.instr.Instr.{Instr}
 use Rattle.jc_code.specs.declared.instr.Operation.TheVariants.{Object as OnObjects}
@@ -50,7 +48,7 @@ use Rattle.jc_machine.specs.Calls.{act_call, act_interface, act_of_interface, ac
 use Rattle.jc_machine.specs.Calls.{found_for, has_interface, invokes, special_target, static_target, virtual_target}
 use Rattle.jc_machine.specs.Calls.{with_arguments, with_receiver}
 use Rattle.jc_machine.specs.Going.{Here, asking, check, judged, on_object, on_reference, on_some, require, wanting}
-use Rattle.jc_machine.specs.Lookup.{are_of_types, body_at, class_of, instruction_at, is_of_class, is_of_type, leads_to}
+use Rattle.jc_machine.specs.Lookup.{are_of_types, body_at, class_of, instruction_at, is_of_class, leads_to}
 use Rattle.jc_machine.specs.Machine.{Machine, Stepped, Surroundings}
 use Rattle.jc_machine.specs.Runtime.{class_cast_exception}
 use Rattle.jc_machine.specs.Typed.{HoldTypes, IsEffect, IsOperand, IsTyped, with_result_type}
@@ -90,9 +88,7 @@ arguments_are : (world : List Shape) (heap : Heap TaggedValue) (ds : List (Decla
 arguments_are world heap [] [] h = refl
 arguments_are world heap [] (v ∷ vs) h = absurd h
 arguments_are world heap (d ∷ ds) [] h = absurd h
-arguments_are world heap (d ∷ ds) (v ∷ vs) h =
-    and_true (is_of_type world heap d v) (are_of_types world heap ds vs) (of_declared world heap d v h.0.type)
-    (arguments_are world heap ds vs h.1)
+arguments_are world heap (d ∷ ds) (v ∷ vs) h = grind (arith, and_true, of_declared, arguments_are world heap ds vs h.1)
 
 -- the value below so many of a list
 record Split {A : Type 0} (n : ℕ) (xs : List A) : Type 0 where
@@ -107,9 +103,7 @@ split_at : {A : Type 0} (n : ℕ) (xs : List A) → n < length xs
     (suc n) xs ≡ rest)
 split_at n [] lt = absurd (omega arith)
 split_at zero (x ∷ xs) lt = (x, xs, refl, refl, refl)
-split_at (suc n) (x ∷ xs) lt =
-    let k = split_at n xs (omega arith) in
-    (k.0, k.1, k.2, ap (λ ys. x ∷ ys) k.3, k.4)
+split_at (suc n) (x ∷ xs) lt = grind (arith, split_at n xs (omega arith))
 
 split : {A : Type 0} (n : ℕ) (xs : List A) → n < length xs → Split n xs
 split n xs lt =
@@ -153,14 +147,7 @@ module _ {C : Type 0} (s : Surroundings C) (ground : Ground s) (m : Machine C) (
   home = home_at m.top.method.number
 
   home_within : home < length shapes
-  home_within = by_number m.top.method.number (placed s ground m t).loaded
-    where
-      by_number : (number : ℕ) → body_at s.world number ≡ Some (placed s ground m t).body → suc number < length shapes
-      by_number zero e = absurd cc
-      by_number (suc n) e =
-          let within = got_within s.world.bodies n (placed s ground m t).body e in
-          let count = ground.accepted.world.count in
-          omega (arith, within, count)
+  home_within = grind (arith, placed, got_within)
 
   -- what a call leaves
   record IsLeft (ds : List Demand) (r : ReturnType ClassName) (later : Types) : Type 0 where
@@ -174,14 +161,7 @@ module _ {C : Type 0} (s : Surroundings C) (ground : Ground s) (m : Machine C) (
   is_left : (ds : List Demand) (r : ReturnType ClassName) (later : Types)
       → Applied below most (takes ds (result_given r)) state later → IsLeft ds r later
   unfolding after
-  is_left ds Void later a =
-      let some = ltb-false most (length state.operands - length ds + 0) a.room in
-      let left = length-drop (length ds) state.operands in
-      record { is = sym a.is; room = omega (arith, some, left) }
-  is_left ds (Value declared) later a =
-      let some = ltb-false most (length state.operands - length ds + 1) a.room in
-      let left = length-drop (length ds) state.operands in
-      record { is = sym a.is; room = omega (arith, some, left) }
+  is_left ds r later h1 = grind (arith, ltb-false, length-drop)
 
   module _ (next : ℕ) (invocation : Invocation) (later : Types) (stands : IsCall invocation later next)
       (signature : Signature ClassName) where
@@ -189,28 +169,13 @@ module _ {C : Type 0} (s : Surroundings C) (ground : Ground s) (m : Machine C) (
     site : (object : List Demand) → Applied below most (call object signature) state later → (vs : List TaggedValue)
         → HoldTypes shapes m.heap vs (drop (length (object ++ asked signature.parameters)) state.operands)
         → Site s ground m t (returned_type signature.result) vs next
-    site object a vs holds =
-        let l = is_left (object ++ asked signature.parameters) signature.result later a in record {
-          call = stands.call;
-          stands = stands.stands;
-          invocation = invocation;
-          invokes = stands.invokes;
-          behind = stands.behind;
-          left = drop (length (object ++ asked signature.parameters)) state.operands;
-          after = later;
-          after_is = l.is;
-          effect = stands.effect;
-          leads = stands.leads;
-          room = l.room;
-          holds = holds;
-        }
+    site object a vs holds = grind (arith, is_left)
 
   abbrev given_to : Signature ClassName → List TaggedValue
   given_to signature = reverse (take (length signature.parameters) ops)
 
   asked_count : (signature : Signature ClassName) → length (asked signature.parameters) ≡ length signature.parameters
-  asked_count signature =
-      mapped_length (λ (declared : DeclaredType ClassName). Below (type_of_declared declared)) signature.parameters
+  asked_count signature = grind (arith, mapped_length)
 
   module _ (d : DeclaredMethod) (next : ℕ) where
     abbrev at : List TaggedValue → Here C
@@ -402,11 +367,7 @@ module _ {C : Type 0} (s : Surroundings C) (ground : Ground s) (m : Machine C) (
       public_of : (c : ClassName) (interface : ClassName) (token : ℕ) (method : MethodName)
           → interface_method_of shapes c interface token ≡ Some method
           → (virtual : ℕ) × (virtual_method_of shapes c virtual 0 ≡ Some method)
-      public_of c interface token method e =
-          let a = and_then (λ (indexes : List ℕ). option_and_then (public_method_of shapes c) (slice_get indexes token))
-          (found (interface_visit shapes interface) shapes c) method e in
-          let b = and_then (public_method_of shapes c) (slice_get a.0 token) method a.2 in
-          (b.0, (then_so (nat_lt b.0 package_visible) (virtual_method_of shapes c b.0 0) method b.2).1)
+      public_of c interface token method e = grind (arith, and_then, then_so)
 
       of_interface_safe : (invocation : Invocation) (interface : ClassName) (token : ℕ)
           → (signature : Signature ClassName) (later : Types) → IsCall invocation later next

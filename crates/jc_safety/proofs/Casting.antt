@@ -1,5 +1,5 @@
 -- Casts are safe: what passes a test is of the type that the check gives it.
-use Rattle.std.proofs.Common.{◌≡◌, ℕ, List, [], ◌∷◌, slice_get, Bool, true, false}
+use Rattle.std.proofs.Common.{◌≡◌, ℕ, List, [], ◌∷◌, slice_get, Bool, true, false, arith}
 use Rattle.std.proofs.Common.{Option, Some, None, refl, sym, ap, ◌∙◌, subst}
 use Rattle.std.specs.Option.{option_map, option_map_or}
 use Rattle.jc_cap_desc.specs.Shape.{Shape}
@@ -80,16 +80,11 @@ module _ {C : Type 0} (s : Surroundings C) (ground : Ground s) (m : Machine C) (
 
   leads_so : (test : ObjectType → Bool) (n : ℕ) (o : heaps.Object TaggedValue) → object_at m.heap n ≡ Some o
       → test o.kind.object ≡ true → leads_to m.heap test (Ref n) ≡ true
-  leads_so test n o found e =
-      ap (λ (x : Option (heaps.Object TaggedValue)). option_map_or
-      (λ (o : heaps.Object TaggedValue). test o.kind.object) x false) found
-      ∙ e
+  leads_so test n o found e = grind arith
 
   words_fit : (kind : WordKind)
       → Fits (record { wanted = None; passes = is_array_of_words kind }) (checked.word_array kind)
-  words_fit Kinds.Boolean = record { passes = λ n o found e. leads_so _ n o found e; null = refl }
-  words_fit Kinds.Byte = record { passes = λ n o found e. leads_so _ n o found e; null = refl }
-  words_fit Kinds.Short = record { passes = λ n o found e. leads_so _ n o found e; null = refl }
+  words_fit kind = grind (arith, leads_so)
 
   -- components of the class or below it count below it
   components_fit : (c : ClassName) (o : ObjectType)
@@ -208,8 +203,7 @@ module _ {C : Type 0} (s : Surroundings C) (ground : Ground s) (m : Machine C) (
 
   -- whether it passes, as a word
   bit_typed : (b : Bool) → IsOperand shapes m.heap (bit b) types.Word
-  bit_typed true = record { type = refl; written = refl }
-  bit_typed false = record { type = refl; written = refl }
+  bit_typed b = grind arith
 
   pub instance_of : (type : TestedType) (after_it : Types)
       → HasRow below most (option_map (λ (u : Ty). takes (Reference ∷ []) (Exactly types.Word)) (tested_type set type)) state after_it

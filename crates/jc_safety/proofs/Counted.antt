@@ -9,12 +9,11 @@ use Rattle.jc_cap_desc.specs.Shape.{Shape}
 use Rattle.jc_cap.specs.declared.method_header.MethodHeader.{MethodHeader}
 use Rattle.jc_classes.specs.Members.{DeclaredMethod, method_at}
 use Rattle.jc_link.specs.Classes.{words_of}
-use Rattle.jc_link.specs.Found.{return_found, type_found, types_found}
-use Rattle.jc_link.specs.MemberType.{declared_type_of, type_class}
+use Rattle.jc_link.specs.Found.{type_found, types_found}
+use Rattle.jc_link.specs.MemberType.{declared_type_of}
 use Rattle.jc_link.specs.Sound.{HaveMethods}
 use Rattle.jc_machine.specs.Calls.{takes}
-use Rattle.jc_machine.specs.Lookup.{are_of_instance, are_of_types, is_object_of, is_of_type, may_begin_with}
-use Rattle.jc_names.specs.Names.{home_of}
+use Rattle.jc_machine.specs.Lookup.{are_of_instance, are_of_types, is_of_type, may_begin_with}
 use Rattle.jc_names.specs.declared.name.ClassName.{ClassName}
 use Rattle.jc_names.specs.declared.name.MethodName.{MethodName}
 use Rattle.jc_store.specs.Heap.{Heap}
@@ -34,14 +33,7 @@ types_count find (t ∷ ts) us e =
 
 parameters_count : (world : List Shape) (d : DeclaredMethod) (x : Signature ClassName)
     → declared_type_of world d ≡ Some x → length x.parameters ≡ length d.method.signature.parameters
-parameters_count world d x e =
-    let find = type_class world (home_of d.class) in
-    let s = d.method.signature in
-    let a = and_then (λ parameters. option_map (λ result. record { parameters = parameters; result = result })
-    (return_found find s.result))
-    (types_found find s.parameters) x e in
-    let r = mapped_from (λ result. record { parameters = a.0; result = result }) (return_found find s.result) x a.2 in
-    ap (λ (t : Signature ClassName). length t.parameters) (sym r.2) ∙ types_count find s.parameters a.0 a.1
+parameters_count world d x e = grind (arith, and_then, mapped_from, types_count)
 
 -- ---- values are as many as their types
 
@@ -56,10 +48,7 @@ module _ (world : List Shape) (heap : Heap TaggedValue) where
 
   instance_count : (c : ClassName) (ts : List (DeclaredType ClassName)) (vs : List TaggedValue)
       → are_of_instance world heap c ts vs ≡ true → length vs ≡ length ts + 1
-  instance_count c ts [] e = absurd cc
-  instance_count c ts (v ∷ vs) e =
-      let k = values_count ts vs (both (is_object_of world heap c v) (are_of_types world heap ts vs) e).1 in
-      omega (arith, k)
+  instance_count c ts vs h1 = grind (arith, values_count, both)
 
   begins_count : (d : DeclaredMethod) (vs : List TaggedValue) → may_begin_with world heap d vs ≡ true
       → length vs ≡ words_of d.method

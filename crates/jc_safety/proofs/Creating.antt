@@ -1,5 +1,5 @@
 -- What a new object holds at first is typed.
-use Rattle.std.proofs.Common.{◌≡◌, ℕ, ◌<◌, List, [], ◌∷◌, length, map, replicate, Option, Some, None}
+use Rattle.std.proofs.Common.{◌≡◌, ℕ, ◌<◌, List, [], ◌∷◌, length, map, replicate, Option}
 use Rattle.std.proofs.Common.{true, not, nat_lt, pos, refl, arith}
 use Rattle.std.proofs.lemmas.Bool.{ltb-true}
 use Rattle.std.proofs.lemmas.List.{length-replicate}
@@ -22,15 +22,7 @@ use Rattle.jc_safety.proofs.Lists.{each_replicated}
 module _ (world : List Shape) (heap : Heap TaggedValue) where
   initial_fits : (field : Option (DeclaredType ClassName))
       → is_cell world heap field (option_map_or initial field (Word 0)) ≡ true
-  initial_fits None = refl
-  initial_fits (Some Declared.Boolean) = refl
-  initial_fits (Some Declared.Byte) = refl
-  initial_fits (Some Declared.Short) = refl
-  initial_fits (Some (Declared.Reference c)) = refl
-  initial_fits (Some Declared.BooleanArray) = refl
-  initial_fits (Some Declared.ByteArray) = refl
-  initial_fits (Some Declared.ShortArray) = refl
-  initial_fits (Some (Declared.ReferenceArray c)) = refl
+  initial_fits field = grind arith
 
   all_fit : (fields : List (Option (DeclaredType ClassName)))
       → Pointwise (λ v field. is_cell world heap field v ≡ true)
@@ -58,7 +50,4 @@ module _ (world : List Shape) (heap : Heap TaggedValue) where
 -- a count that isn't negative is that of an array
 pub count_fits : (n : ℕ) (v : TaggedValue) → nat_lt n 65536 ≡ true → not (int_lt (short n) (pos 0)) ≡ true
     → length (replicate n v) < 65536
-count_fits n v small e =
-    let count = length-replicate n v in
-    let low = ltb-true n 65536 small in
-    omega (arith, count, low)
+count_fits n v small e = grind (arith, length-replicate, ltb-true)

@@ -1,7 +1,6 @@
 -- What was typed in a world is typed in that world with more packages behind it.
-use Rattle.std.proofs.Common.{◌≡◌, ℕ, zero, suc, ◌<◌, List, [], ◌∷◌, ◌++◌, length, map, Option, Some, None, Bool}
-use Rattle.std.proofs.Common.{true, false}
-use Rattle.std.proofs.Common.{◌&&◌, if◌then◌else◌, not, refl, sym, ap, ◌∙◌, subst}
+use Rattle.std.proofs.Common.{◌≡◌, ℕ, zero, suc, ◌<◌, List, [], ◌∷◌, ◌++◌, length, map, Option, Some, None, Bool, arith}
+use Rattle.std.proofs.Common.{true, false, if◌then◌else◌, not, refl, sym, ap, ◌∙◌, subst}
 use Rattle.std.proofs.Math.Path.{fun_ext}
 use Rattle.std.specs.List.{AllByRecursion, filter_map, range_with_len}
 use Rattle.std.specs.Option.{option_and_then, option_map, option_map_or}
@@ -15,12 +14,11 @@ use Rattle.jc_cap_desc.specs.Shape.{ClassShape, FieldShape, Shape}
 use Rattle.jc_classes.specs.Growth.{IsWithin, KeepsAllLookups, StandWithin}
 use Rattle.jc_classes.specs.Subtype.{IsAmong, IsSubtype, is_class_at, is_class_below}
 use Rattle.jc_classes.specs.Subtype.IsSubtype.{by_interface, by_superclass, object, same}
-use Rattle.jc_classes.specs.Walk.{most_classes}
 use Rattle.jc_classes.specs.World.{class_at, class_named, listed_refs, superclass_of}
 use Rattle.jc_link.specs.Growth.{KeepsAllLinking}
 use Rattle.jc_link.specs.KnownTypes.{NameClasses, is_known_type}
 use Rattle.jc_link.specs.MemberType.{as_member, counted, field_type_of}
-use Rattle.jc_link.specs.Named.{instance_field_at, size_of, static_field_at}
+use Rattle.jc_link.specs.Named.{size_of, static_field_at}
 use Rattle.jc_link.specs.Sound.{HaveSuperclasses}
 use Rattle.jc_link.specs.Target.{instance_type_of, static_type_of}
 use Rattle.jc_link.specs.declared.named.StaticPlace.{StaticPlace}
@@ -33,9 +31,7 @@ use Rattle.jc_store.specs.Heap.{Heap}
 use Rattle.jc_store.specs.declared.kind.ObjectType.{ObjectType}
 use Rattle.jc_store.specs.declared.kind.ObjectType.TheVariants.{Instance, BooleanArray, ByteArray, ShortArray}
 use Rattle.jc_store.specs.declared.kind.ObjectType.TheVariants.{ReferenceArray}
-use Rattle.jc_machine.specs.Lookup.{class_of, fields_of, fields_within, is_instance, is_kept_as, is_of_class}
-use Rattle.jc_machine.specs.Lookup.{leads_to}
-use Rattle.jc_machine.specs.Lookup.{own_fields}
+use Rattle.jc_machine.specs.Lookup.{class_of, fields_within, is_instance, is_kept_as, is_of_class, own_fields}
 use Rattle.jc_machine.specs.Machine.{StaticValue}
 use Rattle.jc_machine.specs.Reading.{Pointwise}
 use Rattle.jc_machine.specs.Typed.{CellsTyped, ObjectTyped, StaticTyped, is_cell, may_be_made}
@@ -61,22 +57,17 @@ each_of_map P f each (x ∷ xs) = (each x, each_of_map P f each xs)
 
 module _ (before after : List Shape) (e : Enlarges before after) where
   class_within : (c : ClassName) → is_class_at before c ≡ true → IsWithin before c
-  class_within c is =
-      let k = passing (λ (k : ClassShape). is_class k.body) (class_at before c) is in e.within.classes c k.0 k.1
+  class_within c is = grind (arith, passing)
 
   -- ---- the cells of a class are the same
 
   own_same : (c : ClassName) → IsWithin before c → own_fields after c ≡ own_fields before c
-  own_same c low =
-      ap (λ (f : ℕ → Option (DeclaredType ClassName)). map f (range_with_len 0 (size_of after c)))
-      (fun_ext (λ token. e.linking.instance_types c token low))
-      ∙ ap (λ (n : ℕ). map (instance_type_of before c) (range_with_len 0 n)) (e.linking.sizes c low)
+  own_same c low = grind (arith, fun_ext)
 
   above_same : (n : ℕ) → ((c : ClassName) → IsWithin before c → fields_within after n c ≡ fields_within before n c)
       → (o : Option ClassName) → ((d : ClassName) → o ≡ Some d → IsWithin before d)
       → option_map_or (fields_within after n) o [] ≡ option_map_or (fields_within before n) o []
-  above_same n each None low = refl
-  above_same n each (Some d) low = each d (low d refl)
+  above_same n h1 o h2 = grind arith
 
   fields_same : (n : ℕ) (c : ClassName) → IsWithin before c → fields_within after n c ≡ fields_within before n c
   fields_same zero c low = refl
@@ -107,18 +98,15 @@ module _ (before after : List Shape) (e : Enlarges before after) where
 
   in_field : (home : ℕ) (f : Option FieldShape) (d : DeclaredType ClassName)
       → option_and_then (field_type_of before home) f ≡ Some d → is_known d ≡ true
-  in_field home None d is = absurd cc
-  in_field home (Some f) d is = field_known home f d is
+  in_field home f d h1 = grind (arith, field_known)
 
   at_token : (c : ClassName) (token : ℕ) (o : Option (DeclaredType ClassName)) → instance_type_of before c token ≡ o
       → IsKnownCell o
-  at_token c token None is = refl
-  at_token c token (Some d) is = in_field (home_of c) (instance_field_at before c token) d is
+  at_token c token o h1 = grind (arith, in_field)
 
   above_known : (n : ℕ) → ((c : ClassName) → AllByRecursion IsKnownCell (fields_within before n c))
       → (o : Option ClassName) → AllByRecursion IsKnownCell (option_map_or (fields_within before n) o [])
-  above_known n each None = tt
-  above_known n each (Some d) = each d
+  above_known n h1 o = grind arith
 
   fields_known : (n : ℕ) (c : ClassName) → AllByRecursion IsKnownCell (fields_within before n c)
   fields_known zero c = tt
@@ -145,8 +133,7 @@ module _ (before after : List Shape) (e : Enlarges before after) where
   listed_by c o = option_map_or (λ k. filter_map (class_named before (home_of c)) (listed_refs k.body)) o []
 
   none_listed : (c i : ClassName) → class_at before c ≡ None → IsAmong i (listed_by c (class_at before c)) → ⊥
-  none_listed c i none among =
-      subst (λ (o : Option ClassShape). IsAmong i (listed_by c o)) none among
+  none_listed c i none among = grind arith
 
   -- what isn't there is below itself and Object alone
   unknown_on : (c d x : ClassName) → class_at before c ≡ None → is_class_at before d ≡ true → IsSubtype before c d
@@ -174,32 +161,18 @@ module _ (before after : List Shape) (e : Enlarges before after) where
 
   holds_on : (c : ClassName) → is_class_at before c ≡ true → (o : ObjectType) → holds_below before c o ≡ true
       → holds_below after c o ≡ true
-  holds_on c is (Instance k) h = absurd cc
-  holds_on c is BooleanArray h = absurd cc
-  holds_on c is ByteArray h = absurd cc
-  holds_on c is ShortArray h = absurd cc
-  holds_on c is (ReferenceArray k) h = component_on k c is h
+  holds_on c h1 o h2 = grind (arith, component_on)
 
   -- ---- values, objects and static fields
 
   module _ (heap : Heap TaggedValue) where
     kept_on : (d : DeclaredType ClassName) → is_known d ≡ true → (v : TaggedValue)
         → is_kept_as before heap d v ≡ true → is_kept_as after heap d v ≡ true
-    kept_on Declared.Boolean known v h = h
-    kept_on Declared.Byte known v h = h
-    kept_on Declared.Short known v h = h
-    kept_on (Declared.Reference c) known v h =
-        leads_up heap (is_of_class before c) (is_of_class after c) v (class_on c) h
-    kept_on Declared.BooleanArray known v h = h
-    kept_on Declared.ByteArray known v h = h
-    kept_on Declared.ShortArray known v h = h
-    kept_on (Declared.ReferenceArray c) known v h =
-        leads_up heap (holds_below before c) (holds_below after c) v (holds_on c known) h
+    kept_on d h1 v h2 = grind (arith, leads_up, class_on, holds_below, holds_on)
 
     cell_on : (v : TaggedValue) (field : Option (DeclaredType ClassName)) → IsKnownCell field
         → is_cell before heap field v ≡ true → is_cell after heap field v ≡ true
-    cell_on v None known h = h
-    cell_on v (Some d) known h = kept_on d known v h
+    cell_on v field h1 h2 = grind (arith, kept_on)
 
     fields_on : (cells : List TaggedValue) (fields : List (Option (DeclaredType ClassName)))
         → AllByRecursion IsKnownCell fields → Pointwise (λ v field. is_cell before heap field v ≡ true) cells fields
@@ -211,35 +184,17 @@ module _ (before after : List Shape) (e : Enlarges before after) where
 
     cells_on : (cells : List TaggedValue) (type : ObjectType) → may_be_made before type ≡ true
         → CellsTyped before heap cells type → CellsTyped after heap cells type
-    cells_on cells (Instance c) made h =
-        let k = passing (λ (k : ClassShape). is_class k.body && not k.is_abstract) (class_at before c) made in
-        subst (λ (fs : List (Option (DeclaredType ClassName))).
-        Pointwise (λ v field. is_cell after heap field v ≡ true) cells fs)
-        (sym (fields_same most_classes c (e.within.classes c k.0 k.1)))
-        (fields_on cells (fields_of before c) (fields_known most_classes c) h)
+    cells_on cells (Instance c) made h = grind (arith, passing, not, fields_same, fields_on, fields_known)
     cells_on cells BooleanArray made h = h
     cells_on cells ByteArray made h = h
     cells_on cells ShortArray made h = h
-    cells_on cells (ReferenceArray c) made h =
-        each_mapped (λ v. leads_to heap (is_instance before c) v ≡ true)
-        (λ v. leads_to heap (is_instance after c) v ≡ true)
-        (λ v. leads_up heap (is_instance before c) (is_instance after c) v (instance_on c)) cells h
+    cells_on cells (ReferenceArray c) made h = grind (arith, each_mapped, leads_up, instance_on)
 
     made_on : (type : ObjectType) → may_be_made before type ≡ true → may_be_made after type ≡ true
-    made_on (Instance c) made =
-        let k = passing (λ (k : ClassShape). is_class k.body && not k.is_abstract) (class_at before c) made in
-        e.members.objects c (e.within.classes c k.0 k.1) ∙ made
-    made_on BooleanArray made = refl
-    made_on ByteArray made = refl
-    made_on ShortArray made = refl
-    made_on (ReferenceArray c) made = refl
+    made_on type h1 = grind (arith, passing, not)
 
     object_on : (o : heaps.Object TaggedValue) → ObjectTyped before heap o → ObjectTyped after heap o
-    object_on o h = record {
-      made = made_on o.kind.object h.made;
-      cells = cells_on o.cells o.kind.object h.made h.cells;
-      counted = h.counted;
-    }
+    object_on o h = grind (arith, made_on, cells_on)
 
     pub objects_on : (objects : Heap TaggedValue) → AllByRecursion (ObjectTyped before heap) objects
         → AllByRecursion (ObjectTyped after heap) objects

@@ -1,5 +1,5 @@
 -- A call that is entered: its caller waits, and the frame of the method that is called runs.
-use Rattle.std.proofs.Common.{◌≡◌, ℕ, ◌+◌, ◌≤◌, List, ◌∷◌, length, Bool, true, false, cond, ◌&&◌, Option, Some}
+use Rattle.std.proofs.Common.{◌≡◌, ℕ, ◌+◌, ◌≤◌, List, ◌∷◌, length, Bool, true, false, cond, ◌&&◌, Option, Some, arith}
 use Rattle.std.proofs.Common.{sym, ap, ◌∙◌, subst}
 use Rattle.std.specs.Option.{option_and_then, option_map_or}
 use Rattle.jc_cap_desc.specs.Shape.{MethodBody, Shape}
@@ -39,8 +39,7 @@ use Rattle.jc_safety.proofs.Safe.{IsSafe, safe_check, safe_some}
 
 pub safe_if : {C : Type 0} (s : Surroundings C) (b : Bool) (x y : Stepped C) → IsSafe s x → IsSafe s y
     → IsSafe s (cond b x y)
-safe_if s true x y h k = h
-safe_if s false x y h k = k
+safe_if s b x y h1 h2 = grind arith
 
 module _ {C : Type 0} (s : Surroundings C) (ground : Ground s) (m : Machine C) (t : IsTyped s m) where
   abbrev pub shapes : List Shape
@@ -76,13 +75,7 @@ module _ {C : Type 0} (s : Surroundings C) (ground : Ground s) (m : Machine C) (
     pub keeps : KeepsObjects m.heap heap
 
   pub as_it_was : Beside m.heap m.runtime
-  as_it_was = record {
-    typed = t.beside.heap;
-    statics = t.beside.statics;
-    runtime_objects = t.beside.runtime_objects;
-    fits = t.beside.fits;
-    keeps = keeps_self m.heap;
-  }
+  as_it_was = grind (arith, keeps_self)
 
   module _ (d : DeclaredMethod) (next : ℕ) (heap : Heap TaggedValue) (runtime : C) (b : Beside heap runtime) where
     abbrev pub now : Frame → List Frame → Machine C
@@ -96,12 +89,7 @@ module _ {C : Type 0} (s : Surroundings C) (ground : Ground s) (m : Machine C) (
     at us = record { around = s; machine = now (still us) m.waiting; method = d; max_stack = most; next_pc = next }
 
     pub beside_now : (top : Frame) (waiting : List Frame) → IsTypedBeside s (now top waiting)
-    beside_now top waiting = record {
-      heap = b.typed;
-      statics = b.statics;
-      runtime_objects = b.runtime_objects;
-      fits = b.fits;
-    }
+    beside_now top waiting = grind arith
 
     abbrev again : (vs : List TaggedValue) → IsPlaced s.world heap (still vs)
     again vs = record {

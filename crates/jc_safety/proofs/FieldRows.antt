@@ -1,5 +1,5 @@
 -- Instructions on fields are safe, whichever field their entry of the constant pool is.
-use Rattle.std.proofs.Common.{◌≡◌, ℕ, List, [], ◌∷◌, slice_get, drop, Bool, true, false, Option, Some, None, refl, sym}
+use Rattle.std.proofs.Common.{◌≡◌, ℕ, List, [], ◌∷◌, slice_get, drop, Bool, true, false, Option, Some, None, refl, sym, arith}
 use Rattle.std.proofs.Common.{subst}
 use Rattle.std.specs.Option.{option_and_then, option_map, option_map_or}
 use Rattle.jc_base.specs.declared.declared_type.DeclaredType.{DeclaredType}
@@ -59,20 +59,12 @@ pub record FromEntry {A : Type 0} (f : PoolTarget → Option A) (o : Option Pool
 
 pub from_entry : {A : Type 0} (f : PoolTarget → Option A) (o : Option PoolTarget) (a : A) → option_and_then f o ≡ Some a
     → FromEntry f o a
-from_entry f None a e = absurd cc
-from_entry f (Some target) a e = record { target = target; is = refl; gives = e }
+from_entry f o a h1 = grind arith
 
 -- a reference of a declared type leads to an object
 ref_there : (world : List Shape) (heap : Heap TaggedValue) (e : DeclaredType ClassName) (n : ℕ)
     → has_type world heap (Ref n) (type_of_declared e) ≡ true → leads_to heap any_object (Ref n) ≡ true
-ref_there world heap Declared.Boolean n h = absurd cc
-ref_there world heap Declared.Byte n h = absurd cc
-ref_there world heap Declared.Short n h = absurd cc
-ref_there world heap (Declared.Reference c) n h = leads_up heap _ any_object (Ref n) (λ o e. refl) h
-ref_there world heap Declared.BooleanArray n h = leads_up heap _ any_object (Ref n) (λ o e. refl) h
-ref_there world heap Declared.ByteArray n h = leads_up heap _ any_object (Ref n) (λ o e. refl) h
-ref_there world heap Declared.ShortArray n h = leads_up heap _ any_object (Ref n) (λ o e. refl) h
-ref_there world heap (Declared.ReferenceArray c) n h = leads_up heap _ any_object (Ref n) (λ o e. refl) h
+ref_there world heap e n h1 = grind (arith, leads_up, any_object)
 
 module _ {C : Type 0} (s : Surroundings C) (ground : Ground s) (m : Machine C) (t : IsTyped s m) (d : DeclaredMethod)
     (next : ℕ) where
@@ -166,9 +158,6 @@ module _ {C : Type 0} (s : Surroundings C) (ground : Ground s) (m : Machine C) (
         (rows.held s ground m t (drop 1 state.operands) after_it.operands vs l.operands_are rest) leads))))
 
   -- ---- by what the entry is
-
-  abbrev row_applies : Option Row → Types → Type 0
-  row_applies row after_it = HasRow below most row state after_it
 
   static_case : (form : Form) (action : FieldAction) (holder : Holder) (place : StaticPlace)
       → (declared : DeclaredType ClassName) → static_type_of shapes place ≡ Some declared → (r : Row) (after_it : Types)

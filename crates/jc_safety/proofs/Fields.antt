@@ -1,6 +1,6 @@
 -- Instructions on fields are safe.
 use Rattle.std.proofs.Common.{◌≡◌, ℕ, zero, suc, ◌<◌, List, [], ◌∷◌, length, set, slice_get, drop, Bool, true, Option}
-use Rattle.std.proofs.Common.{Some, nat_lt, refl, sym, ap, ◌∙◌, subst, arith}
+use Rattle.std.proofs.Common.{Some, nat_lt, sym, ap, ◌∙◌, subst, arith}
 use Rattle.std.proofs.lemmas.Bool.{lt-ltb}
 use Rattle.jc_api.specs.declared.class.ApiClass.TheVariants as api
 use Rattle.jc_base.specs.declared.declared_type.DeclaredType.{DeclaredType}
@@ -34,8 +34,7 @@ use Rattle.jc_machine.specs.Going.{Here, check, on_reference, on_reference_local
 use Rattle.jc_machine.specs.Lookup.{fields_of, is_byte, is_kept_as, is_of_class, is_of_type, is_word, leads_to}
 use Rattle.jc_machine.specs.Machine.{Machine, Surroundings}
 use Rattle.jc_machine.specs.Typed.{CellsTyped, HaveTypes, HoldTypes, IsTyped, has_type, is_cell}
-use Rattle.jc_words.specs.Shorts.{low_byte}
-use Rattle.jc_words.specs.Values.{Null, Ref, TaggedValue, Unset, Word, is_reference}
+use Rattle.jc_words.specs.Values.{TaggedValue, is_reference}
 use Rattle.jc_safety.proofs.Blank.{no_field}
 use Rattle.jc_safety.proofs.Goes.{placed, room_left, safe_gives}
 use Rattle.jc_safety.proofs.Locals.{local_there, local_type, reads_nothing, reads_one}
@@ -82,46 +81,17 @@ module _ (world : List Shape) (heap : Heap TaggedValue) where
   loaded_typed Forms.Short (Declared.ReferenceArray c) v f h = absurd cc
 
   stored_byte : (v : TaggedValue) → is_word v ≡ true → is_byte (stored_as Forms.Byte v) ≡ true
-  stored_byte (Word n) h = lt-ltb (low_byte n) 256 (omega arith)
-  stored_byte (Ref n) h = absurd cc
-  stored_byte Null h = absurd cc
-  stored_byte Unset h = absurd cc
+  stored_byte v h1 = grind (arith, lt-ltb)
 
   pub stored_typed : (form : Form) (declared : DeclaredType ClassName) (v : TaggedValue)
       → is_form_of form declared ≡ true → has_type world heap v (type_of_declared declared) ≡ true
       → is_kept_as world heap declared (stored_as form v) ≡ true
-  stored_typed Forms.Reference Declared.Boolean v f h = absurd cc
-  stored_typed Forms.Reference Declared.Byte v f h = absurd cc
-  stored_typed Forms.Reference Declared.Short v f h = absurd cc
-  stored_typed Forms.Reference (Declared.Reference c) v f h = h
-  stored_typed Forms.Reference Declared.BooleanArray v f h = h
-  stored_typed Forms.Reference Declared.ByteArray v f h = h
-  stored_typed Forms.Reference Declared.ShortArray v f h = h
-  stored_typed Forms.Reference (Declared.ReferenceArray c) v f h = h
-  stored_typed Forms.Byte Declared.Boolean v f h = stored_byte v h
-  stored_typed Forms.Byte Declared.Byte v f h = stored_byte v h
-  stored_typed Forms.Byte Declared.Short v f h = absurd cc
-  stored_typed Forms.Byte (Declared.Reference c) v f h = absurd cc
-  stored_typed Forms.Byte Declared.BooleanArray v f h = absurd cc
-  stored_typed Forms.Byte Declared.ByteArray v f h = absurd cc
-  stored_typed Forms.Byte Declared.ShortArray v f h = absurd cc
-  stored_typed Forms.Byte (Declared.ReferenceArray c) v f h = absurd cc
-  stored_typed Forms.Short Declared.Boolean v f h = absurd cc
-  stored_typed Forms.Short Declared.Byte v f h = absurd cc
-  stored_typed Forms.Short Declared.Short v f h = h
-  stored_typed Forms.Short (Declared.Reference c) v f h = absurd cc
-  stored_typed Forms.Short Declared.BooleanArray v f h = absurd cc
-  stored_typed Forms.Short Declared.ByteArray v f h = absurd cc
-  stored_typed Forms.Short Declared.ShortArray v f h = absurd cc
-  stored_typed Forms.Short (Declared.ReferenceArray c) v f h = absurd cc
+  stored_typed form declared v h1 h2 = grind (arith, stored_byte)
 
 leads_is_reference : (heap : Heap TaggedValue) (test : ObjectType → Bool) (v : TaggedValue)
     → leads_to heap test v ≡ true
     → is_reference v ≡ true
-leads_is_reference heap test (Word n) e = absurd cc
-leads_is_reference heap test (Ref n) e = refl
-leads_is_reference heap test Null e = refl
-leads_is_reference heap test Unset e = absurd cc
+leads_is_reference heap test v h1 = grind arith
 
 within_length : (xs : List TaggedValue) (n : ℕ) (x : TaggedValue) → slice_get xs n ≡ Some x
     → nat_lt n (length xs) ≡ true
@@ -137,15 +107,7 @@ within_length xs n x e = lt-ltb n (length xs) (below_length xs n x e)
 pub unformed : (below : ClassName → ClassName → Bool) (most : ℕ) (b : Bool) (row : Row) (s t : Types) → row.fits ≡ true
     → Applied below most (if_form b row) s t → Applied below most row s t
 unfolding after
-unformed below most b row s t fits a = record {
-  there = a.there;
-  enough = a.enough;
-  fits = fits;
-  local_met = a.local_met;
-  operands_met = a.operands_met;
-  room = a.room;
-  is = a.is;
-}
+unformed below most b row s t fits a = grind arith
 
 module _ {C : Type 0} (s : Surroundings C) (ground : Ground s) (m : Machine C) (t : IsTyped s m) (d : DeclaredMethod)
     (next : ℕ) where
@@ -174,10 +136,7 @@ module _ {C : Type 0} (s : Surroundings C) (ground : Ground s) (m : Machine C) (
       → slice_get (fields_of shapes c) cell ≡ Some (Some declared)) where
     -- no array has it
     no_array : (A : Type 0) → is_class_below shapes (Api api.Object) class ≡ true → A
-    no_array A e =
-        let h = has (Api api.Object) e in
-        let none = no_field shapes ground.api api.Object cell (Some declared) h in
-        absurd cc
+    no_array A e = grind (arith, no_field)
 
     -- what its cell holds
     cell_has : (o : ObjectType) (cells : List TaggedValue) → is_of_class shapes class o ≡ true

@@ -1,7 +1,6 @@
 -- The frame that runs goes on, and the machine is well typed again.
-use Rattle.std.proofs.Common.{◌≡◌, ℕ, ℤ, ◌+◌, ◌-◌, List, ◌∷◌, length, drop}
-use Rattle.std.proofs.Common.{Bool, true, false, nat_lt, sym, subst, arith}
-use Rattle.std.proofs.Common.{length-drop}
+use Rattle.std.proofs.Common.{◌≡◌, ℕ, ℤ, ◌+◌, ◌-◌, List, ◌∷◌, length, drop, Bool, true, false, nat_lt, sym, subst}
+use Rattle.std.proofs.Common.{arith, length-drop}
 use Rattle.std.proofs.lemmas.Bool.{lt-ltb, ltb-false}
 use Rattle.jc_cap_desc.specs.Shape.{Shape}
 use Rattle.jc_check.specs.Method.{Method}
@@ -18,7 +17,7 @@ use Rattle.jc_machine.specs.Accepted.{linked_as}
 use Rattle.jc_machine.specs.Going.{Here, branches, gives, goes_on, jumps, leaves_operands, moved}
 use Rattle.jc_machine.specs.Machine.{Frame, Machine, StaticValue, Surroundings}
 use Rattle.jc_machine.specs.Natives.{IsThrown, KeepsObjects}
-use Rattle.jc_machine.specs.Typed.{HaveTypes, HeapTyped, HoldTypes, IsOperand, IsPlaced, IsTyped, IsTypedBeside}
+use Rattle.jc_machine.specs.Typed.{HaveTypes, HeapTyped, HoldTypes, IsPlaced, IsTyped, IsTypedBeside}
 use Rattle.jc_machine.specs.Typed.{StaticsTyped, given_by}
 use Rattle.jc_words.specs.Values.{TaggedValue}
 use Rattle.jc_safety.proofs.Ground.{Ground}
@@ -121,19 +120,7 @@ module _ {C : Type 0} (s : Surroundings C) (ground : Ground s) where
     -- the frame where it is, with other operands
     replaced : (heap : Heap TaggedValue) → KeepsObjects m.heap heap → (vs : List TaggedValue)
         → IsPlaced s.world heap (moved m.top m.top.pc m.top.locals vs)
-    replaced heap keeps vs = record {
-      body = placed.body;
-      loaded = placed.loaded;
-      code = placed.code;
-      there = placed.there;
-      typing = placed.typing;
-      typed = placed.typed;
-      shaped = placed.shaped;
-      state = placed.state;
-      stated = placed.stated;
-      locals_typed =
-          types_still m.heap heap keeps s.world.shapes m.top.locals placed.state.locals placed.locals_typed;
-    }
+    replaced heap keeps vs = grind (arith, types_still)
 
     -- an object is thrown, with other objects, whatever the operands are
     pub throws_with : (heap : Heap TaggedValue) → HeapTyped s.world.shapes heap → KeepsObjects m.heap heap
@@ -240,9 +227,4 @@ module _ {C : Type 0} (s : Surroundings C) (ground : Ground s) where
 pub room_left : (world : List Shape) (heap : Heap TaggedValue) (most count : ℕ) (ts : List Ty) (vs : List TaggedValue)
     → nat_lt (length ts) count ≡ false → nat_lt most (length ts - count + 1) ≡ false
     → HoldTypes world heap vs (drop count ts) → nat_lt (length vs) most ≡ true
-room_left world heap most count ts vs enough room h =
-    let same = same_length (IsOperand world heap) vs (drop count ts) h in
-    let left = length-drop count ts in
-    let a = ltb-false most (length ts - count + 1) room in
-    let b = ltb-false (length ts) count enough in
-    lt-ltb (length vs) most (omega (arith, same, left, a, b))
+room_left world heap most count ts vs enough room h = grind (arith, same_length, length-drop, ltb-false, lt-ltb)

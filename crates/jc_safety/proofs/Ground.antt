@@ -1,8 +1,7 @@
 -- What is known of an accepted world in which a machine runs, of each package there, and of the method of a frame.
-use Rattle.std.proofs.Common.{◌≡◌, ℕ, zero, suc, ◌-◌, ◌<◌, ◌==◌, Bool, true, false, cond, List, [], ◌∷◌, length, ◌++◌, map}
-use Rattle.std.proofs.Common.{Option, Some, slice_get, unwrap_or, refl, sym, ap, ◌∙◌, subst, arith}
+use Rattle.std.proofs.Common.{◌≡◌, ℕ, zero, suc, ◌-◌, ◌<◌, ◌==◌, Bool, true, false, cond, List, [], ◌∷◌, length, ◌++◌}
+use Rattle.std.proofs.Common.{map, Option, Some, slice_get, unwrap_or, refl, sym, ap, ◌∙◌, subst, arith, eqb-true}
 use Rattle.std.proofs.lemmas.Bool.{le-ltb}
-use Rattle.std.proofs.Common.{eqb-true}
 use Rattle.std.specs.List.{find}
 use Rattle.std.specs.Option.{option_and_then, option_map, option_map_or}
 use Rattle.jc_cap_desc.specs.Shape.{MethodBody}
@@ -31,7 +30,7 @@ use Rattle.jc_link.specs.declared.target.PoolTarget.{PoolTarget}
 use Rattle.jc_link.specs.declared.target.PoolTarget.TheVariants.{InstanceField}
 use Rattle.jc_names.specs.Names.{home_at}
 use Rattle.jc_names.specs.declared.name.ClassName.{ClassName}
-use Rattle.jc_names.specs.declared.name.MethodName.TheVariants.{Api, Loaded}
+use Rattle.jc_names.specs.declared.name.MethodName.TheVariants.{Loaded}
 use Rattle.jc_effects.specs.Growth.{KeepsAllMembers, KeepsAllOrders, KeepsOwnMethods}
 use Rattle.jc_effects.specs.Method.{own_method, result_of}
 use Rattle.jc_store.specs.Heap.{Heap}
@@ -137,10 +136,7 @@ found_there {A} test (y ∷ xs) x e = by_test (test y) refl (found_there test xs
         record { place = suc f.place; there = f.there; passes = f.passes }
 
 pub named : (n offset : ℕ) → method_name (suc (suc n)) offset ≡ Loaded (suc n) offset
-named n offset =
-    let one : suc (suc n) - 1 ≡ suc n = omega arith in
-    ap (λ b. cond b (Api offset) (Loaded (suc (suc n) - 1) offset)) (le-ltb (suc (suc n)) 2 (omega arith))
-    ∙ ap (λ i. Loaded i offset) one
+named n offset = grind (arith, le-ltb)
 
 -- a method's arguments, by its type
 abbrev with_types : DeclaredMethod → Option (Signature ClassName) → List Ty

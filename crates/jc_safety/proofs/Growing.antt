@@ -1,5 +1,5 @@
 -- Where each object stays, what was typed stays typed.
-use Rattle.std.proofs.Common.{◌≡◌, ℕ, zero, suc, List, [], ◌∷◌, length, slice_get, Option, Some, None}
+use Rattle.std.proofs.Common.{◌≡◌, ℕ, zero, suc, List, [], ◌∷◌, length, slice_get, Option, Some, None, arith}
 use Rattle.std.proofs.Common.{Bool, true, false, refl, ap, ◌∙◌, subst, inl, inr}
 use Rattle.std.specs.List.{AllByRecursion}
 use Rattle.std.specs.Option.{option_map_or}
@@ -12,18 +12,15 @@ use Rattle.jc_store.specs.Heap as heaps
 use Rattle.jc_store.specs.Heap.{Heap, object_at, with_new, with_object}
 use Rattle.jc_store.specs.declared.kind.Kind.{Kind}
 use Rattle.jc_store.specs.declared.kind.ObjectType.{ObjectType}
-use Rattle.jc_store.specs.declared.kind.ObjectType.TheVariants.{Instance, BooleanArray, ByteArray, ShortArray}
-use Rattle.jc_store.specs.declared.kind.ObjectType.TheVariants.{ReferenceArray}
+use Rattle.jc_store.specs.declared.kind.ObjectType.TheVariants.{BooleanArray, ByteArray, ShortArray, ReferenceArray}
 use Rattle.jc_types.specs.declared.ty.Ty.{Ty}
 use Rattle.jc_types.specs.declared.ty.Ty.TheVariants as types
-use Rattle.jc_machine.specs.Lookup.{is_boolean_array, is_byte_array, is_instance, is_kept_as, is_of_class}
-use Rattle.jc_machine.specs.Lookup.{fields_of, is_of_type, is_short_array, leads_to}
+use Rattle.jc_machine.specs.Lookup.{is_kept_as, is_of_type, leads_to}
 use Rattle.jc_machine.specs.Machine.{Frame, StaticValue}
 use Rattle.jc_machine.specs.Natives.{KeepsObjects}
-use Rattle.jc_machine.specs.Typed.{CellsTyped, HaveTypes, HoldTypes, IsOperand, IsPlaced, ObjectTyped}
-use Rattle.jc_machine.specs.Typed.{StaticTyped, StaticsTyped, WaitTyped, WaitsTyped, given_by, has_type}
-use Rattle.jc_machine.specs.Typed.{is_cell}
-use Rattle.jc_words.specs.Values.{Null, Ref, TaggedValue, Unset, Word}
+use Rattle.jc_machine.specs.Typed.{CellsTyped, HaveTypes, HoldTypes, IsOperand, IsPlaced, ObjectTyped, StaticTyped}
+use Rattle.jc_machine.specs.Typed.{StaticsTyped, WaitTyped, WaitsTyped, given_by, has_type, is_cell}
+use Rattle.jc_words.specs.Values.{Ref, TaggedValue}
 use Rattle.jc_safety.proofs.Lists.{each_mapped, get_joined, get_set, mapped_points}
 use Rattle.jc_safety.proofs.Upward.{holds_below}
 
@@ -84,30 +81,18 @@ module _ (before after : Heap TaggedValue) (keeps : KeepsObjects before after) w
 
   pub leads_still : (test : ObjectType → Bool) (v : TaggedValue) → leads_to before test v ≡ true
       → leads_to after test v ≡ true
-  leads_still test (Word n) h = absurd cc
-  leads_still test (Ref n) h = by_object test n (object_at before n) refl h
-  leads_still test Null h = refl
-  leads_still test Unset h = absurd cc
+  leads_still test v h1 = grind (arith, by_object)
 
   module _ (world : List Shape) where
     pub type_still : (v : TaggedValue) (t : Ty) → has_type world before v t ≡ true → has_type world after v t ≡ true
-    type_still v types.Top h = refl
-    type_still v types.Word h = h
-    type_still v types.Null h = h
-    type_still v (types.Class c) h = leads_still (is_of_class world c) v h
-    type_still v types.BooleanArray h = leads_still is_boolean_array v h
-    type_still v types.ByteArray h = leads_still is_byte_array v h
-    type_still v types.ShortArray h = leads_still is_short_array v h
-    type_still v (types.ReferenceArray c) h = leads_still (holds_below world c) v h
+    type_still v t h1 = grind (arith, leads_still, holds_below)
 
     pub operand_still : (v : TaggedValue) (t : Ty) → IsOperand world before v t → IsOperand world after v t
     operand_still v t h = record { type = type_still v t h.type; written = h.written }
 
     pub types_still : (vs : List TaggedValue) (ts : List Ty) → HaveTypes world before vs ts
         → HaveTypes world after vs ts
-    types_still vs ts h =
-        mapped_points (λ v t. has_type world before v t ≡ true) (λ v t. has_type world after v t ≡ true) type_still
-        vs ts h
+    types_still vs ts h = grind (arith, mapped_points, type_still)
 
     pub operands_still : (vs : List TaggedValue) (ts : List Ty) → HoldTypes world before vs ts
         → HoldTypes world after vs ts
@@ -117,14 +102,7 @@ module _ (before after : Heap TaggedValue) (keeps : KeepsObjects before after) w
 
     pub declared_still : (d : DeclaredType ClassName) (v : TaggedValue) → is_of_type world before d v ≡ true
         → is_of_type world after d v ≡ true
-    declared_still Declared.Boolean v h = h
-    declared_still Declared.Byte v h = h
-    declared_still Declared.Short v h = h
-    declared_still (Declared.Reference c) v h = leads_still (is_of_class world c) v h
-    declared_still Declared.BooleanArray v h = leads_still is_boolean_array v h
-    declared_still Declared.ByteArray v h = leads_still is_byte_array v h
-    declared_still Declared.ShortArray v h = leads_still is_short_array v h
-    declared_still (Declared.ReferenceArray c) v h = leads_still (holds_below world c) v h
+    declared_still d v h1 = grind (arith, leads_still, holds_below)
 
     pub kept_still : (d : DeclaredType ClassName) (v : TaggedValue) → is_kept_as world before d v ≡ true
         → is_kept_as world after d v ≡ true
@@ -139,37 +117,25 @@ module _ (before after : Heap TaggedValue) (keeps : KeepsObjects before after) w
 
     cell_still : (v : TaggedValue) (field : Option (DeclaredType ClassName)) → is_cell world before field v ≡ true
         → is_cell world after field v ≡ true
-    cell_still v None h = h
-    cell_still v (Some d) h = kept_still d v h
+    cell_still v field h1 = grind (arith, kept_still)
 
     pub cells_still : (cells : List TaggedValue) (type : ObjectType) → CellsTyped world before cells type
         → CellsTyped world after cells type
-    cells_still cells (Instance c) h =
-        mapped_points (λ v field. is_cell world before field v ≡ true) (λ v field. is_cell world after field v ≡ true)
-        cell_still cells (fields_of world c) h
-    cells_still cells BooleanArray h = h
-    cells_still cells ByteArray h = h
-    cells_still cells ShortArray h = h
-    cells_still cells (ReferenceArray c) h =
-        each_mapped (λ v. leads_to before (is_instance world c) v ≡ true)
-        (λ v. leads_to after (is_instance world c) v ≡ true) (leads_still (is_instance world c)) cells h
+    cells_still cells type h1 = grind (arith, mapped_points, cell_still, each_mapped, leads_still)
 
     pub object_still : (o : heaps.Object TaggedValue) → ObjectTyped world before o → ObjectTyped world after o
-    object_still o h =
-        record { made = h.made; cells = cells_still o.cells o.kind.object h.cells; counted = h.counted }
+    object_still o h = grind (arith, cells_still)
 
     pub objects_still : (objects : List (heaps.Object TaggedValue)) → AllByRecursion (ObjectTyped world before) objects
         → AllByRecursion (ObjectTyped world after) objects
     objects_still objects h = each_mapped (ObjectTyped world before) (ObjectTyped world after) object_still objects h
 
     static_still : (home : ℕ) (x : StaticValue) → StaticTyped world before home x → StaticTyped world after home x
-    static_still home x h =
-        record { declared = h.declared; found = h.found; typed = kept_still h.declared x.value h.typed }
+    static_still home x h = grind (arith, kept_still)
 
     pub static_values_still : (home : ℕ) (fields : List StaticValue)
         → AllByRecursion (StaticTyped world before home) fields → AllByRecursion (StaticTyped world after home) fields
-    static_values_still home fields h =
-        each_mapped (StaticTyped world before home) (StaticTyped world after home) (static_still home) fields h
+    static_values_still home fields h = grind (arith, each_mapped, static_still)
 
 -- ---- static fields and frames
 

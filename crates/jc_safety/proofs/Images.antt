@@ -1,11 +1,8 @@
 -- The static fields of a package's image: each that is found by its offset has a value, which was made for its type.
-use Rattle.std.proofs.Common.{◌≡◌, ℕ, zero, suc, ◌+◌, ◌*◌, ◌/◌, ◌%◌, ◌<◌, ◌≤◌, ◌==◌, ◌&&◌, ◌||◌, if◌then◌else◌}
-use Rattle.std.proofs.Common.{List, [], ◌∷◌}
-use Rattle.std.proofs.Common.{length, map, slice_get, Option, Some, None, Bool, true, false, cond, not}
-use Rattle.std.proofs.Common.{is_some, find, nat_lt}
-use Rattle.std.proofs.Common.{refl, sym, ap, ◌∙◌, subst, arith, eqb-true}
-use Rattle.std.proofs.lemmas.Bool.{eq-eqb}
-use Rattle.std.proofs.lemmas.Bool.{lt-ltb, ltb-false, ltb-true}
+use Rattle.std.proofs.Common.{◌≡◌, ℕ, zero, suc, ◌+◌, ◌*◌, ◌/◌, ◌%◌, ◌<◌, ◌≤◌, ◌==◌, ◌&&◌, ◌||◌, if◌then◌else◌, List}
+use Rattle.std.proofs.Common.{[], ◌∷◌, length, map, slice_get, Option, Some, None, Bool, true, false, cond, not}
+use Rattle.std.proofs.Common.{is_some, find, nat_lt, refl, sym, ap, ◌∙◌, subst, arith, eqb-true}
+use Rattle.std.proofs.lemmas.Bool.{eq-eqb, lt-ltb, ltb-false, ltb-true}
 use Rattle.std.proofs.lemmas.List.Sums.{sum_by-append}
 use Rattle.std.specs.List.{cons_option, count_by, filter, filter_map}
 use Rattle.std.specs.Option.{option_map, option_map_or}
@@ -17,23 +14,22 @@ use Rattle.jc_cap.specs.declared.arrays.StaticArray.{StaticArray}
 use Rattle.jc_cap.specs.declared.arrays.StaticArray.TheVariants as Of
 use Rattle.jc_cap_desc.specs.Shape.{FieldShape, Shape}
 use Rattle.jc_cap_desc.specs.declared.class_row.FieldPlace.{FieldPlace}
-use Rattle.jc_cap_desc.specs.declared.class_row.FieldPlace.TheVariants.{Instance as OfObjects, Static}
+use Rattle.jc_cap_desc.specs.declared.class_row.FieldPlace.TheVariants.{Static}
 use Rattle.jc_link.specs.Found.{type_found}
 use Rattle.jc_link.specs.Linked.{LinkedBody}
 use Rattle.jc_link.specs.Named.{is_static_field}
 use Rattle.jc_link.specs.Statics.{StaticField, behind, is_bad_static, is_misplaced, is_of_another_array, is_of_type}
-use Rattle.jc_link.specs.Statics.{least, leaves_image, overlaps_another, share_a_byte, static_of, width_of}
+use Rattle.jc_link.specs.Statics.{least, share_a_byte, static_of, width_of}
 use Rattle.jc_names.specs.declared.name.ClassName.{ClassName}
 use Rattle.jc_store.specs.Heap as heaps
 use Rattle.jc_store.specs.Heap.{Heap, object_at}
 use Rattle.jc_store.specs.declared.kind.ObjectType.{ObjectType}
-use Rattle.jc_machine.specs.Lookup.{is_boolean_array, is_byte_array, is_kept_as, is_of_class, is_short_array}
-use Rattle.jc_machine.specs.Lookup.{leads_to}
+use Rattle.jc_machine.specs.Lookup.{is_boolean_array, is_byte_array, is_kept_as, is_of_class, is_short_array, leads_to}
 use Rattle.jc_machine.specs.Machine.{StaticValue}
-use Rattle.jc_words.specs.Values.{Null, Ref, TaggedValue, Word}
+use Rattle.jc_words.specs.Values.{Null, Ref, TaggedValue}
 use Rattle.jc_safety.proofs.Lists.{get_within}
 use Rattle.jc_safety.proofs.Upward.{holds_below}
-use Rattle.jc_safety.specs.Loading.{HaveOwnOffsets, byte_at, loaded_array, reference_at, short_at}
+use Rattle.jc_safety.specs.Loading.{HaveOwnOffsets, loaded_array, reference_at, short_at}
 use Rattle.jc_safety.specs.Loading.{static_value, type_of_array, value_at}
 
 -- ---- static fields among fields
@@ -41,21 +37,15 @@ use Rattle.jc_safety.specs.Loading.{static_value, type_of_array, value_at}
 -- where a field is static it stands at the offset, and is of the type
 static_parts : (place : FieldPlace) (type : DeclaredType ClassRef) (x : StaticField)
     → static_of (record { place = place; type = type }) ≡ Some x → (place ≡ Static x.offset) × (type ≡ x.type)
-static_parts (Static offset) type x e = (cc, cc)
-static_parts (OfObjects class token) type x e = absurd cc
+static_parts place type x h1 = grind arith
 
 pub static_type : (f : FieldShape) (x : StaticField) → static_of f ≡ Some x → f.type ≡ x.type
 static_type f x e = (static_parts f.place f.type x e).1
 
--- a test of its offset
-has_offset : ℕ → FieldShape → Bool
-has_offset offset f = is_static_field offset f.place
-
 tested_place : (offset : ℕ) (place : FieldPlace) (type : DeclaredType ClassRef)
     → is_static_field offset place
     ≡ option_map_or (λ (y : StaticField). y.offset == offset) (static_of (record { place = place; type = type })) false
-tested_place offset (Static found) type = refl
-tested_place offset (OfObjects class token) type = refl
+tested_place offset place type = grind arith
 
 tested : (offset : ℕ) (f : FieldShape) → is_static_field offset f.place
     ≡ option_map_or (λ (y : StaticField). y.offset == offset) (static_of f) false
@@ -64,26 +54,13 @@ tested offset f = tested_place offset f.place f.type
 -- ---- a static field shares its bytes with itself
 
 wide : {C : Type 0} (t : DeclaredType C) → 1 ≤ width_of t
-wide Declared.Boolean = omega arith
-wide Declared.Byte = omega arith
-wide Declared.Short = omega arith
-wide (Declared.Reference c) = omega arith
-wide Declared.BooleanArray = omega arith
-wide Declared.ByteArray = omega arith
-wide Declared.ShortArray = omega arith
-wide (Declared.ReferenceArray c) = omega arith
+wide t = grind arith
 
 both_true : (a b : Bool) → a ≡ true → b ≡ true → (a && b) ≡ true
-both_true true b e f = f
-both_true false b e f = absurd cc
+both_true a b h1 h2 = grind arith
 
 shared : (x y : StaticField) → y.offset ≡ x.offset → share_a_byte x y ≡ true
-shared x y same =
-    let one = wide x.type in
-    let other = wide y.type in
-    both_true (nat_lt x.offset (behind y)) (nat_lt y.offset (behind x))
-    (lt-ltb x.offset (y.offset + width_of y.type) (omega (arith, same, other)))
-    (lt-ltb y.offset (x.offset + width_of x.type) (omega (arith, same, one)))
+shared x y same = grind (arith, wide, both_true, lt-ltb)
 
 count_next : {A : Type 0} (p : A → Bool) (x : A) (xs : List A) → count_by p (x ∷ xs) ≡ cond (p x) 1 0 + count_by p xs
 count_next p x xs =
@@ -97,8 +74,7 @@ count_passing p x xs e = count_next p x xs ∙ ap (λ (b : Bool). cond b 1 0 + c
 
 -- some more are counted with one more
 count_more : {A : Type 0} (p : A → Bool) (o : Option A) (xs : List A) → count_by p xs ≤ count_by p (cons_option o xs)
-count_more p None xs = omega arith
-count_more p (Some x) xs = let k = count_next p x xs in omega (arith, k)
+count_more p o xs = grind (arith, count_next)
 
 -- ---- where a static field is among fields
 
@@ -216,32 +192,7 @@ pub valued : (v : StaticField → StaticValue) → ((x : StaticField) → (v x).
     → is_some (find (λ (f : FieldShape). is_static_field offset f.place) fs)
     ≡ is_some (find (λ (s : StaticValue). s.offset == offset) (map v (filter_map static_of fs)))
 valued v keeps offset [] = refl
-valued v keeps offset (h ∷ fs) =
-    ap (λ (b : Bool). is_some (cond b (Some h) (find (λ (f : FieldShape). is_static_field offset f.place) fs)))
-    (tested offset h)
-    ∙ by_static (valued v keeps offset fs) (static_of h)
-  where
-    Later : Type 0
-    Later = is_some (find (λ (f : FieldShape). is_static_field offset f.place) fs)
-        ≡ is_some (find (λ (s : StaticValue). s.offset == offset) (map v (filter_map static_of fs)))
-
-    by_test : Later → (b : Bool) (y : StaticValue)
-        → is_some (cond b (Some h) (find (λ (f : FieldShape). is_static_field offset f.place) fs))
-        ≡ is_some (cond b (Some y) (find (λ (s : StaticValue). s.offset == offset) (map v (filter_map static_of fs))))
-    by_test later true y = refl
-    by_test later false y = later
-
-    by_static : Later → (o : Option StaticField)
-        → is_some (cond (option_map_or (λ (y : StaticField). y.offset == offset) o false) (Some h)
-        (find (λ (f : FieldShape). is_static_field offset f.place) fs))
-        ≡ is_some (find (λ (s : StaticValue). s.offset == offset) (map v (cons_option o (filter_map static_of fs))))
-    by_static later None = later
-    by_static later (Some y) =
-        by_test later (y.offset == offset) (v y)
-        ∙ ap (λ (n : ℕ).
-        is_some (cond (n == offset) (Some (v y))
-        (find (λ (s : StaticValue). s.offset == offset) (map v (filter_map static_of fs)))))
-        (sym (keeps y))
+valued v keeps offset (h ∷ fs) = grind (arith, tested, valued v keeps offset fs)
 
 -- ---- no static field is bad
 
@@ -265,16 +216,13 @@ none_bad p (y ∷ xs) none i x e = by_test (λ none i e. none_bad p xs none i x 
     by_test later false fine none (suc i) e = later none i e
 
 left_false : (a b : Bool) → (a || b) ≡ false → a ≡ false
-left_false true b e = absurd cc
-left_false false b e = refl
+left_false a b h1 = grind arith
 
 right_false : (a b : Bool) → (a || b) ≡ false → b ≡ false
-right_false true b e = absurd cc
-right_false false b e = e
+right_false a b h1 = grind arith
 
 not_false : (a : Bool) → not a ≡ false → a ≡ true
-not_false true e = refl
-not_false false e = absurd cc
+not_false a h1 = grind arith
 
 -- what a field that isn't bad is
 pub record IsFine (image : StaticImage) (all : List StaticField) (x : StaticField) : Type 0 where
@@ -285,48 +233,23 @@ pub record IsFine (image : StaticImage) (all : List StaticField) (x : StaticFiel
 
 pub is_fine : (image : StaticImage) (all : List StaticField) (x : StaticField) → is_bad_static image all x ≡ false
     → IsFine image all x
-is_fine image all x e =
-    let a = leaves_image image x in
-    let b = is_misplaced image x in
-    let c = overlaps_another all x in
-    let d = is_of_another_array image x in
-    let three = left_false (a || b || c) d e in
-    let two = left_false (a || b) c three in record {
-      within = ltb-false image.size (behind x) (left_false a b two);
-      placed = right_false a b two;
-      alone = ltb-false 1 (count_by (share_a_byte x) all) (right_false (a || b) c three);
-      matches = right_false (a || b || c) d e;
-    }
+is_fine image all x e = grind (arith, left_false, ltb-false, right_false)
 
 -- ---- offsets of their own
 
 count_at : {A : Type 0} (p : A → Bool) (xs : List A) (i : ℕ) (x : A) → slice_get xs i ≡ Some x → p x ≡ true
     → 1 ≤ count_by p xs
 count_at p [] i x e passes = absurd cc
-count_at p (y ∷ xs) zero x e passes =
-    let same : y ≡ x = cc in
-    let k = count_passing p y xs (ap p same ∙ passes) in
-    omega (arith, k)
-count_at p (y ∷ xs) (suc i) x e passes =
-    let k = count_at p xs i x e passes in
-    let more = count_next p y xs in
-    omega (arith, k, more)
+count_at p (y ∷ xs) zero x e passes = grind (arith, passes, count_passing)
+count_at p (y ∷ xs) (suc i) x e passes = grind (arith, passes, count_next, count_at p xs i x e passes)
 
 -- where no more than one passes, two that pass are one
 count_one : {A : Type 0} (p : A → Bool) (xs : List A) (i j : ℕ) (x y : A) → slice_get xs i ≡ Some x
     → slice_get xs j ≡ Some y → p x ≡ true → p y ≡ true → count_by p xs ≤ 1 → i ≡ j
 count_one p [] i j x y e f px py few = absurd cc
 count_one p (z ∷ xs) zero zero x y e f px py few = refl
-count_one p (z ∷ xs) zero (suc j) x y e f px py few =
-    let same : z ≡ x = cc in
-    let k = count_passing p z xs (ap p same ∙ px) in
-    let rest = count_at p xs j y f py in
-    absurd (omega (arith, k, rest, few))
-count_one p (z ∷ xs) (suc i) zero x y e f px py few =
-    let same : z ≡ y = cc in
-    let k = count_passing p z xs (ap p same ∙ py) in
-    let rest = count_at p xs i x e px in
-    absurd (omega (arith, k, rest, few))
+count_one p (z ∷ xs) zero (suc j) x y e f px py few = grind (arith, count_passing, count_at)
+count_one p (z ∷ xs) (suc i) zero x y e f px py few = grind (arith, count_passing, count_at)
 count_one p (z ∷ xs) (suc i) (suc j) x y e f px py few =
     let k = count_next p z xs in
     ap suc (count_one p xs i j x y e f px py (omega (arith, k, few)))
@@ -377,40 +300,26 @@ module _ (world : List Shape) (heap : Heap TaggedValue) (number first : ℕ) (bo
 
   -- no array is of another type of references
   no_class : (c : ClassRef) (array : StaticArray) → is_of_type array (Declared.Reference c) ≡ true → ⊥
-  no_class c (Of.Boolean values) e = absurd cc
-  no_class c (Of.Byte values) e = absurd cc
-  no_class c (Of.Short values) e = absurd cc
+  no_class c array h1 = grind arith
 
   no_references : (c : ClassRef) (array : StaticArray) → is_of_type array (Declared.ReferenceArray c) ≡ true → ⊥
-  no_references c (Of.Boolean values) e = absurd cc
-  no_references c (Of.Byte values) e = absurd cc
-  no_references c (Of.Short values) e = absurd cc
+  no_references c array h1 = grind arith
 
   of_booleans : (array : StaticArray) → is_of_type array Declared.BooleanArray ≡ true
       → is_boolean_array (type_of_array array) ≡ true
-  of_booleans (Of.Boolean values) e = refl
-  of_booleans (Of.Byte values) e = absurd cc
-  of_booleans (Of.Short values) e = absurd cc
+  of_booleans array h1 = grind arith
 
   of_bytes : (array : StaticArray) → is_of_type array Declared.ByteArray ≡ true
       → is_byte_array (type_of_array array) ≡ true
-  of_bytes (Of.Boolean values) e = absurd cc
-  of_bytes (Of.Byte values) e = refl
-  of_bytes (Of.Short values) e = absurd cc
+  of_bytes array h1 = grind arith
 
   of_shorts : (array : StaticArray) → is_of_type array Declared.ShortArray ≡ true
       → is_short_array (type_of_array array) ≡ true
-  of_shorts (Of.Boolean values) e = absurd cc
-  of_shorts (Of.Byte values) e = absurd cc
-  of_shorts (Of.Short values) e = refl
+  of_shorts array h1 = grind arith
 
   even_place : (offset : ℕ) → not ((offset % 2 == 0) && nat_lt offset (2 * image.references)) ≡ false
       → (offset % 2 == 0) ≡ true
-  even_place offset e = by_test (offset % 2 == 0) (nat_lt offset (2 * image.references)) e
-    where
-      by_test : (a b : Bool) → not (a && b) ≡ false → a ≡ true
-      by_test true b e = refl
-      by_test false b e = absurd cc
+  even_place offset e = grind (arith, not)
 
   -- two bytes are a word
   word_bound : (offset : ℕ) → short_at image offset < 65536
@@ -419,11 +328,7 @@ module _ (world : List Shape) (heap : Heap TaggedValue) (number first : ℕ) (bo
   -- a class that is found in a type
   class_of_type : (find : ClassRef → Option ClassName) (make : ClassName → DeclaredType ClassName) (c : ClassRef)
       (d : DeclaredType ClassName) → option_map make (find c) ≡ Some d → (k : ClassName) × (d ≡ make k)
-  class_of_type find make c d e = by_found (find c) e
-    where
-      by_found : (o : Option ClassName) → option_map make o ≡ Some d → (k : ClassName) × (d ≡ make k)
-      by_found None e = absurd cc
-      by_found (Some k) e = (k, cc)
+  class_of_type find make c d e = grind arith
 
   pub value_kept : (find : ClassRef → Option ClassName) (x : StaticField) (d : DeclaredType ClassName)
       → type_found find x.type ≡ Some d → is_misplaced image x ≡ false → is_of_another_array image x ≡ false
@@ -434,40 +339,18 @@ module _ (world : List Shape) (heap : Heap TaggedValue) (number first : ℕ) (bo
           → is_misplaced image (record { offset = x.offset; type = t }) ≡ false
           → is_of_another_array image (record { offset = x.offset; type = t }) ≡ false
           → is_kept_as world heap d (value_at first image x.offset t) ≡ true
-      by_type Declared.Boolean found placed matches =
-          let same : Declared.Boolean ≡ d = cc in
-          subst (λ (e : DeclaredType ClassName). is_kept_as world heap e (Word (byte_at image x.offset)) ≡ true) same
-          (lt-ltb (byte_at image x.offset) 256 (omega arith))
-      by_type Declared.Byte found placed matches =
-          let same : Declared.Byte ≡ d = cc in
-          subst (λ (e : DeclaredType ClassName). is_kept_as world heap e (Word (byte_at image x.offset)) ≡ true) same
-          (lt-ltb (byte_at image x.offset) 256 (omega arith))
-      by_type Declared.Short found placed matches =
-          let same : Declared.Short ≡ d = cc in
-          subst (λ (e : DeclaredType ClassName). is_kept_as world heap e (Word (short_at image x.offset)) ≡ true) same
-          (lt-ltb (short_at image x.offset) 65536 (word_bound x.offset))
+      by_type Declared.Boolean found placed matches = grind (arith, lt-ltb)
+      by_type Declared.Byte found placed matches = grind (arith, lt-ltb)
+      by_type Declared.Short found placed matches = grind (arith, lt-ltb, word_bound)
       by_type (Declared.Reference c) found placed matches =
           let k = class_of_type find Declared.Reference c d found in
           subst (λ (e : DeclaredType ClassName). is_kept_as world heap e (reference_at first image x.offset) ≡ true)
           (sym k.1)
           (reference_leads (is_of_class world k.0) (Declared.Reference c) x.offset (even_place x.offset placed) matches
           (λ array is. absurd (no_class c array is)))
-      by_type Declared.BooleanArray found placed matches =
-          let same : Declared.BooleanArray ≡ d = cc in
-          subst (λ (e : DeclaredType ClassName). is_kept_as world heap e (reference_at first image x.offset) ≡ true)
-          same
-          (reference_leads is_boolean_array Declared.BooleanArray x.offset (even_place x.offset placed) matches
-          of_booleans)
-      by_type Declared.ByteArray found placed matches =
-          let same : Declared.ByteArray ≡ d = cc in
-          subst (λ (e : DeclaredType ClassName). is_kept_as world heap e (reference_at first image x.offset) ≡ true)
-          same
-          (reference_leads is_byte_array Declared.ByteArray x.offset (even_place x.offset placed) matches of_bytes)
-      by_type Declared.ShortArray found placed matches =
-          let same : Declared.ShortArray ≡ d = cc in
-          subst (λ (e : DeclaredType ClassName). is_kept_as world heap e (reference_at first image x.offset) ≡ true)
-          same
-          (reference_leads is_short_array Declared.ShortArray x.offset (even_place x.offset placed) matches of_shorts)
+      by_type Declared.BooleanArray found placed matches = grind (arith, reference_leads, even_place, of_booleans)
+      by_type Declared.ByteArray found placed matches = grind (arith, reference_leads, even_place, of_bytes)
+      by_type Declared.ShortArray found placed matches = grind (arith, reference_leads, even_place, of_shorts)
       by_type (Declared.ReferenceArray c) found placed matches =
           let k = class_of_type find Declared.ReferenceArray c d found in
           subst (λ (e : DeclaredType ClassName). is_kept_as world heap e (reference_at first image x.offset) ≡ true)

@@ -1,33 +1,27 @@
 -- A linked package that is loaded leaves what is kept beside frames typed.
 use Rattle.std.proofs.Common.{◌≡◌, ◌⊎◌, ℕ, zero, suc, ◌+◌, ◌-◌, ◌<◌, ◌≤◌, ◌==◌, ◌++◌, ℤ, List, [], ◌∷◌, length, map}
-use Rattle.std.proofs.Common.{take, slice_get}
-use Rattle.std.proofs.Common.{Option, Some, None, Bool, true, false, cond, find, is_some, refl, sym, ap, ◌∙◌, subst}
-use Rattle.std.proofs.Common.{inl, inr}
-use Rattle.std.proofs.Common.{arith, length-append, take_all}
+use Rattle.std.proofs.Common.{take, slice_get, Option, Some, None, Bool, true, false, find, is_some, refl, sym, ap, ◌∙◌}
+use Rattle.std.proofs.Common.{subst, inl, inr, arith, length-append, take_all}
 use Rattle.std.proofs.lemmas.Bool.{le-ltb, lt-ltb}
 use Rattle.std.proofs.lemmas.List.{take-append-le}
 use Rattle.std.specs.List.{AllByRecursion, flat_map}
-use Rattle.std.specs.Option.{option_and_then, option_map, option_map_or, option_or}
+use Rattle.std.specs.Option.{option_and_then, option_map, option_or}
 use Rattle.jc_base.specs.declared.declared_type.DeclaredType.{DeclaredType}
-use Rattle.jc_base.specs.declared.fault.LoadFault.TheVariants.{BadClass, BadStatic, MissingImport, TypeMismatch}
-use Rattle.jc_base.specs.declared.fault.LoadFault.TheVariants.{Unresolved}
 use Rattle.jc_cap.specs.Statics.{StaticImage}
 use Rattle.jc_cap.specs.declared.arrays.StaticArray.{StaticArray}
 use Rattle.jc_cap.specs.declared.arrays.StaticArray.TheVariants as Of
 use Rattle.jc_cap_desc.specs.Shape.{FieldShape, Package, Shape}
 use Rattle.jc_classes.specs.Growth.{LiesWithin, grown}
 use Rattle.jc_link.specs.Found.{type_found}
-use Rattle.jc_link.specs.Imports.{first_unmet, is_there_already}
 use Rattle.jc_link.specs.Kept.{Kept}
 use Rattle.jc_link.specs.Linked.{IsKnown, IsLoadedAt, Linked, LinkedBody, World, with_linked}
 use Rattle.jc_link.specs.MemberType.{field_type_of, type_class}
 use Rattle.jc_link.specs.Named.{static_field_at, static_field_in}
-use Rattle.jc_link.specs.Pool.{first_mistyped, first_unresolved}
 use Rattle.jc_link.specs.Sound.{IsSound}
 use Rattle.jc_link.specs.Statics.{StaticField, first_bad_static, is_bad_static, is_misplaced, is_of_another_array}
 use Rattle.jc_link.specs.Statics.{static_fields}
 use Rattle.jc_link.specs.Target.{static_type_of}
-use Rattle.jc_link.specs.WellFormed.{duplicate, first_bad_class, linking_fault}
+use Rattle.jc_link.specs.WellFormed.{linking_fault}
 use Rattle.jc_link.specs.declared.named.StaticPlace.{StaticPlace}
 use Rattle.jc_names.specs.Names.{home_at, number_at}
 use Rattle.jc_names.specs.declared.name.ClassName.{ClassName}
@@ -46,16 +40,10 @@ use Rattle.jc_safety.proofs.Images.{found_as, is_fine, none_bad, origin, own_off
 use Rattle.jc_safety.proofs.Lists.{each_joined, get_joined, get_last}
 use Rattle.jc_safety.specs.PrivateLaws.{Laws}
 use Rattle.jc_safety.specs.Loading.{HaveOwnOffsets, MayLoad, around_behind, byte_word, heap_behind, loaded_array}
-use Rattle.jc_safety.specs.Loading.{loaded_arrays}
-use Rattle.jc_safety.specs.Loading.{loaded_statics, machine_behind, next_package, own_shape, short_word, static_value}
-use Rattle.jc_safety.specs.Loading.{static_values, statics_behind, type_of_array, words_of_array}
+use Rattle.jc_safety.specs.Loading.{loaded_arrays, loaded_statics, machine_behind, next_package, own_shape, short_word}
+use Rattle.jc_safety.specs.Loading.{static_value, static_values, statics_behind, type_of_array, words_of_array}
 
 -- ---- lists
-
-each_indexed : {A : Type 0} (P : A → Type 0) (xs : List A) → ((i : ℕ) (x : A) → slice_get xs i ≡ Some x → P x)
-    → AllByRecursion P xs
-each_indexed P [] each = tt
-each_indexed P (x ∷ xs) each = (each 0 x refl, each_indexed P xs (λ i y e. each (suc i) y e))
 
 get_map : {A B : Type 0} (f : A → B) (xs : List A) (i : ℕ) (x : A) → slice_get xs i ≡ Some x
     → slice_get (map f xs) i ≡ Some (f x)
@@ -64,12 +52,8 @@ get_map f (y ∷ xs) zero x e = let same : y ≡ x = cc in ap (λ z. Some (f z))
 get_map f (y ∷ xs) (suc i) x e = get_map f xs i x e
 
 get_behind : {A : Type 0} (xs ys : List A) (i : ℕ) → slice_get (xs ++ ys) (length xs + i) ≡ slice_get ys i
-get_behind [] ys i =
-    let same : 0 + i ≡ i = omega arith in
-    ap (slice_get ys) same
-get_behind (x ∷ xs) ys i =
-    let same : suc (length xs) + i ≡ suc (length xs + i) = omega arith in
-    ap (slice_get (x ∷ (xs ++ ys))) same ∙ get_behind xs ys i
+get_behind [] ys i = grind arith
+get_behind (x ∷ xs) ys i = grind (arith, get_behind xs ys i)
 
 -- one of a list with one more behind it: one of the list, or the last
 last_or_before : {A : Type 0} (xs : List A) (y x : A) (n : ℕ) → slice_get (xs ++ y ∷ []) n ≡ Some x
@@ -77,10 +61,7 @@ last_or_before : {A : Type 0} (xs : List A) (y x : A) (n : ℕ) → slice_get (x
 last_or_before [] y x zero e = inr (refl, cc)
 last_or_before [] y x (suc n) e = absurd cc
 last_or_before (z ∷ xs) y x zero e = inl (e, omega arith)
-last_or_before (z ∷ xs) y x (suc n) e = elim (last_or_before xs y x n e) [
-  | inl a ↦ let low = a.1 in inl (a.0, omega (arith, low))
-  | inr a ↦ inr (ap suc a.0, a.1)
-]
+last_or_before (z ∷ xs) y x (suc n) e = grind (arith, last_or_before xs y x n e)
 
 within_list : {A : Type 0} (xs : List A) (n : ℕ) (x : A) → slice_get xs n ≡ Some x → n < length xs
 within_list [] n x e = absurd cc
@@ -89,40 +70,23 @@ within_list (y ∷ xs) (suc n) x e = let k = within_list xs n x e in omega (arit
 
 -- the number of the package that stands behind the API's two and some more
 number_here : (n : ℕ) → number_at (2 + n) ≡ Some (suc n)
-number_here n =
-    let one : (2 + n) - 1 ≡ suc n = omega arith in
-    ap (λ (b : Bool). cond b None (Some ((2 + n) - 1))) (le-ltb (2 + n) 2 (omega arith)) ∙ ap Some one
+number_here n = grind (arith, le-ltb)
 
 -- ---- no fault is no fault of each kind
 
 no_first : {A : Type 0} (a b : Option A) → option_or a b ≡ None → a ≡ None
-no_first None b e = refl
-no_first (Some x) b e = absurd cc
+no_first a b h1 = grind arith
 
 no_second : {A : Type 0} (a b : Option A) → option_or a b ≡ None → b ≡ None
-no_second None b e = e
-no_second (Some x) b e = absurd cc
+no_second a b h1 = grind arith
 
 not_mapped : {A B : Type 0} (f : A → B) (o : Option A) → option_map f o ≡ None → o ≡ None
-not_mapped f None e = refl
-not_mapped f (Some x) e = absurd cc
+not_mapped f o h1 = grind arith
 
 -- a well-formed package has no bad static field
 statics_fine : (world : List Shape) (home : ℕ) (p : Package) → linking_fault world home p ≡ None
     → first_bad_static p.body.statics p.shape ≡ None
-statics_fine world home p e =
-    let a = option_map MissingImport (first_unmet world home p.shape) in
-    let b = option_map Unresolved (first_unresolved world home p.body.pool) in
-    let c = option_map TypeMismatch (first_mistyped world home p.body) in
-    let d = option_map BadClass (first_bad_class world home p.shape) in
-    let f = option_map BadStatic (first_bad_static p.body.statics p.shape) in
-    let g = duplicate (is_there_already (take home world) p.shape) in
-    not_mapped BadStatic (first_bad_static p.body.statics p.shape)
-    (no_first f g
-    (no_second d (option_or f g)
-    (no_second c (option_or d (option_or f g))
-    (no_second b (option_or c (option_or d (option_or f g)))
-    (no_second a (option_or b (option_or c (option_or d (option_or f g)))) e)))))
+statics_fine world home p e = grind (arith, not_mapped, no_first, no_second)
 
 pub have_own_offsets : (world : List Shape) (home : ℕ) (kept : Kept) (shape : Shape) → IsLoadedAt world home kept
     → slice_get world home ≡ Some shape → HaveOwnOffsets kept.statics (static_fields shape)
@@ -159,14 +123,10 @@ words_typed (z ∷ values) = (lt-ltb (short_word z) 65536 (omega arith), words_t
 
 module _ (world : List Shape) (heap : Heap TaggedValue) (number : ℕ) (body : LinkedBody) where
   array_cells : (array : StaticArray) → CellsTyped world heap (map Word (words_of_array array)) (type_of_array array)
-  array_cells (Of.Boolean values) = bytes_typed values
-  array_cells (Of.Byte values) = bytes_typed values
-  array_cells (Of.Short values) = words_typed values
+  array_cells array = grind (arith, bytes_typed, words_typed)
 
   array_made : (array : StaticArray) → may_be_made world (type_of_array array) ≡ true
-  array_made (Of.Boolean values) = refl
-  array_made (Of.Byte values) = refl
-  array_made (Of.Short values) = refl
+  array_made array = grind arith
 
   arrays_typed : (arrays : List StaticArray)
       → AllByRecursion (λ (o : heaps.Object TaggedValue). length o.cells < 65536)
@@ -204,10 +164,7 @@ module _ (laws : Laws) {C : Type 0} (s : Surroundings C) (m : Machine C) (l : Li
   values = loaded_statics (next_number m.heap) l
 
   lies : LiesWithin w.shapes l.world
-  lies =
-      ap (take (length w.shapes)) may.bound.1
-      ∙ take-append-le (length w.shapes) w.shapes (may.bound.0 ∷ []) (omega arith)
-      ∙ take_all (length w.shapes) w.shapes (omega arith)
+  lies = grind (arith, take-append-le, take_all)
 
   enlarges : Enlarges w.shapes l.world
   enlarges =
@@ -241,25 +198,16 @@ module _ (laws : Laws) {C : Type 0} (s : Surroundings C) (m : Machine C) (l : Li
   shape = loaded.«package».shape
 
   count : length l.world ≡ suc home
-  count =
-      let whole = may.after.world.count in
-      let more = length-append w.bodies (l.body ∷ []) in
-      omega (arith, whole, more)
+  count = grind (arith, length-append)
 
   its_shape : own_shape l ≡ Some shape
-  its_shape =
-      let many = count in
-      let last : length l.world - 1 ≡ home = omega (arith, many) in
-      ap (slice_get l.world) last ∙ loaded.there
+  its_shape = grind (arith, count)
 
   its_values : values ≡ static_values (next_number m.heap) image shape
-  its_values =
-      ap (λ (o : Option Shape). option_map_or (static_values (next_number m.heap) image) o []) its_shape
+  its_values = grind (arith, its_shape)
 
   no_bad : first_bad_static image shape ≡ None
-  no_bad =
-      ap (λ (k : Kept). first_bad_static k.statics shape) loaded.kept_is
-      ∙ statics_fine (grown (take home l.world) shape) (length (take home l.world)) loaded.«package» loaded.fine
+  no_bad = grind (arith, statics_fine)
 
   -- ---- objects
 
@@ -372,35 +320,13 @@ module _ (laws : Laws) {C : Type 0} (s : Surroundings C) (m : Machine C) (l : Li
   still_there : (number : Option ℕ) (offset : ℕ)
       → is_found offset (option_and_then (of_package m.statics) number) ≡ true
       → is_found offset (option_and_then (of_package statics) number) ≡ true
-  still_there None offset e = absurd cc
-  still_there (Some zero) offset e = absurd cc
-  still_there (Some (suc n)) offset e = by_fields (slice_get m.statics n) refl e
-    where
-      by_fields : (o : Option (List StaticValue)) → slice_get m.statics n ≡ o
-          → is_found offset o ≡ true → is_found offset (slice_get statics n) ≡ true
-      by_fields None at e = absurd cc
-      by_fields (Some fields) at e =
-          ap (is_found offset) (get_joined m.statics (values ∷ []) n fields at) ∙ e
+  still_there number offset h1 = grind (arith, get_joined)
 
   -- a field of the package has a value
   here_valued : (offset : ℕ) (declared : DeclaredType ClassName)
       → static_type_of l.world (record { home = home; offset = offset }) ≡ Some declared
       → is_some (static_at statics home offset) ≡ true
-  here_valued offset declared said =
-      let many = may.beside.statics.count in
-      let last : slice_get statics (length w.bodies) ≡ Some values =
-      ap (slice_get statics) (sym many) ∙ get_last m.statics values in
-      ap (λ (n : Option ℕ). is_found offset (option_and_then (of_package statics) n)) (number_here (length w.bodies))
-      ∙ ap (is_found offset) last
-      ∙ ap (λ (vs : List StaticValue). is_some (find (λ (s : StaticValue). s.offset == offset) vs)) its_values
-      ∙ sym (valued (static_value first image) (λ x. refl) offset fields)
-      ∙ row_there (static_field_in offset shape)
-      (sym (ap (λ (o : Option FieldShape). option_and_then (field_type_of l.world home) o) (found_here offset)) ∙ said)
-    where
-      row_there : (o : Option FieldShape) → option_and_then (field_type_of l.world home) o ≡ Some declared
-          → is_some o ≡ true
-      row_there None e = absurd cc
-      row_there (Some f) e = refl
+  here_valued offset declared said = grind (arith, count, get_last, number_here, its_values, valued, found_here)
 
   present : (place : StaticPlace) (declared : DeclaredType ClassName)
       → static_type_of l.world place ≡ Some declared → is_some (static_at statics place.home place.offset) ≡ true

@@ -15,7 +15,7 @@ use Rattle.jc_store.specs.declared.kind.ObjectType.{ObjectType}
 use Rattle.jc_types.specs.declared.ty.Ty.{Ty}
 use Rattle.jc_types.specs.declared.ty.Ty.TheVariants as types
 use Rattle.jc_words.specs.Shorts.{signed_byte}
-use Rattle.jc_words.specs.Values.{Null, Ref, TaggedValue, Unset, Word}
+use Rattle.jc_words.specs.Values.{TaggedValue, Word}
 use Rattle.jc_safety.proofs.Safe.{IsSafe, safe_some}
 use Rattle.jc_safety.proofs.Writing.{IsNumber}
 
@@ -42,16 +42,10 @@ module _ (world : List Shape) (heap : Heap TaggedValue) where
 
   pub reference_loaded : (test : ObjectType → Bool) (u : Ty) (v : TaggedValue) → leads_to heap test v ≡ true
       → has_type world heap v u ≡ true → IsLoaded world heap Forms.Reference v u
-  reference_loaded test u (Word n) leads h = absurd cc
-  reference_loaded test u (Ref n) leads h =
-      record { value = Ref n; is = refl; operand = record { type = h; written = refl } }
-  reference_loaded test u Null leads h =
-      record { value = Null; is = refl; operand = record { type = h; written = refl } }
-  reference_loaded test u Unset leads h = absurd cc
+  reference_loaded test u v h1 h2 = grind arith
 
 -- it is pushed then
 pub safe_loads : {C : Type 0} (s : Surroundings C) (h : Here C) (form : Form) (held : TaggedValue)
     (us : List TaggedValue) (world : List Shape) (heap : Heap TaggedValue) (u : Ty)
     → (l : IsLoaded world heap form held u) → IsSafe s (gives h l.value us) → IsSafe s (loads h form held us)
-safe_loads s h form held us world heap u l safe =
-    safe_some s (loaded_as form held) l.value (λ v. gives h v us) l.is safe
+safe_loads s h form held us world heap u l safe = grind (arith, safe_some)

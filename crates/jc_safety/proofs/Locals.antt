@@ -31,8 +31,7 @@ pub local_there : (world : List Shape) (heap : Heap TaggedValue) (vs : List Tagg
 local_there world heap [] [] index h e = absurd (omega (arith, ltb-true index 0 e))
 local_there world heap [] (t ∷ ts) index h e = absurd h
 local_there world heap (v ∷ vs) [] index h e = absurd h
-local_there world heap (v ∷ vs) (t ∷ ts) zero h e =
-    record { value = v; there = refl; type = t; type_there = refl; has = h.0 }
+local_there world heap (v ∷ vs) (t ∷ ts) zero h e = grind arith
 local_there world heap (v ∷ vs) (t ∷ ts) (suc index) h e =
     let low = ltb-true (suc index) (length (t ∷ ts)) e in
     let l = local_there world heap vs ts index h.1 (lt-ltb index (length ts) (omega (arith, low))) in
@@ -52,26 +51,17 @@ module _ (world before : List Shape) (most index : ℕ) (demand : Demand) (ds : 
   pub reads_nothing : Applied (is_class_below before) most (reads index demand ds Nothing) s t
       → Reads (drop (length ds) s.operands)
   unfolding after
-  reads_nothing a = record {
-    locals_are = ap (λ (x : Types). x.locals) a.is;
-    operands_are = ap (λ (x : Types). x.operands) a.is;
-  }
+  reads_nothing a = grind arith
 
   pub reads_one : (u : Ty) → Applied (is_class_below before) most (reads index demand ds (Exactly u)) s t
       → Reads (u ∷ drop (length ds) s.operands)
   unfolding after
-  reads_one u a = record {
-    locals_are = ap (λ (x : Types). x.locals) a.is;
-    operands_are = ap (λ (x : Types). x.operands) a.is;
-  }
+  reads_one u a = grind arith
 
   pub reads_local : Applied (is_class_below before) most (reads index demand ds OfLocal) s t
       → Reads (unwrap_or (slice_get s.locals index) types.Top ∷ drop (length ds) s.operands)
   unfolding after
-  reads_local a = record {
-    locals_are = ap (λ (x : Types). x.locals) a.is;
-    operands_are = ap (λ (x : Types). x.operands) a.is;
-  }
+  reads_local a = grind arith
 
 -- an operand that goes into a local
 pub record Stored (world : List Shape) (heap : Heap TaggedValue) (demand : Demand) (index : ℕ)

@@ -1,11 +1,9 @@
 -- Objects and arrays that are made: they are typed, or there is no room for them.
-use Rattle.std.proofs.Common.{◌≡◌, ℕ, ◌<◌, List, [], ◌∷◌, length, drop, replicate, set, slice_get}
-use Rattle.std.proofs.Common.{Bool, true, false, not, Option, Some, None, nat_lt, pos, refl, sym, ap, ◌∙◌, subst}
-use Rattle.std.proofs.Common.{if◌then◌else◌}
-use Rattle.std.specs.Option.{option_map, option_map_or}
+use Rattle.std.proofs.Common.{◌≡◌, ℕ, ◌<◌, List, [], ◌∷◌, length, drop, replicate, set, slice_get, arith, Bool, true}
+use Rattle.std.proofs.Common.{false, not, Option, Some, None, nat_lt, pos, refl, sym, ◌∙◌, subst, if◌then◌else◌}
+use Rattle.std.specs.Option.{option_map}
 use Rattle.std.specs.Prelude.{int_lt}
 use Rattle.jc_api.specs.declared.class.ApiClass.TheVariants as api
-use Rattle.jc_base.specs.declared.declared_type.DeclaredType.{DeclaredType}
 use Rattle.jc_cap_desc.specs.Shape.{Shape}
 use Rattle.jc_classes.specs.Members.{DeclaredMethod}
 use Rattle.jc_classes.specs.Subtype.{is_class_below}
@@ -31,11 +29,11 @@ use Rattle.jc_types.specs.State.{Types}
 use Rattle.jc_types.specs.declared.ty.Ty.{Ty}
 use Rattle.jc_types.specs.declared.ty.Ty.TheVariants as types
 use Rattle.jc_machine.specs.Going.{Here, check, gives, no_resource, on_word, throws_system}
-use Rattle.jc_machine.specs.Lookup.{class_of, fields_of, is_array, is_boolean_array, is_byte_array, is_short_array, leads_to}
+use Rattle.jc_machine.specs.Lookup.{is_array, is_boolean_array, is_byte_array, is_short_array, leads_to}
 use Rattle.jc_machine.specs.Machine.{Machine, Surroundings}
 use Rattle.jc_machine.specs.Objects.{act_create, cells_of, creates, creates_array, has_space, made, word_array}
 use Rattle.jc_machine.specs.Runtime.{negative_size_exception, system_exception}
-use Rattle.jc_machine.specs.Typed.{CellsTyped, HaveTypes, HoldTypes, IsOperand, IsTyped, has_type, is_cell, may_be_made}
+use Rattle.jc_machine.specs.Typed.{CellsTyped, HaveTypes, HoldTypes, IsOperand, IsTyped, has_type, may_be_made}
 use Rattle.jc_words.specs.Shorts.{short}
 use Rattle.jc_words.specs.Values.{Null, Ref, TaggedValue, Word}
 use Rattle.jc_safety.proofs.Below.{counted_reflexive}
@@ -80,15 +78,7 @@ module _ {C : Type 0} (s : Surroundings C) (ground : Ground s) (m : Machine C) (
   reason_fits : (o : heaps.Object TaggedValue) (reason : ℕ) → nat_lt reason 65536 ≡ true
       → o.kind.object ≡ Instance (Api api.SystemException) → CellsTyped shapes m.heap o.cells o.kind.object
       → CellsTyped shapes m.heap (set o.cells 0 (Word reason)) o.kind.object
-  reason_fits o reason small is typed =
-      let old = subst (λ (x : ObjectType). CellsTyped shapes m.heap o.cells x) is typed in
-      subst (λ (x : ObjectType). CellsTyped shapes m.heap (set o.cells 0 (Word reason)) x) (sym is)
-      (put_points (λ v field. is_cell shapes m.heap field v ≡ true) 0 o.cells
-      (fields_of shapes (Api api.SystemException))
-      (Word reason) old
-      (λ field there.
-      subst (λ (f : Option (DeclaredType ClassName)). is_cell shapes m.heap f (Word reason) ≡ true)
-      (sym (no_field shapes ground.api api.SystemException 0 field there)) small))
+  reason_fits o reason small is typed = grind (arith, set, put_points, no_field)
 
   pub system_thrown : (us : List TaggedValue) (reason : ℕ) → nat_lt reason 65536 ≡ true
       → IsSafe s (throws_system (at us) reason)
@@ -189,18 +179,12 @@ module _ {C : Type 0} (s : Surroundings C) (ground : Ground s) (m : Machine C) (
 
   -- a new object's reference, by what it is
   by_class : (c k : ClassName) → is_class_below shapes c k ≡ true → IsOfNew (Instance c) (types.Class k)
-  by_class c k e heap n o found is =
-      ap (λ (x : Option (heaps.Object TaggedValue)). option_map_or
-      (λ (o : heaps.Object TaggedValue). is_class_below shapes (class_of o.kind.object) k) x false) found
-      ∙ ap (λ (x : ObjectType). is_class_below shapes (class_of x) k) is ∙ e
+  by_class c k e heap n o found is = grind arith
 
   by_test : (test : ObjectType → Bool) (object : ObjectType) → test object ≡ true → (heap : Heap TaggedValue) (n : ℕ)
       → (o : heaps.Object TaggedValue) → object_at heap n ≡ Some o → o.kind.object ≡ object
       → leads_to heap test (Ref n) ≡ true
-  by_test test object e heap n o found is =
-      ap (λ (x : Option (heaps.Object TaggedValue)). option_map_or
-      (λ (o : heaps.Object TaggedValue). test o.kind.object) x false) found
-      ∙ ap test is ∙ e
+  by_test test object e heap n o found is = grind arith
 
   word_array_safe : (kind : WordKind) (after_it : Types)
       → Applied below most (takes (word ∷ []) (Exactly (checked.word_array kind))) state after_it
@@ -268,8 +252,7 @@ module _ {C : Type 0} (s : Surroundings C) (ground : Ground s) (m : Machine C) (
 
   pub mapped_some : {A B : Type 0} (f : A → B) (o : Option A) (b : B) → option_map f o ≡ Some b
       → (a : A) × (o ≡ Some a) × (f a ≡ b)
-  mapped_some f None b e = absurd cc
-  mapped_some f (Some a) b e = (a, refl, cc)
+  mapped_some f o b h1 = grind arith
 
   pub create : (creation : Creation) (after_it : Types)
       → HasRow below most (creation_row setting creation) state after_it → LeadsTo after_it next

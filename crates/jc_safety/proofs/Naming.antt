@@ -1,47 +1,31 @@
 -- Classes that the code of a package names: they are of the world in which it was linked.
-use Rattle.std.proofs.Common.{◌≡◌, ℕ, List, Option, Some, None, Bool, true, false, cond, not, slice_get, refl, subst}
+use Rattle.std.proofs.Common.{◌≡◌, ℕ, List, Option, Some, Bool, true, false, not, slice_get, subst, arith}
 use Rattle.std.specs.Option.{option_map_or}
 use Rattle.jc_api.specs.declared.class.ApiClass.TheVariants as api
-use Rattle.jc_cap.specs.ClassComponent.{is_class}
-use Rattle.jc_cap_desc.specs.Shape.{ClassShape, Shape}
+use Rattle.jc_cap_desc.specs.Shape.{Shape}
 use Rattle.jc_classes.specs.Growth.{IsWithin, StandWithin}
-use Rattle.jc_classes.specs.Subtype.{is_class_at, is_interface_at}
-use Rattle.jc_classes.specs.World.{class_at}
+use Rattle.jc_classes.specs.Subtype.{is_class_at}
 use Rattle.jc_link.specs.KnownTypes.{is_known_target}
 use Rattle.jc_link.specs.Linked.{LinkedBody, World}
 use Rattle.jc_link.specs.MemberType.{counted}
 use Rattle.jc_link.specs.declared.target.PoolTarget.{PoolTarget}
 use Rattle.jc_link.specs.declared.target.PoolTarget.TheVariants as To
 use Rattle.jc_names.specs.declared.name.ClassName.{ClassName}
-use Rattle.jc_names.specs.declared.name.ClassName.TheVariants.{Api}
 use Rattle.jc_effects.specs.Objects.{class_target, has_objects}
 use Rattle.jc_machine.specs.Accepted.{linked_as}
 use Rattle.jc_safety.proofs.Ground.{Stands}
 
 pub passing : {A : Type 0} (test : A → Bool) (o : Option A) → option_map_or test o false ≡ true → (a : A) × (o ≡ Some a)
-passing test None e = absurd cc
-passing test (Some a) e = (a, refl)
+passing test o h1 = grind arith
 
 -- an entry that is a class
 class_entry : (target : PoolTarget) (c : ClassName) → class_target target ≡ Some c → target ≡ To.Class c
-class_entry (To.Class k) c e = cc
-class_entry (To.InstanceField k cell declared) c e = absurd cc
-class_entry (To.StaticField place declared) c e = absurd cc
-class_entry (To.VirtualMethod k token signature) c e = absurd cc
-class_entry (To.SuperMethod k method signature) c e = absurd cc
-class_entry (To.StaticMethod k method is_static signature) c e = absurd cc
+class_entry target c h1 = grind arith
 
 -- a class or an interface that counts as a class is there
 there_counted : (world : List Shape) → StandWithin world → (c : ClassName) → is_class_at world (counted world c) ≡ true
     → IsWithin world c
-there_counted world within c e = by_kind (is_interface_at world c) refl e
-  where
-    by_kind : (b : Bool) → is_interface_at world c ≡ b → is_class_at world (cond b (Api api.Object) c) ≡ true
-        → IsWithin world c
-    by_kind true i e =
-        let k = passing (λ (k : ClassShape). not (is_class k.body)) (class_at world c) i in within.classes c k.0 k.1
-    by_kind false i e =
-        let k = passing (λ (k : ClassShape). is_class k.body) (class_at world c) e in within.classes c k.0 k.1
+there_counted world within c e = grind (arith, passing, not)
 
 module _ (w : World) (number : ℕ) (body : LinkedBody) (stands : Stands w number body) where
   -- a class that an entry is: as it counts, and whether it has objects, is as it was where the package was linked

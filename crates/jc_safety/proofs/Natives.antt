@@ -3,24 +3,20 @@ use Rattle.std.proofs.Common.{◌≡◌, ℕ, ◌<◌, List, [], ◌∷◌, leng
 use Rattle.std.proofs.Common.{None, nat_lt, refl, sym, ap, ◌∙◌, subst, arith}
 use Rattle.std.proofs.lemmas.Bool.{eq-eqb, lt-ltb}
 use Rattle.std.specs.Option.{option_and_then, option_map_or}
-use Rattle.jc_api.specs.Class.{number_of}
-use Rattle.jc_api.specs.Member.{ApiMember, member_of}
 use Rattle.jc_api.specs.declared.class.ApiClass.TheVariants as api
 use Rattle.jc_api.specs.declared.class.ApiClass.TheVariants.{Applet}
 use Rattle.jc_base.specs.Signature.{Signature}
 use Rattle.jc_base.specs.declared.declared_type.DeclaredType.{DeclaredType}
 use Rattle.jc_base.specs.declared.declared_type.DeclaredType.TheVariants as Declared
 use Rattle.jc_base.specs.declared.declared_type.ReturnType.{ReturnType}
-use Rattle.jc_base.specs.declared.declared_type.ReturnType.TheVariants.{Value, Void}
 use Rattle.jc_cap.specs.ClassComponent.{is_class}
 use Rattle.jc_cap_desc.specs.Shape.{ClassShape, Shape}
 use Rattle.jc_classes.specs.Members.{DeclaredMethod, method_at}
 use Rattle.jc_classes.specs.Methods.{virtual_method_of}
 use Rattle.jc_classes.specs.Subtype.{IsSubtype, is_class_at, is_class_below}
-use Rattle.jc_classes.specs.Subtype.IsSubtype.{by_interface, by_superclass, object, same}
+use Rattle.jc_classes.specs.Subtype.IsSubtype.{by_superclass, object, same}
 use Rattle.jc_classes.specs.World.{class_at}
-use Rattle.jc_link.specs.Found.{are_same_types, class_in, is_same_class, is_same_return, is_same_signature}
-use Rattle.jc_link.specs.Found.{is_same_type, kind_of}
+use Rattle.jc_link.specs.Found.{are_same_types, is_same_class, is_same_return, is_same_signature, is_same_type}
 use Rattle.jc_link.specs.MemberType.{declared_type_of, method_type_of}
 use Rattle.jc_link.specs.Named.{is_abstract_method, is_concrete}
 use Rattle.jc_link.specs.Sound.{IsFinished, IsHeir}
@@ -35,21 +31,19 @@ use Rattle.jc_effects.specs.Method.{result_of, returned_type}
 use Rattle.jc_store.specs.Heap as heaps
 use Rattle.jc_store.specs.Heap.{Heap, object_at}
 use Rattle.jc_store.specs.declared.kind.ObjectType.{ObjectType}
-use Rattle.jc_store.specs.declared.kind.ObjectType.TheVariants.{BooleanArray, ByteArray, Instance, ReferenceArray}
-use Rattle.jc_store.specs.declared.kind.ObjectType.TheVariants.{ShortArray}
 use Rattle.jc_types.specs.State.{Types, all_below}
 use Rattle.jc_types.specs.declared.ty.Ty.{Ty}
 use Rattle.jc_machine.specs.Calls.{callback_fits, called_as, calls_back, inner_native_ends, invokes, is_in_place_of}
 use Rattle.jc_machine.specs.Calls.{is_member_or_loaded, native_ends, native_gives, native_may_begin, native_type}
 use Rattle.jc_machine.specs.Calls.{on_native, type_of_member, virtual_member, with_given}
 use Rattle.jc_machine.specs.Going.{Here, leaves_operands, moved}
-use Rattle.jc_machine.specs.Lookup.{are_of_instance, are_of_types, class_of, is_given, is_object_of, is_of_class}
+use Rattle.jc_machine.specs.Lookup.{are_of_types, class_of, is_given, is_object_of, is_of_class}
 use Rattle.jc_machine.specs.Lookup.{is_of_type, may_begin_with}
 use Rattle.jc_machine.specs.Machine.{Callback, Calls, Gives, IsStuck, Machine, NativeAnswer, NativeCall}
 use Rattle.jc_machine.specs.Machine.{NativeEnd, Surroundings, ThrowsObject}
 use Rattle.jc_machine.specs.Natives.{EndsFit, IsFitCall, IsFitCallback, IsThrown}
 use Rattle.jc_machine.specs.Typed.{HaveTypes, HoldTypes, IsOperand, IsTyped, given_by, may_be_made, with_result_type}
-use Rattle.jc_words.specs.Values.{Null, Ref, TaggedValue, Unset, Word, is_written}
+use Rattle.jc_words.specs.Values.{Ref, TaggedValue, is_written}
 use Rattle.jc_safety.proofs.Below.{interface_object}
 use Rattle.jc_safety.proofs.Callees.{MayCall}
 use Rattle.jc_safety.proofs.Entering as entering
@@ -68,43 +62,24 @@ use Rattle.jc_safety.proofs.Writing.{typed_at}
 -- ---- results
 
 word_written : (v : TaggedValue) → is_of_type [] [] Declared.Short v ≡ true → is_written v ≡ true
-word_written (Word n) e = refl
-word_written (Ref n) e = absurd cc
-word_written Null e = absurd cc
-word_written Unset e = absurd cc
+word_written v h1 = grind arith
 
 -- a value of a declared type was written
 pub declared_written : (world : List Shape) (heap : Heap TaggedValue) (d : DeclaredType ClassName) (v : TaggedValue)
     → is_of_type world heap d v ≡ true → is_written v ≡ true
-declared_written world heap Declared.Boolean v e = word_written v e
-declared_written world heap Declared.Byte v e = word_written v e
-declared_written world heap Declared.Short v e = word_written v e
-declared_written world heap (Declared.Reference c) v e = leads_written heap _ v e
-declared_written world heap Declared.BooleanArray v e = leads_written heap _ v e
-declared_written world heap Declared.ByteArray v e = leads_written heap _ v e
-declared_written world heap Declared.ShortArray v e = leads_written heap _ v e
-declared_written world heap (Declared.ReferenceArray c) v e = leads_written heap (holds_below world c) v e
+declared_written world heap d v h1 = grind (arith, word_written, leads_written, holds_below)
 
 pub given_result : (world : List Shape) (heap : Heap TaggedValue) (r : ReturnType ClassName)
     (value : Option TaggedValue)
     → is_given world heap r value ≡ true → IsResult world heap value (returned_type r)
-given_result world heap Void None e = tt
-given_result world heap Void (Some v) e = absurd cc
-given_result world heap (Value d) None e = absurd cc
-given_result world heap (Value d) (Some v) e =
-    record { type = as_declared_type world heap d v e; written = declared_written world heap d v e }
+given_result world heap r value h1 = grind (arith, as_declared_type, declared_written)
 
 -- what a native member is declared to give
 native_result : (world : List Shape) (concrete : Bool) (o : Option DeclaredMethod) (d : DeclaredMethod)
     → (given : Signature ClassName) → o ≡ Some d
     → cond concrete (option_and_then (declared_type_of world) o) None ≡ Some given
     → result_of world d ≡ returned_type given.result
-native_result world false o d given e f = absurd cc
-native_result world true None d given e f = absurd cc
-native_result world true (Some x) d given e f =
-    let same : x ≡ d = cc in
-    ap (result_of world) (sym same)
-    ∙ ap (option_and_then (λ (y : Signature ClassName). returned_type y.result)) f
+native_result world concrete o d given h1 h2 = grind arith
 
 -- a member that isn't abstract may begin
 pub begins_if : (world : List Shape) (heap : Heap TaggedValue) (o : Option DeclaredMethod) (d : DeclaredMethod)
@@ -112,43 +87,28 @@ pub begins_if : (world : List Shape) (heap : Heap TaggedValue) (o : Option Decla
     → may_begin_with world heap d arguments ≡ true
     → (option_map_or (λ (x : DeclaredMethod). not (is_abstract_method x.method)) o false && option_map_or (λ
     (x : DeclaredMethod). may_begin_with world heap x arguments) o false) ≡ true
-begins_if world heap None d arguments e f g = absurd cc
-begins_if world heap (Some x) d arguments e f g =
-    let is : x ≡ d = cc in
-    let P : DeclaredMethod → Type 0 =
-    λ y. (not (is_abstract_method y.method) && may_begin_with world heap y arguments) ≡ true in
-    subst P (sym is)
-    (and_true (not (is_abstract_method d.method)) (may_begin_with world heap d arguments)
-    (ap not f) g)
+begins_if world heap o d arguments h1 h2 h3 = grind (arith, not, and_true)
 
 -- ---- types that are the same
 
 same_class_itself : (c : Option ClassName) → ((d : ClassName) → is_same_name d d ≡ true) → is_same_class c c ≡ true
-same_class_itself None h = refl
-same_class_itself (Some c) h = h c
+same_class_itself c h1 = grind arith
 
 name_itself : (c : ClassName) → is_same_name c c ≡ true
-name_itself (classes.Api a) = eq-eqb (number_of a) (number_of a) refl
-name_itself (classes.Loaded p n) = and_true _ _ (eq-eqb p p refl) (eq-eqb n n refl)
+name_itself c = grind (arith, eq-eqb, and_true)
 
 type_itself : (d : DeclaredType ClassName) → is_same_type d d ≡ true
-type_itself d =
-    and_true _ (is_same_class (class_in d) (class_in d)) (eq-eqb (kind_of d) (kind_of d) refl)
-    (same_class_itself (class_in d) name_itself)
+type_itself d = grind (arith, and_true, eq-eqb, same_class_itself, name_itself)
 
 types_themselves : (ds : List (DeclaredType ClassName)) → are_same_types ds ds ≡ true
 types_themselves [] = refl
-types_themselves (d ∷ ds) =
-    and_true (is_same_type d d) (are_same_types ds ds) (type_itself d) (types_themselves ds)
+types_themselves (d ∷ ds) = grind (arith, and_true, type_itself, types_themselves ds)
 
 return_itself : (r : ReturnType ClassName) → is_same_return r r ≡ true
-return_itself Void = refl
-return_itself (Value d) = type_itself d
+return_itself r = grind (arith, type_itself)
 
 signature_itself : (x : Signature ClassName) → is_same_signature x x ≡ true
-signature_itself x =
-    and_true (are_same_types x.parameters x.parameters) (is_same_return x.result x.result)
-    (types_themselves x.parameters) (return_itself x.result)
+signature_itself x = grind (arith, and_true, types_themselves, return_itself)
 
 abbrev giving : ReturnType ClassName → Signature ClassName
 giving r = record { parameters = []; result = r }
@@ -158,13 +118,7 @@ giving r = record { parameters = []; result = r }
 module _ {C : Type 0} (s : Surroundings C) (ground : Ground s) where
   pub heir : (c d : ClassName) → IsSubtype s.world.shapes c d → is_class_at s.world.shapes c ≡ true
       → is_class_at s.world.shapes d ≡ true → IsHeir s.world.shapes c d
-  heir _ _ (same k) at_c at_d = itself k
-  heir _ _ (object k) at_c at_d = ground.sound.superclasses.object k at_c
-  heir _ _ (by_superclass k e f up h) at_c at_d =
-      behind k e f up (heir e f h (ground.sound.superclasses.classes k e up) at_d)
-  heir _ _ (by_interface k i f listed h) at_c at_d =
-      let is = interface_object s ground i f h (ground.sound.superclasses.orderly.interfaces k i listed) at_d in
-      subst (λ (x : ClassName). IsHeir s.world.shapes k x) (sym is) (ground.sound.superclasses.object k at_c)
+  heir c d h1 h2 h3 = grind (arith, interface_object)
 
   pub heir_below : (c d : ClassName) → is_class_below s.world.shapes c d ≡ true → is_class_at s.world.shapes c ≡ true
       → is_class_at s.world.shapes d ≡ true → IsHeir s.world.shapes c d
@@ -188,16 +142,7 @@ module _ {C : Type 0} (s : Surroundings C) (ground : Ground s) where
 
   by_shape : (c : ClassName) (o : Option ClassShape) → class_at s.world.shapes c ≡ o
       → option_map_or (λ (k : ClassShape). is_class k.body && not k.is_abstract) o false ≡ true → IsMade c
-  by_shape c None f e = absurd cc
-  by_shape c (Some k) f e =
-      let b = both (is_class k.body) (not k.is_abstract) e in record {
-        class = ap (λ (o : Option ClassShape). option_map_or (λ (k : ClassShape). is_class k.body) o false) f ∙ b.0;
-        finished = ground.sound.finished c k f b.0 (not_abstract k.is_abstract b.1);
-      }
-    where
-      not_abstract : (b : Bool) → not b ≡ true → b ≡ false
-      not_abstract true e = absurd cc
-      not_abstract false e = refl
+  by_shape c o h1 h2 = grind (arith, both, not)
 
   object_made : IsMade (classes.Api api.Object)
   object_made =
@@ -208,11 +153,7 @@ module _ {C : Type 0} (s : Surroundings C) (ground : Ground s) where
       }
 
   pub class_made : (o : ObjectType) → may_be_made s.world.shapes o ≡ true → IsMade (class_of o)
-  class_made (Instance c) e = by_shape c (class_at s.world.shapes c) refl e
-  class_made BooleanArray e = object_made
-  class_made ByteArray e = object_made
-  class_made ShortArray e = object_made
-  class_made (ReferenceArray c) e = object_made
+  class_made o h1 = grind (arith, by_shape, object_made)
 
 -- ---- calls
 
@@ -224,27 +165,12 @@ pub instance_begins : (world : List Shape) (heap : Heap TaggedValue) (d : Declar
     → (v : TaggedValue) (vs : List TaggedValue) → declared_type_of world d ≡ Some x → d.method.is_static ≡ false
     → is_object_of world heap d.class v ≡ true → are_of_types world heap x.parameters vs ≡ true
     → may_begin_with world heap d (v ∷ vs) ≡ true
-instance_begins world heap d x v vs type instance on arguments =
-    let P : Option (Signature ClassName) → Type 0 =
-    λ o. option_map_or (λ (y : Signature ClassName). cond d.method.is_static (are_of_types world heap y.parameters
-    (v ∷ vs)) (are_of_instance world heap d.class y.parameters (v ∷ vs))) o false ≡ true in
-    let Q : Bool → Type 0 =
-    λ b. cond b (are_of_types world heap x.parameters (v ∷ vs)) (are_of_instance world heap d.class x.parameters
-    (v ∷ vs)) ≡ true in
-    subst P (sym type)
-    (subst Q (sym instance)
-    (and_true (is_object_of world heap d.class v) (are_of_types world heap x.parameters vs) on arguments))
+instance_begins world heap d x v vs type instance on arguments = grind (arith, and_true)
 
 pub static_begins : (world : List Shape) (heap : Heap TaggedValue) (d : DeclaredMethod) (x : Signature ClassName)
     → (vs : List TaggedValue) → declared_type_of world d ≡ Some x → d.method.is_static ≡ true
     → are_of_types world heap x.parameters vs ≡ true → may_begin_with world heap d vs ≡ true
-static_begins world heap d x vs type static arguments =
-    let P : Option (Signature ClassName) → Type 0 =
-    λ o. option_map_or (λ (y : Signature ClassName). cond d.method.is_static (are_of_types world heap y.parameters vs)
-    (are_of_instance world heap d.class y.parameters vs)) o false ≡ true in
-    let Q : Bool → Type 0 =
-    λ b. cond b (are_of_types world heap x.parameters vs) (are_of_instance world heap d.class x.parameters vs) ≡ true in
-    subst P (sym type) (subst Q (sym static) arguments)
+static_begins world heap d x vs type static arguments = grind arith
 
 pub gives_by : (world : List Shape) (d : DeclaredMethod) (x : Signature ClassName) → declared_type_of world d ≡ Some x
     → result_of world d ≡ returned_type x.result
@@ -252,14 +178,7 @@ gives_by world d x e = ap (option_and_then (λ (y : Signature ClassName). return
 
 pub concrete_is : (world : List Shape) (name : MethodName) (d : DeclaredMethod) → method_at world name ≡ Some d
     → is_concrete world name ≡ true → is_abstract_method d.method ≡ false
-concrete_is world name d e f =
-    not_true (is_abstract_method d.method)
-    (sym (ap (λ (o : Option DeclaredMethod). option_map_or (λ (x : DeclaredMethod). not
-    (is_abstract_method x.method)) o false) e) ∙ f)
-  where
-    not_true : (b : Bool) → not b ≡ true → b ≡ false
-    not_true true e = absurd cc
-    not_true false e = refl
+concrete_is world name d e f = grind (arith, not)
 
 -- the type of a method that is there
 pub type_there : (world : List Shape) (name : MethodName) (d : DeclaredMethod) (x : Signature ClassName)
@@ -274,11 +193,7 @@ module _ {C : Type 0} (s : Surroundings C) (ground : Ground s) where
   pub is_object : (heap : Heap TaggedValue) (n : ℕ) (o : heaps.Object TaggedValue) (c : ClassName)
       → object_at heap n ≡ Some o → is_of_class its_shapes c o.kind.object ≡ true → is_object_of its_shapes heap c
       (Ref n) ≡ true
-  is_object heap n o c found is =
-      ap (λ (x : Option (heaps.Object TaggedValue)). option_map_or (λ
-      (o : heaps.Object TaggedValue). is_of_class its_shapes c o.kind.object) x false)
-      found
-      ∙ is
+  is_object heap n o c found is = grind arith
 
   -- a method that an object's class finds at a virtual token may be called on the object
   pub found_method : (heap : Heap TaggedValue) (n : ℕ) (o : heaps.Object TaggedValue) (token asker : ℕ)
@@ -503,16 +418,7 @@ module _ {C : Type 0} (s : Surroundings C) (ground : Ground s) (m : Machine C) (
         → is_member_or_loaded member name ≡ true
         → method_at shapes name ≡ Some y → is_class_below shapes y.class c ≡ true
         → method_type_of shapes name ≡ Some x → is_in_place_of shapes member c x name ≡ true
-    in_place member c x name y its there below type =
-        let declared : Bool = option_map_or (λ (z : DeclaredMethod). is_class_below shapes z.class c)
-        (method_at shapes name) false in
-        and_true (is_member_or_loaded member name && declared)
-        (option_map_or (is_same_signature x) (method_type_of shapes name) false)
-        (and_true (is_member_or_loaded member name) declared its
-        (ap (λ (o : Option DeclaredMethod). option_map_or (λ (z : DeclaredMethod). is_class_below shapes z.class c) o
-        false) there ∙ below))
-        (ap (λ (o : Option (Signature ClassName)). option_map_or (is_same_signature x) o false) type
-        ∙ signature_itself x)
+    in_place member c x name y its there below type = grind (arith, its, there, and_true, signature_itself)
 
     -- the method that is found in place of the member
     module _ (members : HaveMembers shapes) (heap : Heap TaggedValue) (runtime : C)
@@ -532,9 +438,7 @@ module _ {C : Type 0} (s : Surroundings C) (ground : Ground s) (m : Machine C) (
       there = subst (λ (h : Heap TaggedValue). object_at h callback.object ≡ Some fit.object) is fit.there
 
       arguments_fit : are_of_types shapes heap fit.signature.parameters callback.arguments ≡ true
-      arguments_fit =
-          subst (λ (h : Heap TaggedValue). are_of_types shapes h fit.signature.parameters callback.arguments ≡ true) is
-          fit.arguments
+      arguments_fit = grind arith
 
       made : IsMade s ground on
       made =
@@ -542,19 +446,14 @@ module _ {C : Type 0} (s : Surroundings C) (ground : Ground s) (m : Machine C) (
           (typed_at shapes heap b.typed callback.object fit.object there).made
 
       class_there : is_class_at shapes class ≡ true
-      class_there =
-          let f = ground.sound.virtual_methods.found class its.token 0 (Api callback.member) its.found in
-          heir_there s ground class f.declared.class f.heir
-          (ground.names.declared (Api callback.member) f.declared f.there)
+      class_there = grind (arith, its, heir_there, heir, there)
 
       on_heir : IsHeir shapes on class
       on_heir = heir_below s ground on class fit.below made.class class_there
 
       -- it is that member, or a package's
       of_applet : fit.member.class ≡ Applet
-      of_applet =
-          sym (ap (λ (o : Option ApiMember). option_map_or (λ (x : ApiMember). x.class) o Applet)
-          (ap member_of (sym fit.shareable) ∙ fit.member_is))
+      of_applet = grind arith
 
       stands_there : (name : MethodName) → virtual_method_of shapes on its.token 0 ≡ Some name
           → is_member_or_loaded callback.member name ≡ true

@@ -1,7 +1,6 @@
 -- Instructions that move and compare references, cast them and throw them are safe.
-use Rattle.std.proofs.Common.{◌≡◌, ℕ, ℤ, List, [], ◌∷◌, length, set, slice_get}
-use Rattle.std.proofs.Common.{Bool, true, not, Option, nat_lt, unwrap_or}
-use Rattle.std.proofs.Common.{refl, sym, ap, ◌∙◌, subst}
+use Rattle.std.proofs.Common.{◌≡◌, ℕ, ℤ, List, [], ◌∷◌, length, set, slice_get, arith, Bool, true, not, Option, nat_lt}
+use Rattle.std.proofs.Common.{unwrap_or, refl, sym, ap, ◌∙◌, subst}
 use Rattle.jc_api.specs.declared.class.ApiClass.TheVariants as api
 use Rattle.jc_cap_desc.specs.Shape.{Shape}
 use Rattle.jc_classes.specs.Members.{DeclaredMethod}
@@ -26,7 +25,7 @@ use Rattle.jc_machine.specs.Machine.{Machine, Surroundings}
 use Rattle.jc_machine.specs.Arrays.{is_there}
 use Rattle.jc_machine.specs.Objects.{act_branch, act_throw, is_null, is_same, on_known}
 use Rattle.jc_machine.specs.Typed.{IsOperand, IsTyped}
-use Rattle.jc_words.specs.Values.{Null, Ref, TaggedValue, Unset, Word, is_reference, is_written}
+use Rattle.jc_words.specs.Values.{Null, Ref, TaggedValue, is_reference, is_written}
 use Rattle.jc_safety.proofs.Goes.{placed, room_left, safe_gives, safe_on, throws_at}
 use Rattle.jc_safety.proofs.Ground.{Ground}
 use Rattle.jc_safety.proofs.Locals.{local_there, local_type, reads_local, stored}
@@ -38,17 +37,11 @@ use Rattle.jc_safety.proofs.Writing.{ref_case}
 -- a reference, or null; and it was written
 pub leads_reference : (heap : Heap TaggedValue) (v : TaggedValue) → leads_to heap any_object v ≡ true
     → is_reference v ≡ true
-leads_reference heap (Word n) e = absurd cc
-leads_reference heap (Ref n) e = refl
-leads_reference heap Null e = refl
-leads_reference heap Unset e = absurd cc
+leads_reference heap v h1 = grind arith
 
 pub leads_written : (heap : Heap TaggedValue) (test : ObjectType → Bool) (v : TaggedValue) → leads_to heap test v ≡ true
     → is_written v ≡ true
-leads_written heap test (Word n) e = absurd cc
-leads_written heap test (Ref n) e = refl
-leads_written heap test Null e = refl
-leads_written heap test Unset e = absurd cc
+leads_written heap test v h1 = grind arith
 
 module _ {C : Type 0} (s : Surroundings C) (ground : Ground s) (m : Machine C) (t : IsTyped s m) (d : DeclaredMethod)
     (next : ℕ) where

@@ -7,12 +7,10 @@ use Rattle.jc_base.specs.Signature.{Signature}
 use Rattle.jc_base.specs.declared.declared_type.DeclaredType.{DeclaredType}
 use Rattle.jc_base.specs.declared.declared_type.DeclaredType.TheVariants as Declared
 use Rattle.jc_base.specs.declared.declared_type.ReturnType.{ReturnType}
-use Rattle.jc_base.specs.declared.declared_type.ReturnType.TheVariants.{Value, Void}
-use Rattle.jc_cap_desc.specs.Shape.{MethodBody, Shape}
+use Rattle.jc_cap_desc.specs.Shape.{Shape}
 use Rattle.jc_cap.specs.declared.method_header.MethodHeader.{MethodHeader}
 use Rattle.jc_classes.specs.Members.{DeclaredMethod}
 use Rattle.jc_classes.specs.Subtype.{is_class_below}
-use Rattle.jc_code.specs.declared.instr.Instr.{Instr}
 use Rattle.jc_link.specs.MemberType.{declared_type_of}
 use Rattle.jc_names.specs.declared.name.ClassName.{ClassName}
 use Rattle.jc_effects.specs.Method.{result_of, returned_type}
@@ -26,10 +24,10 @@ use Rattle.jc_types.specs.Ty.{is_word, type_of_declared}
 use Rattle.jc_types.specs.declared.ty.Ty.{Ty}
 use Rattle.jc_types.specs.declared.ty.Ty.TheVariants as types
 use Rattle.jc_machine.specs.Going.{Here, on_reference, on_word}
-use Rattle.jc_machine.specs.Lookup.{declared_at, instruction_at, is_given, is_of_type}
+use Rattle.jc_machine.specs.Lookup.{declared_at, is_given, is_of_type}
 use Rattle.jc_machine.specs.Machine.{Frame, Machine, Surroundings}
 use Rattle.jc_machine.specs.Returns as returns
-use Rattle.jc_machine.specs.Returns.{pc_behind_call, resumed, returns_to, room_of, with_result}
+use Rattle.jc_machine.specs.Returns.{pc_behind_call, resumed, returns_to, room_of}
 use Rattle.jc_machine.specs.Typed.{HaveTypes, HoldTypes, IsOperand, IsTyped, IsTypedBeside, WaitTyped, WaitsTyped, given_by, has_type}
 use Rattle.jc_machine.specs.Typed.{with_result_type}
 use Rattle.jc_words.specs.Values.{TaggedValue, Word, is_reference, is_written}
@@ -47,25 +45,11 @@ use Rattle.jc_safety.proofs.Upward.{operands_up, types_up}
 -- a value of the type that a declared one is checked as is of the declared type
 pub of_declared : (world : List Shape) (heap : Heap TaggedValue) (d : DeclaredType ClassName) (v : TaggedValue)
     → has_type world heap v (type_of_declared d) ≡ true → is_of_type world heap d v ≡ true
-of_declared world heap Declared.Boolean v h = h
-of_declared world heap Declared.Byte v h = h
-of_declared world heap Declared.Short v h = h
-of_declared world heap (Declared.Reference c) v h = h
-of_declared world heap Declared.BooleanArray v h = h
-of_declared world heap Declared.ByteArray v h = h
-of_declared world heap Declared.ShortArray v h = h
-of_declared world heap (Declared.ReferenceArray c) v h = h
+of_declared world heap d v h1 = grind arith
 
 pub as_declared_type : (world : List Shape) (heap : Heap TaggedValue) (d : DeclaredType ClassName) (v : TaggedValue)
     → is_of_type world heap d v ≡ true → has_type world heap v (type_of_declared d) ≡ true
-as_declared_type world heap Declared.Boolean v h = h
-as_declared_type world heap Declared.Byte v h = h
-as_declared_type world heap Declared.Short v h = h
-as_declared_type world heap (Declared.Reference c) v h = h
-as_declared_type world heap Declared.BooleanArray v h = h
-as_declared_type world heap Declared.ByteArray v h = h
-as_declared_type world heap Declared.ShortArray v h = h
-as_declared_type world heap (Declared.ReferenceArray c) v h = h
+as_declared_type world heap d v h1 = grind arith
 
 -- a result, if there is one, of a type, if there is one
 abbrev pub IsResult : List Shape → Heap TaggedValue → Option TaggedValue → Option Ty → Type 0
@@ -76,9 +60,7 @@ IsResult world heap (Some v) None = ⊥
 
 pub result_written : (world : List Shape) (heap : Heap TaggedValue) (value : Option TaggedValue) (r : Option Ty)
     → IsResult world heap value r → option_map_or is_written value true ≡ true
-result_written world heap None r is = refl
-result_written world heap (Some v) (Some t) is = is.written
-result_written world heap (Some v) None is = absurd is
+result_written world heap value r h1 = grind arith
 
 -- what a method that gives this is declared to give
 pub record Gives (world : List Shape) (d : DeclaredMethod) (t : Option Ty) : Type 0 where
@@ -101,10 +83,7 @@ module _ {C : Type 0} (s : Surroundings C) (ground : Ground s) where
     holds_with : (value : Option TaggedValue) (r : Option Ty) → IsResult shapes m.heap value r
         → HoldTypes shapes m.heap f.operands w.left
         → HoldTypes shapes m.heap (with_it value) (with_result_type r w.left)
-    holds_with None None is h = h
-    holds_with (Some v) (Some t) is h = (is, h)
-    holds_with None (Some t) is h = absurd is
-    holds_with (Some v) None is h = absurd is
+    holds_with value r h1 h2 = grind arith
 
     resumed_typed : (value : Option TaggedValue) → IsResult shapes m.heap value result
         → IsTyped s (resumed m f fs w.call.next_pc (with_it value))
@@ -175,11 +154,7 @@ module _ {C : Type 0} (s : Surroundings C) (ground : Ground s) where
         ∙ ap (option_map (λ (h : MethodHeader). h.max_stack)) its_method.header_is
 
     behind_is : pc_behind_call s f ≡ Some w.call.next_pc
-    behind_is =
-        ap (λ (x : Option MethodBody). option_map (λ (i : Instr). i.next_pc)
-        (option_and_then (λ (b : MethodBody). instruction_at b.code f.pc) x))
-        w.placed.there
-        ∙ ap (option_map (λ (i : Instr). i.next_pc)) w.stands
+    behind_is = grind arith
 
   module _ (m : Machine C) (t : IsTyped s m) (d : DeclaredMethod) (next : ℕ) where
     abbrev at : List TaggedValue → Here C
@@ -236,27 +211,15 @@ module _ {C : Type 0} (s : Surroundings C) (ground : Ground s) where
 
       given_value : (r : ReturnType ClassName) (u : Ty) (v : TaggedValue) → returned_type r ≡ Some u
           → has_type shapes m.heap v u ≡ true → is_given shapes m.heap r (Some v) ≡ true
-      given_value Void u v e h = absurd cc
-      given_value (Value declared) u v e h =
-          let same : type_of_declared declared ≡ u = cc in
-          of_declared shapes m.heap declared v
-          (subst (λ (x : Ty). has_type shapes m.heap v x ≡ true) (sym same) h)
+      given_value r u v h1 h2 = grind (arith, of_declared)
 
       -- a value of the type that the method gives
       pub gives_back : (vs : List TaggedValue) (v : TaggedValue) (u : Ty) → (method s ground m t).returned ≡ Some u
           → IsOperand shapes m.heap v u → IsSafe s (returns.returns_value (at vs) v)
-      gives_back vs v u is has =
-          let g = signature_of (declared_type_of shapes d) u (sym returned ∙ is) in
-          let R : Option Ty → Type 0 = λ r. IsResult shapes m.heap (Some v) r in
-          safe_some s (returns.result_of (at vs)) (g.0).result _
-          (ap (option_map (λ (x : Signature ClassName). x.result)) g.1)
-          (safe_check s (is_given shapes m.heap (g.0).result (Some v)) _ (given_value (g.0).result u v g.2 has.type)
-          (returns_safe vs (Some v) (given_by s.world m.top) m.waiting t.waiting
-          (subst R (sym (given_is ∙ is)) has)))
+      gives_back vs v u is has = grind (arith, signature_of, safe_some, safe_check, given_value, returns_safe, given_is)
 
       nothing_given : (r : ReturnType ClassName) → returned_type r ≡ None → is_given shapes m.heap r None ≡ true
-      nothing_given Void e = refl
-      nothing_given (Value declared) e = absurd cc
+      nothing_given r h1 = grind arith
 
       no_type : (o : Option (Signature ClassName)) → is_some o ≡ true
           → option_and_then (λ (x : Signature ClassName). returned_type x.result) o ≡ None
@@ -278,19 +241,10 @@ module _ {C : Type 0} (s : Surroundings C) (ground : Ground s) where
       -- ---- the instructions
 
       a_type : (r : Option Ty) → option_map_or is_word r false ≡ true → r ≡ Some types.Word
-      a_type None e = absurd cc
-      a_type (Some types.Top) e = absurd cc
-      a_type (Some types.Word) e = refl
-      a_type (Some types.Null) e = absurd cc
-      a_type (Some (types.Class c)) e = absurd cc
-      a_type (Some types.BooleanArray) e = absurd cc
-      a_type (Some types.ByteArray) e = absurd cc
-      a_type (Some types.ShortArray) e = absurd cc
-      a_type (Some (types.ReferenceArray c)) e = absurd cc
+      a_type r h1 = grind arith
 
       no_result : (r : Option Ty) → not (is_some r) ≡ true → r ≡ None
-      no_result None e = refl
-      no_result (Some u) e = absurd cc
+      no_result r h1 = grind arith
 
       pub return_void : (after : Types)
           → Applied below most (if_form (not (is_some (method s ground m t).returned)) (takes [] Nothing)) state after

@@ -1,6 +1,6 @@
 -- What the rows of instructions on objects share: a place of the code, and what their operands are.
-use Rattle.std.proofs.Common.{◌≡◌, ℕ, ℤ, zero, suc, List, [], ◌∷◌, length, take, drop, reverse, set, slice_get}
-use Rattle.std.proofs.Common.{Bool, true, Option, Some, None, map, refl, sym, ap, ◌∙◌, subst}
+use Rattle.std.proofs.Common.{◌≡◌, ℕ, ℤ, zero, suc, List, [], ◌∷◌, length, take, drop, reverse, set, slice_get, arith}
+use Rattle.std.proofs.Common.{Bool, true, Option, Some, map, refl, sym, ap, ◌∙◌, subst}
 use Rattle.std.specs.Option.{option_and_then, option_map}
 use Rattle.jc_cap_desc.specs.Shape.{Shape}
 use Rattle.jc_check.specs.Typing.{BranchLeads, Leads}
@@ -49,8 +49,7 @@ mapped_at f (x ∷ xs) (suc n) = mapped_at f xs n
 
 joined_found : {A : Type 0} (f : A → Option PoolTarget) (o : Option A) (target : PoolTarget)
     → option_map f o ≡ Some (Some target) → option_and_then f o ≡ Some target
-joined_found f None target e = absurd cc
-joined_found f (Some a) target e = cc
+joined_found f o target h1 = grind arith
 
 -- what the check read an entry as is what it leads to in the world
 pub resolved : (w : World) (number : ℕ) (body : LinkedBody) → body_at w number ≡ Some body
@@ -96,8 +95,7 @@ module _ {C : Type 0} (s : Surroundings C) (ground : Ground s) (m : Machine C) (
   orders = orders_of s ground m (placed s ground m t)
 
   pub locals_still : (ls : List Ty) → state.locals ≡ ls → HaveTypes world m.heap m.top.locals ls
-  locals_still ls e =
-      subst (λ (x : List Ty). HaveTypes world m.heap m.top.locals x) e (placed s ground m t).locals_typed
+  locals_still ls e = grind (arith, placed)
 
   pub held : (ts us : List Ty) (vs : List TaggedValue) → ts ≡ us → HoldTypes world m.heap vs ts
       → HoldTypes world m.heap vs us
@@ -192,8 +190,7 @@ module _ {C : Type 0} (s : Surroundings C) (ground : Ground s) (m : Machine C) (
     pub safe_required : (us : List TaggedValue) (exception : ℕ) (b : Bool) (x : Stepped C)
         → IsThrown s.world m.heap exception → (b ≡ true → IsSafe s x)
         → IsSafe s (require (here us) exception b x)
-    safe_required us exception b x thrown go =
-        safe_require s (here us) exception b x (throws_at s ground m t us exception thrown) go
+    safe_required us exception b x thrown go = grind (arith, safe_require, throws_at)
 
     -- a branch, or a jump
     pub branch_it : (offset : ℤ) (ds : List Demand) (us vs : List TaggedValue) (taken : Bool) (after : Types)

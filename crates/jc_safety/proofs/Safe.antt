@@ -1,12 +1,10 @@
 -- What a rule of the machine comes to is safe: one lemma for each way to go on.
-use Rattle.std.proofs.Common.{◌≡◌, ℕ, List, Option, Some, None, Bool, true, false, refl, sym, subst}
+use Rattle.std.proofs.Common.{◌≡◌, ℕ, List, Option, Some, Bool, true, sym, subst, arith}
 use Rattle.jc_firewall.specs.declared.access.Verdict.{Verdict}
-use Rattle.jc_firewall.specs.declared.access.Verdict.TheVariants.{Allowed, AllowedSwitch, Denied}
-use Rattle.jc_firewall.specs.Verdict.{verdict_of}
 use Rattle.jc_names.specs.declared.owner.Owner.{Owner}
 use Rattle.jc_words.specs.Values.{TaggedValue}
 use Rattle.jc_store.specs.Heap.{Object}
-use Rattle.jc_machine.specs.Going.{Here, by_verdict, check, facts_of, judged, on_some, require, touched}
+use Rattle.jc_machine.specs.Going.{Here, by_verdict, check, judged, on_some, require, touched}
 use Rattle.jc_machine.specs.Machine.{Asked, Ends, Machine, Next, Outcome, Stepped, Stuck, Surroundings, Throws, Touch}
 use Rattle.jc_machine.specs.Machine.{UsedUp}
 use Rattle.jc_machine.specs.Natives.{IsThrown}
@@ -37,8 +35,7 @@ module _ {C : Type 0} (s : Surroundings C) where
   safe_touched touches x h = record { fine = h.fine }
 
   pub safe_check : (b : Bool) (x : Stepped C) → b ≡ true → IsSafe s x → IsSafe s (check b x)
-  safe_check true x e h = h
-  safe_check false x e h = absurd cc
+  safe_check b x h1 h2 = grind arith
 
   pub safe_some : {A : Type 0} (x : Option A) (a : A) (go : A → Stepped C) → x ≡ Some a → IsSafe s (go a)
       → IsSafe s (on_some x go)
@@ -46,19 +43,15 @@ module _ {C : Type 0} (s : Surroundings C) where
 
   pub safe_require : (h : Here C) (exception : ℕ) (b : Bool) (x : Stepped C) → MayUnwind s h.machine exception
       → (b ≡ true → IsSafe s x) → IsSafe s (require h exception b x)
-  safe_require h exception true x may go = go refl
-  safe_require h exception false x may go = record { fine = may }
+  safe_require h exception b x h1 h2 = grind arith
 
   safe_verdict : (h : Here C) (asked : Asked) (verdict : Verdict) (go : Option Owner → Stepped C)
       → MayUnwind s h.machine security_exception
       → ((switch : Option Owner) → IsSafe s (go switch)) → IsSafe s (by_verdict h asked verdict go)
-  safe_verdict h asked Allowed go may each = record { fine = (each None).fine }
-  safe_verdict h asked (AllowedSwitch owner) go may each = record { fine = (each (Some owner)).fine }
-  safe_verdict h asked (Denied rule) go may each = record { fine = may }
+  safe_verdict h asked verdict go h1 h2 = grind arith
 
   -- an access: it is denied, or the step goes on, whoever is active then
   pub safe_judged : (h : Here C) (asked : Asked) (object : Object TaggedValue) (go : Option Owner → Stepped C)
       → MayUnwind s h.machine security_exception
       → ((switch : Option Owner) → IsSafe s (go switch)) → IsSafe s (judged h asked object go)
-  safe_judged h asked object go may each =
-      safe_verdict h asked (verdict_of asked.access h.machine.top.active.context (facts_of h asked object)) go may each
+  safe_judged h asked object go may each = grind (arith, safe_verdict)

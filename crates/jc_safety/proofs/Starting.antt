@@ -1,8 +1,7 @@
 -- Calls of the runtime are safe where they can begin; and they can begin where a virtual member of the API is called on
 -- an object.
-use Rattle.std.proofs.Common.{◌≡◌, ℕ, zero, suc, List, [], ◌∷◌, length, ◌+◌, Option, Some, None, Bool, true}
-use Rattle.std.proofs.Common.{false, cond, not}
-use Rattle.std.proofs.Common.{refl, sym, ap, ◌∙◌, subst}
+use Rattle.std.proofs.Common.{◌≡◌, ℕ, zero, suc, List, [], ◌∷◌, length, ◌+◌, Option, Some, None, Bool, true, arith}
+use Rattle.std.proofs.Common.{false, cond, not, sym, ap, ◌∙◌, subst}
 use Rattle.std.specs.Option.{option_and_then, option_map_or}
 use Rattle.jc_base.specs.Signature.{Signature}
 use Rattle.jc_cap_desc.specs.Shape.{Shape}
@@ -23,9 +22,8 @@ use Rattle.jc_machine.specs.Machine.{Calls, Frame, Gives, IsStuck, Machine, Meth
 use Rattle.jc_machine.specs.Machine.{NativeEnd, Surroundings, ThrowsObject}
 use Rattle.jc_machine.specs.Natives.{EndsFit, IsFitCall}
 use Rattle.jc_machine.specs.Step.{Called, Gave, RanOut, Start, Threw, WasStuck, after_first_native, begun, begun_by}
-use Rattle.jc_machine.specs.Step.{ended_by, room_lacking}
-use Rattle.jc_machine.specs.Step.{may_begin, native_called, native_ended, native_started, no_frame}
-use Rattle.jc_machine.specs.Step.{runtime_call, standing, started, started_by, steps_of, first_native_call}
+use Rattle.jc_machine.specs.Step.{ended_by, room_lacking, may_begin, native_called, native_ended, native_started}
+use Rattle.jc_machine.specs.Step.{no_frame, runtime_call, standing, started, started_by, steps_of, first_native_call}
 use Rattle.jc_machine.specs.Typed.{HaveTypes, IsTyped, IsTypedBeside}
 use Rattle.jc_words.specs.Values.{Ref, TaggedValue}
 use Rattle.jc_safety.specs.Safety.{EndsTyped}
@@ -44,8 +42,7 @@ use Rattle.jc_safety.proofs.Stepping.{runs_safely}
 use Rattle.jc_safety.proofs.Writing.{typed_at}
 
 not_true : (b : Bool) → not b ≡ true → b ≡ false
-not_true true e = absurd cc
-not_true false e = refl
+not_true b h1 = grind arith
 
 same_header : (o : Option MethodHeader) (x y : MethodHeader) → o ≡ Some x → o ≡ Some y → x ≡ y
 same_header o x y e f = cc
@@ -57,8 +54,7 @@ module _ {C : Type 0} (s : Surroundings C) (ground : Ground s) (members : HaveMe
 
   -- what is kept beside the frames, whichever frame stands there
   beside_with : (f : Frame) → IsTypedBeside s (standing start (no_frame start.owner)) → IsTypedBeside s (standing start f)
-  beside_with f b =
-      record { heap = b.heap; statics = b.statics; runtime_objects = b.runtime_objects; fits = b.fits }
+  beside_with f b = grind arith
 
   -- ---- a method of a loaded package
 
@@ -87,12 +83,10 @@ module _ {C : Type 0} (s : Surroundings C) (ground : Ground s) (members : HaveMe
       })
 
   if_typed : (b : Bool) (x y : Called C) → EndsTyped s x.ends → EndsTyped s y.ends → EndsTyped s (cond b x y).ends
-  if_typed true x y h k = h
-  if_typed false x y h k = k
+  if_typed b x y h1 h2 = grind arith
 
   if_so : (b : Bool) (x y : Called C) → b ≡ true → EndsTyped s x.ends → EndsTyped s (cond b x y).ends
-  if_so true x y e h = h
-  if_so false x y e h = absurd cc
+  if_so b x y h1 h2 = grind arith
 
   begun_typed : (steps : ℕ) (place : MethodPlace) (k : MethodCanBegin s start place)
       → IsTypedBeside s (standing start (no_frame start.owner)) → EndsTyped s (begun s steps start place k.header).ends
@@ -126,12 +120,7 @@ module _ {C : Type 0} (s : Surroundings C) (ground : Ground s) (members : HaveMe
     after = after_first_native start a
 
     its_call : IsFitCall s.natives s.world call
-    its_call = record {
-      begins = k.begins;
-      heap = beside.heap;
-      runtime_objects = beside.runtime_objects;
-      fits = beside.fits;
-    }
+    its_call = grind arith
 
     after_typed : IsTypedBeside s after
     after_typed =
@@ -212,14 +201,7 @@ module _ {C : Type 0} (s : Surroundings C) (ground : Ground s) (members : HaveMe
             (takes_them shapes start.heap ground.sound.methods (Loaded number offset) k.declared h.0 start.arguments
             k.there h.1 no begins) begins;
       }
-  can_begin (Api member) result vs is k instance = record {
-    declared = k.declared;
-    found = k.there;
-    instance = instance;
-    begins =
-        subst (λ (us : List TaggedValue). native_may_begin shapes start.heap member us ≡ true) (sym is)
-        (begins_if shapes start.heap (method_at shapes (Api member)) k.declared vs k.there k.concrete k.begins);
-  }
+  can_begin (Api member) result vs is k instance = grind (arith, begins_if)
 
   pub finds_method : IsTypedBeside s (standing start (no_frame start.owner)) → (member : ℕ) (object : Object TaggedValue)
       → IsMemberCall s start member object → FindsMethod s start member object

@@ -1,9 +1,9 @@
 -- Static fields with another value in one of them are typed.
-use Rattle.std.proofs.Common.{◌≡◌, ◌⊎◌, ℕ, zero, suc, ◌==◌, List, [], ◌∷◌, length, map, set, slice_get}
-use Rattle.std.proofs.Common.{Bool, true, false, cond, Option, Some, find, is_some, refl, sym, ap, ◌∙◌, subst}
+use Rattle.std.proofs.Common.{◌≡◌, ◌⊎◌, ℕ, zero, suc, ◌==◌, List, [], ◌∷◌, length, map, set, slice_get, arith}
+use Rattle.std.proofs.Common.{Bool, true, false, Option, Some, find, is_some, refl, sym, ap, ◌∙◌, subst}
 use Rattle.std.proofs.Common.{inl, inr, if◌then◌else◌, eqb-true, length-set}
 use Rattle.std.specs.List.{AllByRecursion}
-use Rattle.std.specs.Option.{option_and_then, option_map_or}
+use Rattle.std.specs.Option.{option_map_or}
 use Rattle.jc_base.specs.declared.declared_type.DeclaredType.{DeclaredType}
 use Rattle.jc_link.specs.Linked.{World}
 use Rattle.jc_link.specs.Target.{static_type_of}
@@ -25,19 +25,11 @@ set_get [] n i x y e = absurd cc
 set_get (z ∷ xs) zero zero x y e = inr (refl, cc)
 set_get (z ∷ xs) zero (suc i) x y e = inl e
 set_get (z ∷ xs) (suc n) zero x y e = inl e
-set_get (z ∷ xs) (suc n) (suc i) x y e = elim (set_get xs n i x y e) [
-  | inl a ↦ inl a
-  | inr a ↦ inr (ap suc a.0, a.1)
-]
+set_get (z ∷ xs) (suc n) (suc i) x y e = grind (arith, set_get xs n i x y e)
 
 package_get : {A : Type 0} (xs : List A) (n i : ℕ) (x y : A) → of_package (with_package xs n x) i ≡ Some y
     → (of_package xs i ≡ Some y) ⊎ ((i ≡ n) × (x ≡ y))
-package_get xs zero i x y e = inl e
-package_get xs (suc n) zero x y e = absurd cc
-package_get xs (suc n) (suc i) x y e = elim (set_get xs n i x y e) [
-  | inl a ↦ inl a
-  | inr a ↦ inr (ap suc a.0, a.1)
-]
+package_get xs n i x y h1 = grind (arith, set_get)
 
 -- ---- what is found is found still, with its offset
 
@@ -45,34 +37,7 @@ find_still : (offset at : ℕ) (v : TaggedValue) (fields : List StaticValue)
     → is_some (find (λ (s : StaticValue). s.offset == at) fields) ≡ true
     → is_some (find (λ (s : StaticValue). s.offset == at) (map (with_value offset v) fields)) ≡ true
 find_still offset at v [] e = absurd cc
-find_still offset at v (x ∷ fields) e =
-    by_test (x.offset == at) (by_change (x.offset == offset) refl) (find_still offset at v fields) e
-  where
-    by_change : (b : Bool) → (x.offset == offset) ≡ b
-        → (if b then record { offset = offset; value = v } else x).offset ≡ x.offset
-    by_change true t = sym (eqb-true x.offset offset t)
-    by_change false t = refl
-
-    by_test : (b : Bool) → (with_value offset v x).offset ≡ x.offset
-        → (is_some (find (λ (s : StaticValue). s.offset == at) fields) ≡ true
-        → is_some (find (λ (s : StaticValue). s.offset == at) (map (with_value offset v) fields)) ≡ true)
-        → is_some (cond (x.offset == at) (Some x) (find (λ (s : StaticValue). s.offset == at) fields)) ≡ true
-        → is_some (cond ((with_value offset v x).offset == at) (Some (with_value offset v x))
-        (find (λ (s : StaticValue). s.offset == at) (map (with_value offset v) fields))) ≡ true
-    by_test b same later e =
-        let P : ℕ → Type 0 =
-        λ o. is_some (cond (o == at) (Some (with_value offset v x))
-        (find (λ (s : StaticValue). s.offset == at) (map (with_value offset v) fields))) ≡ true in
-        subst P (sym same) (by_offset (x.offset == at) refl later e)
-      where
-        by_offset : (b : Bool) → (x.offset == at) ≡ b
-            → (is_some (find (λ (s : StaticValue). s.offset == at) fields) ≡ true
-            → is_some (find (λ (s : StaticValue). s.offset == at) (map (with_value offset v) fields)) ≡ true)
-            → is_some (cond b (Some x) (find (λ (s : StaticValue). s.offset == at) fields)) ≡ true
-            → is_some (cond b (Some (with_value offset v x))
-            (find (λ (s : StaticValue). s.offset == at) (map (with_value offset v) fields))) ≡ true
-        by_offset true t later e = refl
-        by_offset false t later e = later e
+find_still offset at v (x ∷ fields) e = grind (arith, eqb-true, find_still offset at v fields)
 
 module _ (w : World) (heap : Heap TaggedValue) (statics : List (List StaticValue)) (typed : StaticsTyped w heap statics)
     (place : StaticPlace) (declared : DeclaredType ClassName)
@@ -109,8 +74,7 @@ module _ (w : World) (heap : Heap TaggedValue) (statics : List (List StaticValue
     changed = with_package statics number (map (with_value place.offset v) fields)
 
     changed_count : (n : ℕ) → length (with_package statics n (map (with_value place.offset v) fields)) ≡ length statics
-    changed_count zero = refl
-    changed_count (suc n) = length-set statics n (map (with_value place.offset v) fields)
+    changed_count n = grind (arith, length-set)
 
     changed_typed : (k : ℕ) (others : List StaticValue) → of_package changed k ≡ Some others
         → AllByRecursion (StaticTyped w.shapes heap (home_at k)) others
@@ -147,28 +111,7 @@ module _ (w : World) (heap : Heap TaggedValue) (statics : List (List StaticValue
 
     changed_present : (p : StaticPlace) (d : DeclaredType ClassName) → static_type_of w.shapes p ≡ Some d
         → is_some (static_at changed p.home p.offset) ≡ true
-    changed_present p d says =
-        let x = value_there w heap statics typed p d says in
-        let h = held statics p x.0 x.1 in
-        let found_it : is_some (find (λ (s : StaticValue). s.offset == p.offset) h.fields) ≡ true =
-        ap (λ (o : Option StaticValue). is_some o) h.found in
-        let by_number : (o : Option (List StaticValue)) → of_package changed h.number ≡ o
-        → is_some (option_and_then (find (λ (s : StaticValue). s.offset == p.offset)) o) ≡ true
-        → is_some (static_at changed p.home p.offset) ≡ true =
-        λ o e k.
-        ap (λ (n : Option ℕ). is_some (option_and_then (find (λ (s : StaticValue). s.offset == p.offset))
-        (option_and_then (of_package changed) n))) h.is_number
-        ∙ ap (λ (o : Option (List StaticValue)). is_some
-        (option_and_then (find (λ (s : StaticValue). s.offset == p.offset)) o)) e
-        ∙ k in
-        elim (package_still number h.number h.fields h.of_number there) [
-          | inl same ↦ by_number (Some h.fields) same found_it
-          | inr new ↦
-              by_number (Some (map (with_value place.offset v) fields)) new.1
-              (find_still place.offset p.offset v fields
-              (subst (λ (xs : List StaticValue). is_some (find (λ (s : StaticValue). s.offset == p.offset) xs) ≡ true)
-              (sym new.0) found_it))
-        ]
+    changed_present p d says = grind (arith, value_there, held, package_still, find_still)
 
     changed_all : StaticsTyped w heap changed
     changed_all = record {

@@ -1,17 +1,14 @@
 -- Static fields: what an entry of the constant pool says of one, and those with another value in one.
-use Rattle.std.proofs.Common.{◌≡◌, ℕ, suc, ◌-◌, ◌==◌, List, [], ◌∷◌, slice_get}
-use Rattle.std.proofs.Common.{Bool, true, false, cond, Option, Some, None, nat_lt, find, is_some, refl, ap, ◌∙◌, subst}
-use Rattle.std.proofs.Common.{arith, if◌then◌else◌, eqb-true}
+use Rattle.std.proofs.Common.{◌≡◌, ℕ, suc, ◌-◌, ◌==◌, List, [], ◌∷◌, slice_get, Bool, true, false, cond, Option, Some}
+use Rattle.std.proofs.Common.{None, find, refl, ap, ◌∙◌, subst, arith, eqb-true}
 use Rattle.std.proofs.lemmas.Bool.{ltb-false}
 use Rattle.std.specs.Option.{option_and_then, option_map}
 use Rattle.jc_base.specs.declared.declared_type.DeclaredType.{DeclaredType}
 use Rattle.jc_cap_desc.specs.Shape.{Shape}
 use Rattle.jc_cap.specs.declared.entry.PoolEntry.{PoolEntry}
-use Rattle.jc_classes.specs.Members.{DeclaredMethod, method_at}
-use Rattle.jc_link.specs.MemberType.{declared_type_of, method_type_of}
+use Rattle.jc_classes.specs.Members.{DeclaredMethod}
 use Rattle.jc_link.specs.Named.{named_by}
-use Rattle.jc_link.specs.Target.{cell_of, instance_type_of, pool_target_of, static_type_of, target_of}
-use Rattle.jc_link.specs.Target.{target_of_declared}
+use Rattle.jc_link.specs.Target.{pool_target_of, static_type_of, target_of, target_of_declared}
 use Rattle.jc_link.specs.declared.named.Named.{Named}
 use Rattle.jc_link.specs.declared.named.Named.TheVariants as Names
 use Rattle.jc_link.specs.declared.named.StaticPlace.{StaticPlace}
@@ -33,8 +30,7 @@ use Rattle.jc_safety.proofs.Lists.{each_at}
 
 not_instance : {A : Type 0} (o : Option A) (f : A → PoolTarget) (target : PoolTarget) → ((a : A) → f a ≡ target → ⊥)
     → option_map f o ≡ Some target → ⊥
-not_instance None f target other e = absurd cc
-not_instance (Some a) f target other e = other a cc
+not_instance o f target h1 h2 = grind arith
 
 -- where an entry leads to a static field it has the type that the entry says
 module _ (world : List Shape) (place : StaticPlace) (declared : DeclaredType ClassName) where
@@ -43,31 +39,15 @@ module _ (world : List Shape) (place : StaticPlace) (declared : DeclaredType Cla
 
   typed_so : (p : StaticPlace) (o : Option (DeclaredType ClassName)) → static_type_of world p ≡ o
       → option_map (To.StaticField p) o ≡ Some target → static_type_of world place ≡ Some declared
-  typed_so p None e h = absurd cc
-  typed_so p (Some d) e h =
-      let same : p ≡ place = cc in
-      let type : d ≡ declared = cc in
-      subst (λ (x : StaticPlace). static_type_of world x ≡ Some declared) same (e ∙ ap Some type)
+  typed_so p o h1 h2 = grind arith
 
   of_declared_method : (m : MethodName) (d : Option DeclaredMethod)
       → option_and_then (target_of_declared world m) d ≡ Some target → ⊥
-  of_declared_method m None e = absurd cc
-  of_declared_method m (Some d) e =
-      not_instance (declared_type_of world d) (To.StaticMethod d.class m d.method.is_static) target (λ a e. absurd cc) e
+  of_declared_method m d h1 = grind (arith, not_instance)
 
   by_name : (named : Option Named) → option_and_then (target_of world) named ≡ Some target
       → static_type_of world place ≡ Some declared
-  by_name None e = absurd cc
-  by_name (Some (Names.Class c)) e = absurd cc
-  by_name (Some (Names.InstanceField c token)) e =
-      absurd (not_instance (instance_type_of world c token) (To.InstanceField c (cell_of world c token)) target
-      (λ a e. absurd cc) e)
-  by_name (Some (Names.StaticField p)) e = typed_so p (static_type_of world p) refl e
-  by_name (Some (Names.VirtualMethod c token m)) e =
-      absurd (not_instance (method_type_of world m) (To.VirtualMethod c token) target (λ a e. absurd cc) e)
-  by_name (Some (Names.SuperMethod c m)) e =
-      absurd (not_instance (method_type_of world m) (To.SuperMethod c m) target (λ a e. absurd cc) e)
-  by_name (Some (Names.StaticMethod m)) e = absurd (of_declared_method m (method_at world m) e)
+  by_name named h1 = grind (arith, not_instance, typed_so, of_declared_method)
 
   pub static_type_said : (home : ℕ) (entry : PoolEntry) → pool_target_of world home entry ≡ Some target
       → static_type_of world place ≡ Some declared
@@ -100,14 +80,7 @@ held_in : (statics : List (List StaticValue)) (place : StaticPlace) (x : StaticV
     → number_at place.home ≡ number
     → option_and_then (find (λ (s : StaticValue). s.offset == place.offset)) (option_and_then (of_package statics) number)
     ≡ Some x → Held statics place x
-held_in statics place x None e h = absurd cc
-held_in statics place x (Some number) e h = by_fields (of_package statics number) refl h
-  where
-    by_fields : (o : Option (List StaticValue)) → of_package statics number ≡ o
-        → option_and_then (find (λ (s : StaticValue). s.offset == place.offset)) o ≡ Some x → Held statics place x
-    by_fields None f h = absurd cc
-    by_fields (Some fields) f h =
-        record { number = number; is_number = e; fields = fields; of_number = f; found = h }
+held_in statics place x number h1 h2 = grind arith
 
 pub held : (statics : List (List StaticValue)) (place : StaticPlace) (x : StaticValue)
     → static_at statics place.home place.offset ≡ Some x → Held statics place x
@@ -115,15 +88,7 @@ held statics place x h = held_in statics place x (number_at place.home) refl h
 
 -- a package's number leads back to where it stands
 pub home_back : (home number : ℕ) → number_at home ≡ Some number → home_at number ≡ home
-home_back home number e = by_test (nat_lt home 2) refl e
-  where
-    by_test : (b : Bool) → nat_lt home 2 ≡ b → (if b then None else Some (home - 1)) ≡ Some number
-        → home_at number ≡ home
-    by_test true t e = absurd cc
-    by_test false t e =
-        let low = ltb-false home 2 t in
-        let same : home - 1 ≡ number = cc in
-        omega (arith, low, same)
+home_back home number e = grind (arith, ltb-false)
 
 -- what is found is there, and has the offset
 record FoundAt (offset : ℕ) (fields : List StaticValue) (x : StaticValue) : Type 0 where
@@ -156,12 +121,7 @@ module _ (w : World) (heap : Heap TaggedValue) (statics : List (List StaticValue
     (said : static_type_of w.shapes place ≡ Some declared) where
   -- it has a value
   pub value_there : (x : StaticValue) × (static_at statics place.home place.offset ≡ Some x)
-  value_there = by_some (static_at statics place.home place.offset) refl (typed.present place declared said)
-    where
-      by_some : (o : Option StaticValue) → static_at statics place.home place.offset ≡ o → is_some o ≡ true
-          → (x : StaticValue) × (static_at statics place.home place.offset ≡ Some x)
-      by_some None e h = absurd cc
-      by_some (Some x) e h = (x, e)
+  value_there = grind arith
 
   -- of its type
   typed_as : (number : ℕ) → number_at place.home ≡ Some number → (x : StaticValue)

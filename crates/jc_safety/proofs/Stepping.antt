@@ -1,5 +1,5 @@
 -- A step of a well-typed machine is safe, whichever instruction it makes.
-use Rattle.std.proofs.Common.{◌≡◌, ℕ, zero, suc, ℤ, List, [], ◌∷◌, map, Bool, true, Option, Some, Ok, refl, ap, subst}
+use Rattle.std.proofs.Common.{◌≡◌, ℕ, zero, suc, ℤ, List, [], ◌∷◌, map, Bool, true, Option, Some, Ok, refl, ap, subst, arith}
 use Rattle.std.specs.Int.{w16}
 use Rattle.std.specs.Int.RustNames.{FitsSigned}
 use Rattle.std.specs.List.{AllByRecursion}
@@ -268,11 +268,7 @@ module _ {C : Type 0} (s : Surroundings C) (ground : Ground s) (members : HaveMe
   goes_on_safely : (lacking : Budget) (at : Option CodePoint) (go : Machine C → Called C) (outcome : Outcome C)
       → ((m : Machine C) → IsTyped s m → EndsTyped s (go m).ends) → StaysTyped s outcome
       → EndsTyped s (continued lacking at go outcome).ends
-  goes_on_safely lacking at go (Next m) each h = each m h
-  goes_on_safely lacking at go (Throws m number) each h = h
-  goes_on_safely lacking at go (Ends m value) each h = h
-  goes_on_safely lacking at go (UsedUp m) each h = h
-  goes_on_safely lacking at go Stuck each h = h
+  goes_on_safely lacking at go outcome h1 h2 = grind arith
 
   pub runs_safely : (n : ℕ) (m : Machine C) → IsTyped s m → EndsTyped s (steps_of s n m).ends
   unfolding steps_of

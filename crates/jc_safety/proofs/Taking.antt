@@ -1,29 +1,28 @@
 -- What a row that applies to a state says of the values of that state.
-use Rattle.std.proofs.Common.{◌≡◌, ℕ, ◌+◌, ◌-◌, List, [], ◌∷◌, length, take, drop, reverse, not}
-use Rattle.std.proofs.Common.{Bool, true, false, ◌&&◌, if◌then◌else◌, Option, Some, None, Ok, Err, nat_lt}
-use Rattle.std.proofs.Common.{refl, ap}
+use Rattle.std.proofs.Common.{◌≡◌, ℕ, ◌+◌, ◌-◌, List, [], ◌∷◌, length, take, drop, reverse, not, arith, Bool, true}
+use Rattle.std.proofs.Common.{false, ◌&&◌, if◌then◌else◌, Option, Some, None, Ok, Err, nat_lt, refl}
 use Rattle.jc_base.specs.declared.reason.Reason.TheVariants.{BadLocal, StackOver, StackUnder, WrongType}
 use Rattle.jc_cap_desc.specs.Shape.{Shape}
 use Rattle.jc_classes.specs.Subtype.{IsOrder, is_class_below}
 use Rattle.jc_code.specs.declared.object.Form.TheVariants as Forms
 use Rattle.jc_names.specs.declared.name.ClassName.{ClassName}
-use Rattle.jc_effects.specs.Row.{Row, after, all_meet, applied, count_of, has_local, is_met, local_meets, local_of, meets, taken_by}
+use Rattle.jc_effects.specs.Row.{Row, after, all_meet, applied, count_of, has_local, local_meets, local_of, meets, taken_by}
 use Rattle.jc_effects.specs.Words.{takes}
 use Rattle.jc_effects.specs.declared.row.Demand.{Demand}
 use Rattle.jc_effects.specs.declared.row.Demand.TheVariants.{Array, Below, Bytes, Reference}
 use Rattle.jc_effects.specs.declared.row.Given.TheVariants.{Exactly, Nothing}
 use Rattle.jc_store.specs.Heap.{Heap}
 use Rattle.jc_store.specs.declared.kind.ObjectType.{ObjectType}
-use Rattle.jc_store.specs.declared.kind.ObjectType.TheVariants.{BooleanArray, ByteArray, Instance, ReferenceArray, ShortArray}
+use Rattle.jc_store.specs.declared.kind.ObjectType.TheVariants.{BooleanArray, ByteArray, ReferenceArray, ShortArray}
 use Rattle.jc_types.specs.State.{Types}
 use Rattle.jc_types.specs.Ty.{is_below}
 use Rattle.jc_types.specs.declared.ty.Ty.{Ty}
 use Rattle.jc_types.specs.declared.ty.Ty.TheVariants as types
 use Rattle.jc_machine.specs.Reading.{Pointwise}
 use Rattle.jc_machine.specs.Arrays.{is_array_of}
-use Rattle.jc_machine.specs.Lookup.{is_array, is_boolean_array, is_byte_array, is_of_class, is_short_array, leads_to}
+use Rattle.jc_machine.specs.Lookup.{is_array, is_boolean_array, is_byte_array, is_short_array, leads_to}
 use Rattle.jc_machine.specs.Typed.{HoldTypes, IsOperand, has_type}
-use Rattle.jc_words.specs.Values.{Null, Ref, TaggedValue, Unset, Word}
+use Rattle.jc_words.specs.Values.{Null, TaggedValue, Word}
 use Rattle.jc_safety.proofs.Lists.{both, reversed_points, take_points}
 use Rattle.jc_safety.proofs.Upward.{holds_below, leads_up, null_leads, operand_up}
 
@@ -32,21 +31,13 @@ use Rattle.jc_safety.proofs.Upward.{holds_below, leads_up, null_leads, operand_u
 four : (a b c d : Bool) (x t : Types)
     → (if a then Err BadLocal else if b then Err StackUnder else if c then Err WrongType else if d then Err StackOver else Ok x) ≡ Ok t
     → (a ≡ false) × (b ≡ false) × (c ≡ false) × (d ≡ false) × (x ≡ t)
-four false false false false x t h = (refl, refl, refl, refl, cc)
-four false false false true x t h = absurd cc
-four false false true d x t h = absurd cc
-four false true c d x t h = absurd cc
-four true b c d x t h = absurd cc
+four a b c d x t h1 = grind arith
 
 three : (a b c : Bool) → not (a && b && c) ≡ false → (a ≡ true) × (b ≡ true) × (c ≡ true)
-three true true true h = (refl, refl, refl)
-three true true false h = absurd cc
-three true false c h = absurd cc
-three false b c h = absurd cc
+three a b c h1 = grind arith
 
 pub not_false : (b : Bool) → not b ≡ false → b ≡ true
-not_false true h = refl
-not_false false h = absurd cc
+not_false b h1 = grind arith
 
 pub record Applied (below : ClassName → ClassName → Bool) (most : ℕ) (row : Row) (s t : Types) : Type 0 where
   pub there : has_local row.local s.locals ≡ true
@@ -60,22 +51,7 @@ pub record Applied (below : ClassName → ClassName → Bool) (most : ℕ) (row 
 module _ (below : ClassName → ClassName → Bool) (most : ℕ) where
   pub row_applied : (row : Row) (s t : Types) → applied below most (Some row) s ≡ Ok t → Applied below most row s t
   unfolding applied
-  row_applied row s t h =
-      let r =
-      four (not (has_local row.local s.locals)) (nat_lt (length s.operands) (length row.operands))
-      (not (is_met below row s))
-      (nat_lt most (length s.operands - length row.operands + count_of row.pushed)) (after row s) t h in
-      let m =
-      three row.fits (local_meets below row.local (local_of row.local s.locals))
-      (all_meet below row.operands (taken_by row s)) r.2 in record {
-        there = not_false (has_local row.local s.locals) r.0;
-        enough = r.1;
-        fits = m.0;
-        local_met = m.1;
-        operands_met = m.2;
-        room = r.3;
-        is = r.4;
-      }
+  row_applied row s t h = grind (arith, four, not, three, not_false)
 
   -- an instruction without a row never applies
   pub no_row : (A : Type 0) (s t : Types) → applied below most None s ≡ Ok t → A
@@ -107,47 +83,23 @@ of_any : (test : ObjectType → Bool) (o : ObjectType) → test o ≡ true → a
 of_any test o e = refl
 
 boolean_bytes : (o : ObjectType) → is_boolean_array o ≡ true → is_array_of Forms.Byte o ≡ true
-boolean_bytes (Instance c) e = absurd cc
-boolean_bytes BooleanArray e = refl
-boolean_bytes ByteArray e = absurd cc
-boolean_bytes ShortArray e = absurd cc
-boolean_bytes (ReferenceArray c) e = absurd cc
+boolean_bytes o h1 = grind arith
 
 byte_bytes : (o : ObjectType) → is_byte_array o ≡ true → is_array_of Forms.Byte o ≡ true
-byte_bytes (Instance c) e = absurd cc
-byte_bytes BooleanArray e = absurd cc
-byte_bytes ByteArray e = refl
-byte_bytes ShortArray e = absurd cc
-byte_bytes (ReferenceArray c) e = absurd cc
+byte_bytes o h1 = grind arith
 
 boolean_array : (o : ObjectType) → is_boolean_array o ≡ true → is_array o ≡ true
-boolean_array (Instance c) e = absurd cc
-boolean_array BooleanArray e = refl
-boolean_array ByteArray e = absurd cc
-boolean_array ShortArray e = absurd cc
-boolean_array (ReferenceArray c) e = absurd cc
+boolean_array o h1 = grind arith
 
 byte_array : (o : ObjectType) → is_byte_array o ≡ true → is_array o ≡ true
-byte_array (Instance c) e = absurd cc
-byte_array BooleanArray e = absurd cc
-byte_array ByteArray e = refl
-byte_array ShortArray e = absurd cc
-byte_array (ReferenceArray c) e = absurd cc
+byte_array o h1 = grind arith
 
 short_array : (o : ObjectType) → is_short_array o ≡ true → is_array o ≡ true
-short_array (Instance c) e = absurd cc
-short_array BooleanArray e = absurd cc
-short_array ByteArray e = absurd cc
-short_array ShortArray e = refl
-short_array (ReferenceArray c) e = absurd cc
+short_array o h1 = grind arith
 
 reference_array : (world : List Shape) (c : ClassName) (o : ObjectType) → holds_below world c o ≡ true
     → is_array o ≡ true
-reference_array world c (Instance k) e = absurd cc
-reference_array world c BooleanArray e = absurd cc
-reference_array world c ByteArray e = absurd cc
-reference_array world c ShortArray e = absurd cc
-reference_array world c (ReferenceArray k) e = refl
+reference_array world c o h1 = grind arith
 
 -- types below one another in a world before are so in the world, which is ordered
 pub record Orders (world before : List Shape) : Type 0 where
@@ -157,28 +109,11 @@ pub record Orders (world before : List Shape) : Type 0 where
 module _ (world before : List Shape) (orders : Orders world before) (heap : Heap TaggedValue) where
   pub meets_reference : (v : TaggedValue) (t : Ty) → meets (is_class_below before) Reference t ≡ true
       → has_type world heap v t ≡ true → leads_to heap any_object v ≡ true
-  meets_reference v types.Top e h = absurd cc
-  meets_reference v types.Word e h = absurd cc
-  meets_reference v types.Null e h = null_leads heap any_object v h
-  meets_reference v (types.Class c) e h =
-      leads_up heap (is_of_class world c) any_object v (of_any (is_of_class world c)) h
-  meets_reference v types.BooleanArray e h = leads_up heap is_boolean_array any_object v (of_any is_boolean_array) h
-  meets_reference v types.ByteArray e h = leads_up heap is_byte_array any_object v (of_any is_byte_array) h
-  meets_reference v types.ShortArray e h = leads_up heap is_short_array any_object v (of_any is_short_array) h
-  meets_reference v (types.ReferenceArray c) e h =
-      leads_up heap (holds_below world c) any_object v (of_any (holds_below world c)) h
+  meets_reference v t h1 h2 = grind (arith, null_leads, leads_up, of_any, holds_below)
 
   meets_bytes : (v : TaggedValue) (t : Ty) → meets (is_class_below before) Bytes t ≡ true
       → has_type world heap v t ≡ true → leads_to heap (is_array_of Forms.Byte) v ≡ true
-  meets_bytes v types.Top e h = absurd cc
-  meets_bytes v types.Word e h = absurd cc
-  meets_bytes v types.Null e h = null_leads heap (is_array_of Forms.Byte) v h
-  meets_bytes v (types.Class c) e h = absurd cc
-  meets_bytes v types.BooleanArray e h =
-      leads_up heap is_boolean_array (is_array_of Forms.Byte) v boolean_bytes h
-  meets_bytes v types.ByteArray e h = leads_up heap is_byte_array (is_array_of Forms.Byte) v byte_bytes h
-  meets_bytes v types.ShortArray e h = absurd cc
-  meets_bytes v (types.ReferenceArray c) e h = absurd cc
+  meets_bytes v t h1 h2 = grind (arith, null_leads, leads_up, boolean_bytes, byte_bytes)
 
   meets_array : (v : TaggedValue) (t : Ty) → meets (is_class_below before) Array t ≡ true
       → has_type world heap v t ≡ true → leads_to heap is_array v ≡ true
@@ -189,15 +124,11 @@ module _ (world before : List Shape) (orders : Orders world before) (heap : Heap
   meets_array v types.BooleanArray e h = leads_up heap is_boolean_array is_array v boolean_array h
   meets_array v types.ByteArray e h = leads_up heap is_byte_array is_array v byte_array h
   meets_array v types.ShortArray e h = leads_up heap is_short_array is_array v short_array h
-  meets_array v (types.ReferenceArray c) e h =
-      leads_up heap (holds_below world c) is_array v (reference_array world c) h
+  meets_array v (types.ReferenceArray c) e h = grind (arith, leads_up, holds_below, reference_array)
 
   pub meets_value : (v : TaggedValue) (d : Demand) (t : Ty) → meets (is_class_below before) d t ≡ true
       → IsOperand world heap v t → Meets world heap v d
-  meets_value v (Below u) t e h = operand_up world orders.order heap v t u (orders.up t u e) h
-  meets_value v Reference t e h = meets_reference v t e h.type
-  meets_value v Bytes t e h = meets_bytes v t e h.type
-  meets_value v Array t e h = meets_array v t e h.type
+  meets_value v d t h1 h2 = grind (arith, operand_up, meets_reference, meets_bytes, meets_array)
 
   pub meet_all : (ds : List Demand) (vs : List TaggedValue) (ts : List Ty) → HoldTypes world heap vs ts
       → all_meet (is_class_below before) ds ts ≡ true → Pointwise (Meets world heap) vs ds
@@ -230,47 +161,26 @@ module _ (world : List Shape) (heap : Heap TaggedValue) (P : List TaggedValue �
       → nat_lt (length ts) 1 ≡ false → Pointwise (Meets world heap) (reverse (take 1 vs)) (d ∷ [])
       → ((v : TaggedValue) (us : List TaggedValue) → Meets world heap v d → HoldTypes world heap us (drop 1 ts)
       → P (v ∷ us)) → P vs
-  take_one d [] [] h n m go = absurd cc
-  take_one d [] (t ∷ ts) h n m go = absurd h
-  take_one d (v ∷ vs) [] h n m go = absurd h
-  take_one d (v ∷ vs) (t ∷ ts) h n m go = go v vs m.0 h.1
+  take_one d vs ts h1 h2 h3 h4 = grind arith
 
   pub take_two : (d e : Demand) (vs : List TaggedValue) (ts : List Ty) → HoldTypes world heap vs ts
       → nat_lt (length ts) 2 ≡ false → Pointwise (Meets world heap) (reverse (take 2 vs)) (d ∷ e ∷ [])
       → ((v u : TaggedValue) (us : List TaggedValue) → Meets world heap v e → Meets world heap u d
       → HoldTypes world heap us (drop 2 ts) → P (v ∷ u ∷ us)) → P vs
-  take_two d e [] [] h n m go = absurd cc
-  take_two d e [] (t ∷ ts) h n m go = absurd h
-  take_two d e (v ∷ vs) [] h n m go = absurd h
-  take_two d e (v ∷ []) (t ∷ []) h n m go = absurd cc
-  take_two d e (v ∷ []) (t ∷ r ∷ ts) h n m go = absurd h.1
-  take_two d e (v ∷ u ∷ vs) (t ∷ []) h n m go = absurd h.1
-  take_two d e (v ∷ u ∷ vs) (t ∷ r ∷ ts) h n m go = go v u vs m.1.0 m.0 h.1.1
+  take_two d e vs ts h1 h2 h3 h4 = grind arith
 
   pub take_three : (d e f : Demand) (vs : List TaggedValue) (ts : List Ty) → HoldTypes world heap vs ts
       → nat_lt (length ts) 3 ≡ false → Pointwise (Meets world heap) (reverse (take 3 vs)) (d ∷ e ∷ f ∷ [])
       → ((w v u : TaggedValue) (us : List TaggedValue) → Meets world heap w f → Meets world heap v e
       → Meets world heap u d → HoldTypes world heap us (drop 3 ts) → P (w ∷ v ∷ u ∷ us)) → P vs
-  take_three d e f [] [] h n m go = absurd cc
-  take_three d e f [] (t ∷ ts) h n m go = absurd h
-  take_three d e f (w ∷ vs) [] h n m go = absurd h
-  take_three d e f (w ∷ []) (t ∷ []) h n m go = absurd cc
-  take_three d e f (w ∷ []) (t ∷ r ∷ ts) h n m go = absurd h.1
-  take_three d e f (w ∷ v ∷ vs) (t ∷ []) h n m go = absurd h.1
-  take_three d e f (w ∷ v ∷ []) (t ∷ r ∷ []) h n m go = absurd cc
-  take_three d e f (w ∷ v ∷ []) (t ∷ r ∷ q ∷ ts) h n m go = absurd h.1.1
-  take_three d e f (w ∷ v ∷ u ∷ vs) (t ∷ r ∷ []) h n m go = absurd h.1.1
-  take_three d e f (w ∷ v ∷ u ∷ vs) (t ∷ r ∷ q ∷ ts) h n m go = go w v u vs m.1.1.0 m.1.0 m.0 h.1.1.1
+  take_three d e f vs ts h1 h2 h3 h4 = grind arith
 
 -- ---- by what a value is
 
 -- a word
 pub word_case : (world : List Shape) (heap : Heap TaggedValue) (P : TaggedValue → Type 0) (v : TaggedValue)
     → IsOperand world heap v types.Word → ((n : ℕ) → nat_lt n 65536 ≡ true → P (Word n)) → P v
-word_case world heap P (Word n) h go = go n h.type
-word_case world heap P (Ref n) h go = let e = h.type in absurd cc
-word_case world heap P Null h go = let e = h.type in absurd cc
-word_case world heap P Unset h go = let e = h.type in absurd cc
+word_case world heap P v h1 h2 = grind arith
 
 -- ---- what is left behind rows without a local
 
@@ -281,15 +191,9 @@ module _ (below : ClassName → ClassName → Bool) (most : ℕ) (ds : List Dema
 
   pub leaves_nothing : Applied below most (takes ds Nothing) s t → Leaves (drop (length ds) s.operands)
   unfolding after
-  leaves_nothing a = record {
-    locals_are = ap (λ (x : Types). x.locals) a.is;
-    operands_are = ap (λ (x : Types). x.operands) a.is;
-  }
+  leaves_nothing a = grind arith
 
   pub leaves_one : (u : Ty) → Applied below most (takes ds (Exactly u)) s t
       → Leaves (u ∷ drop (length ds) s.operands)
   unfolding after
-  leaves_one u a = record {
-    locals_are = ap (λ (x : Types). x.locals) a.is;
-    operands_are = ap (λ (x : Types). x.operands) a.is;
-  }
+  leaves_one u a = grind arith

@@ -1,5 +1,5 @@
 -- What the machine throws by itself is there, and may be thrown.
-use Rattle.std.proofs.Common.{◌≡◌, true, Some, ap, ◌∙◌}
+use Rattle.std.proofs.Common.{◌≡◌, true, Some, arith}
 use Rattle.jc_api.specs.declared.class.ApiClass.{ApiClass}
 use Rattle.jc_api.specs.declared.class.ApiClass.TheVariants as api
 use Rattle.jc_classes.specs.Subtype.{IsSubtype, is_class_below}
@@ -35,9 +35,7 @@ module _ {C : Type 0} (s : Surroundings C) (ground : Ground s) where
 
   of_runtime : (c : ApiClass) → superclass_of s.world.shapes (Api c) ≡ Some (Api api.RuntimeException)
       → is_class_below s.world.shapes (Api c) (Api api.Throwable) ≡ true
-  of_runtime c up =
-      ground.heirs (Api c) (Api api.Throwable) ground.names.throwable
-      (above c api.RuntimeException api.Throwable up runtimes)
+  of_runtime c up = grind (arith, above, runtimes)
 
   of_index : is_class_below s.world.shapes (Api api.ArrayIndexOutOfBoundsException) (Api api.Throwable) ≡ true
   of_index =
@@ -57,11 +55,7 @@ module _ {C : Type 0} (s : Surroundings C) (ground : Ground s) where
   module _ (heap : Heap TaggedValue) (have : HasRuntimeObjects heap) where
     thrown_by : (wanted : RuntimeObject) → HasRuntimeObject heap wanted
         → is_throwable s.world.shapes wanted.type ≡ true → IsThrown s.world heap wanted.number
-    thrown_by wanted h may = record {
-      object = h.object;
-      found = h.found;
-      throwable = ap (is_throwable s.world.shapes) h.type ∙ may;
-    }
+    thrown_by wanted h may = grind arith
 
     pub arithmetic : IsThrown s.world heap arithmetic_exception
     arithmetic = thrown_by _ have.0 (of_runtime api.ArithmeticException (ground.api api.ArithmeticException).superclass)

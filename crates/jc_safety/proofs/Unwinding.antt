@@ -1,7 +1,6 @@
 -- What is thrown is caught by the nearest handler, or leaves the call; the machine is never stuck on the way.
-use Rattle.std.proofs.Common.{◌≡◌, ℕ, ◌+◌, ◌-◌, List, [], ◌∷◌, length, map, slice_get}
-use Rattle.std.proofs.Common.{Bool, true, false, ◌&&◌, ◌||◌, cond, Option, Some, None, nat_lt, nat_le, filter, find}
-use Rattle.std.proofs.Common.{refl, sym, ap, ◌∙◌, subst, arith}
+use Rattle.std.proofs.Common.{◌≡◌, ℕ, ◌+◌, ◌-◌, List, [], ◌∷◌, length, map, slice_get, Bool, true, false, ◌&&◌, cond}
+use Rattle.std.proofs.Common.{Option, Some, None, nat_lt, nat_le, filter, find, refl, sym, ap, ◌∙◌, subst, arith}
 use Rattle.std.proofs.lemmas.Bool.{le-leb, leb-true, lt-ltb, ltb-true}
 use Rattle.std.specs.List.{AllByRecursion, list_all}
 use Rattle.std.specs.Option.{option_and_then, option_map, option_map_or}
@@ -33,7 +32,7 @@ use Rattle.jc_machine.specs.Lookup.{body_at, class_of, code_at, is_throwable}
 use Rattle.jc_machine.specs.Machine.{Frame, Machine, Next, Outcome, Stuck, Surroundings, Throws}
 use Rattle.jc_machine.specs.Returns.{room_of}
 use Rattle.jc_machine.specs.Step.{catch_class, catches_all, caught_in, covering, handler_for, is_caught, is_covered, is_found}
-use Rattle.jc_machine.specs.Step.{settled, settled_object, through, unwound}
+use Rattle.jc_machine.specs.Step.{settled, through, unwound}
 use Rattle.jc_machine.specs.Typed.{IsPlaced, IsTyped, IsTypedBeside, WaitTyped, given_by, has_type}
 use Rattle.jc_words.specs.Values.{Ref, TaggedValue}
 use Rattle.jc_safety.proofs.Ground.{Ground, heir_there, method_of_code}
@@ -49,12 +48,7 @@ use Rattle.jc_safety.specs.Safety.{StaysTyped}
 covered : (h : rows.Handler) (code_offset pc : ℕ) → nat_le h.start (code_offset + pc) ≡ true
     → nat_lt (code_offset + pc) (h.start + h.active_length) ≡ true
     → (nat_le (h.start - code_offset) pc && nat_lt pc (h.start - code_offset + h.active_length)) ≡ true
-covered h code_offset pc from to =
-    let a = leb-true h.start (code_offset + pc) from in
-    let b = ltb-true (code_offset + pc) (h.start + h.active_length) to in
-    and_true (nat_le (h.start - code_offset) pc) (nat_lt pc (h.start - code_offset + h.active_length))
-    (le-leb (h.start - code_offset) pc (omega (arith, a)))
-    (lt-ltb pc (h.start - code_offset + h.active_length) (omega (arith, b)))
+covered h code_offset pc from to = grind (arith, leb-true, ltb-true, and_true, nat_le, le-leb, lt-ltb)
 
 -- what holds of each member holds of one that is found among those that pass a test
 record Among {A B : Type 0} (P : B → Type 0) (f : A → B) (passes wanted : A → Bool) (x : A) : Type 0 where
@@ -65,22 +59,7 @@ record Among {A B : Type 0} (P : B → Type 0) (f : A → B) (passes wanted : A 
 among : {A B : Type 0} (P : B → Type 0) (f : A → B) (passes wanted : A → Bool) (xs : List A) (x : A)
     → AllByRecursion P (map f xs) → find wanted (filter passes xs) ≡ Some x → Among P f passes wanted x
 among P f passes wanted [] x h e = absurd cc
-among {A} {B} P f passes wanted (y ∷ xs) x h e = by_pass (passes y) refl (among P f passes wanted xs x h.1) e
-  where
-    by_want : (b : Bool) → wanted y ≡ b → passes y ≡ true
-        → (find wanted (filter passes xs) ≡ Some x → Among P f passes wanted x)
-        → cond b (Some y) (find wanted (filter passes xs)) ≡ Some x → Among P f passes wanted x
-    by_want true w p later e =
-        let same : y ≡ x = cc in
-        subst (λ (z : A). Among P f passes wanted z) same (record { holds = h.0; passed = p; is_wanted = w })
-    by_want false w p later e = later e
-
-    by_pass : (b : Bool) → passes y ≡ b
-        → (find wanted (filter passes xs) ≡ Some x → Among P f passes wanted x)
-        → find wanted (cond b (y ∷ filter passes xs) (filter passes xs)) ≡ Some x
-        → Among P f passes wanted x
-    by_pass true p later e = by_want (wanted y) refl p later e
-    by_pass false p later e = later e
+among {A} {B} P f passes wanted (y ∷ xs) x h e = grind (arith, filter, among P f passes wanted xs x h.1)
 
 -- each that passes one test passes another
 all_pass : {A B : Type 0} (P : B → Type 0) (f : A → B) (passes wanted : A → Bool) (xs : List A)
@@ -92,8 +71,7 @@ all_pass {A} {B} P f passes wanted (y ∷ xs) h each =
   where
     by_pass : (b : Bool) → passes y ≡ b → list_all wanted (filter passes xs) ≡ true
         → list_all wanted (cond b (y ∷ filter passes xs) (filter passes xs)) ≡ true
-    by_pass true p rest = and_true (wanted y) (list_all wanted (filter passes xs)) (each y h.0 p) rest
-    by_pass false p rest = rest
+    by_pass b h1 h2 = grind (arith, and_true, filter)
 
 -- the class that a target is, where its objects may be thrown
 record IsThrownClass (world : List Shape) (target : PoolTarget) (class : ClassName) : Type 0 where
@@ -123,8 +101,7 @@ record FromTarget {A : Type 0} (f : PoolTarget → Option A) (o : Option PoolTar
 
 from_target : {A : Type 0} (f : PoolTarget → Option A) (o : Option PoolTarget) (a : A) → option_and_then f o ≡ Some a
     → FromTarget f o a
-from_target f None a e = absurd cc
-from_target f (Some target) a e = record { target = target; is = refl; gives = e }
+from_target f o a h1 = grind arith
 
 -- types that lie below others are as many
 pub below_lengths : (below : ClassName → ClassName → Bool) (ts us : List Ty) → all_below below ts us ≡ true
@@ -164,24 +141,13 @@ module _ {C : Type 0} (s : Surroundings C) (ground : Ground s) where
 
   found_if : (number : ℕ) (h : rows.Handler) (class : ClassName) → Catches number h class
       → is_found s.world number h ≡ true
-  found_if number h class (all_thrown all is) =
-      ap (λ (b : Bool). b || option_map_or (is_class_at s.world.shapes) (catch_class s.world number h) false) all
-  found_if number h class (one_class some found class_there) =
-      ap (λ (b : Bool). b || option_map_or (is_class_at s.world.shapes) (catch_class s.world number h) false) some
-      ∙ ap (λ (o : Option ClassName). option_map_or (is_class_at s.world.shapes) o false) found
-      ∙ class_there
+  found_if number h class h1 = grind arith
 
   -- an object that a handler is found for is of the class that the check saw
   class_caught : (number : ℕ) (h : rows.Handler) (class thrown : ClassName) → Catches number h class
       → is_class_below s.world.shapes thrown (Api api.Throwable) ≡ true → is_caught s.world number thrown h ≡ true
       → is_class_below s.world.shapes thrown class ≡ true
-  class_caught number h class thrown (all_thrown all is) may e =
-      subst (λ (c : ClassName). is_class_below s.world.shapes thrown c ≡ true) (sym is) may
-  class_caught number h class thrown (one_class some found class_there) may e =
-      sym (ap (λ (b : Bool). b || option_map_or (is_class_below s.world.shapes thrown) (catch_class s.world number h)
-      false) some
-      ∙ ap (λ (o : Option ClassName). option_map_or (is_class_below s.world.shapes thrown) o false) found)
-      ∙ e
+  class_caught number h class thrown h1 h2 h3 = grind arith
 
   -- ---- one frame
 
@@ -229,10 +195,7 @@ module _ {C : Type 0} (s : Surroundings C) (ground : Ground s) where
       -- a handler that covers the frame's pc leads on
       leads_on : (h : rows.Handler) → Lead (seen_as h) → is_covered p.code f.pc h ≡ true
           → CatchLeads (package_rules (linked_as s.world f.method.number p.body)) p.typing p.state (seen_as h)
-      leads_on h lead covers_it =
-          let b = both (nat_le h.start (p.code.code_offset + f.pc))
-          (nat_lt (p.code.code_offset + f.pc) (h.start + h.active_length)) covers_it in
-          lead (covered h p.code.code_offset f.pc b.0 b.1)
+      leads_on h lead covers_it = grind (arith, both, nat_le, covered)
 
       caught_by : (h : rows.Handler) → Lead (seen_as h) → is_covered p.code f.pc h ≡ true
           → (class : ClassName) × Catches f.method.number h class
@@ -346,13 +309,4 @@ module _ {C : Type 0} (s : Surroundings C) (ground : Ground s) where
         one_frame f (wait.0).placed fs wait.1 (unwound s m number thrown fs) (unwinds (given_by s.world f) fs wait.1)
 
   pub settles : (m : Machine C) (number : ℕ) → MayUnwind s m number → StaysTyped s (settled s (Throws m number))
-  settles m number u =
-      let o = u.thrown.object in
-      let P : Option (heaps.Object TaggedValue) → Type 0 = λ x. StaysTyped s (settled_object s m number x) in
-      let Q : Bool → Type 0 =
-      λ b. StaysTyped s (cond b (unwound s m number (class_of o.kind.object) (m.top ∷ m.waiting)) Stuck) in
-      subst P (sym u.thrown.found)
-      (subst Q (sym u.thrown.throwable)
-      (one_frame m u.beside number o u.thrown.found u.thrown.throwable m.top u.placed m.waiting u.waiting
-      (unwound s m number (class_of o.kind.object) m.waiting)
-      (unwinds m u.beside number o u.thrown.found u.thrown.throwable (given_by s.world m.top) m.waiting u.waiting)))
+  settles m number u = grind (arith, one_frame, unwinds)

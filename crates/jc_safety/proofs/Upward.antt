@@ -1,6 +1,5 @@
 -- A value of a type is of each type above it, and of its types in each heap in which the objects stay.
-use Rattle.std.proofs.Common.{◌≡◌, List, [], ◌∷◌, Option, Some, None, Bool, true, false}
-use Rattle.std.proofs.Common.{refl}
+use Rattle.std.proofs.Common.{◌≡◌, List, [], ◌∷◌, Option, Bool, true, false, arith}
 use Rattle.std.specs.Option.{option_map_or}
 use Rattle.jc_api.specs.declared.class.ApiClass.TheVariants as api
 use Rattle.jc_cap_desc.specs.Shape.{Shape}
@@ -8,7 +7,7 @@ use Rattle.jc_classes.specs.Subtype.{IsOrder, is_class_below}
 use Rattle.jc_link.specs.MemberType.{counted}
 use Rattle.jc_names.specs.declared.name.ClassName.{ClassName}
 use Rattle.jc_names.specs.declared.name.ClassName.TheVariants.{Api}
-use Rattle.jc_store.specs.Heap.{Heap, Object, object_at}
+use Rattle.jc_store.specs.Heap.{Heap, Object}
 use Rattle.jc_store.specs.declared.kind.ObjectType.{ObjectType}
 use Rattle.jc_store.specs.declared.kind.ObjectType.TheVariants.{Instance, BooleanArray, ByteArray, ShortArray}
 use Rattle.jc_store.specs.declared.kind.ObjectType.TheVariants.{ReferenceArray}
@@ -21,32 +20,23 @@ use Rattle.jc_machine.specs.Lookup.{class_of, component_class, is_boolean_array,
 use Rattle.jc_machine.specs.Lookup.{is_short_array, leads_to}
 use Rattle.jc_machine.specs.Objects.{is_null}
 use Rattle.jc_machine.specs.Typed.{HaveTypes, HoldTypes, IsOperand, has_type}
-use Rattle.jc_words.specs.Values.{Null, Ref, TaggedValue, Unset, Word}
+use Rattle.jc_words.specs.Values.{Null, TaggedValue, Word}
 use Rattle.jc_safety.proofs.Lists.{both}
 
 -- ---- tests of objects
 
 pub passes_up : {A : Type 0} (P Q : A → Bool) (x : Option A) → ((a : A) → P a ≡ true → Q a ≡ true)
     → option_map_or P x false ≡ true → option_map_or Q x false ≡ true
-passes_up P Q None up e = absurd cc
-passes_up P Q (Some a) up e = up a e
+passes_up P Q x h1 h2 = grind arith
 
 -- what leads to an object that passes a test leads to one that passes a weaker test
 pub leads_up : (heap : Heap TaggedValue) (P Q : ObjectType → Bool) (v : TaggedValue)
     → ((o : ObjectType) → P o ≡ true → Q o ≡ true) → leads_to heap P v ≡ true → leads_to heap Q v ≡ true
-leads_up heap P Q (Word n) up e = absurd cc
-leads_up heap P Q (Ref n) up e =
-    passes_up (λ (o : Object TaggedValue). P o.kind.object) (λ (o : Object TaggedValue). Q o.kind.object)
-    (object_at heap n) (λ o. up o.kind.object) e
-leads_up heap P Q Null up e = refl
-leads_up heap P Q Unset up e = absurd cc
+leads_up heap P Q v h1 h2 = grind (arith, passes_up)
 
 pub null_leads : (heap : Heap TaggedValue) (P : ObjectType → Bool) (v : TaggedValue) → is_null v ≡ true
     → leads_to heap P v ≡ true
-null_leads heap P (Word n) e = absurd cc
-null_leads heap P (Ref n) e = absurd cc
-null_leads heap P Null e = refl
-null_leads heap P Unset e = absurd cc
+null_leads heap P v h1 = grind arith
 
 -- ---- types above
 
@@ -71,35 +61,19 @@ module _ (world : List Shape) (order : IsOrder (is_class_below world)) where
   -- arrays are of the classes that Object is below
   boolean_up : (d : ClassName) → is_class_below world (Api api.Object) d ≡ true → (o : ObjectType)
       → is_boolean_array o ≡ true → is_of_class world d o ≡ true
-  boolean_up d below (Instance k) e = absurd cc
-  boolean_up d below BooleanArray e = below
-  boolean_up d below ByteArray e = absurd cc
-  boolean_up d below ShortArray e = absurd cc
-  boolean_up d below (ReferenceArray k) e = absurd cc
+  boolean_up d h1 o h2 = grind arith
 
   byte_up : (d : ClassName) → is_class_below world (Api api.Object) d ≡ true → (o : ObjectType)
       → is_byte_array o ≡ true → is_of_class world d o ≡ true
-  byte_up d below (Instance k) e = absurd cc
-  byte_up d below BooleanArray e = absurd cc
-  byte_up d below ByteArray e = below
-  byte_up d below ShortArray e = absurd cc
-  byte_up d below (ReferenceArray k) e = absurd cc
+  byte_up d h1 o h2 = grind arith
 
   short_up : (d : ClassName) → is_class_below world (Api api.Object) d ≡ true → (o : ObjectType)
       → is_short_array o ≡ true → is_of_class world d o ≡ true
-  short_up d below (Instance k) e = absurd cc
-  short_up d below BooleanArray e = absurd cc
-  short_up d below ByteArray e = absurd cc
-  short_up d below ShortArray e = below
-  short_up d below (ReferenceArray k) e = absurd cc
+  short_up d h1 o h2 = grind arith
 
   reference_up : (c d : ClassName) → is_class_below world (Api api.Object) d ≡ true → (o : ObjectType)
       → holds_below world c o ≡ true → is_of_class world d o ≡ true
-  reference_up c d below (Instance k) e = absurd cc
-  reference_up c d below BooleanArray e = absurd cc
-  reference_up c d below ByteArray e = absurd cc
-  reference_up c d below ShortArray e = absurd cc
-  reference_up c d below (ReferenceArray k) e = below
+  reference_up c d h1 o h2 = grind arith
 
   module _ (heap : Heap TaggedValue) (v : TaggedValue) where
     to_class : (t : Ty) (d : ClassName) → is_below (is_class_below world) t (types.Class d) ≡ true
@@ -111,8 +85,7 @@ module _ (world : List Shape) (order : IsOrder (is_class_below world)) where
     to_class types.BooleanArray d e h = leads_up heap is_boolean_array (is_of_class world d) v (boolean_up d e) h
     to_class types.ByteArray d e h = leads_up heap is_byte_array (is_of_class world d) v (byte_up d e) h
     to_class types.ShortArray d e h = leads_up heap is_short_array (is_of_class world d) v (short_up d e) h
-    to_class (types.ReferenceArray c) d e h =
-        leads_up heap (holds_below world c) (is_of_class world d) v (reference_up c d e) h
+    to_class (types.ReferenceArray c) d e h = grind (arith, leads_up, reference_up)
 
     to_references : (t : Ty) (d : ClassName) → is_below (is_class_below world) t (types.ReferenceArray d) ≡ true
         → has_type world heap v t ≡ true → has_type world heap v (types.ReferenceArray d) ≡ true
@@ -128,69 +101,27 @@ module _ (world : List Shape) (order : IsOrder (is_class_below world)) where
 
     to_word : (t : Ty) → is_below (is_class_below world) t types.Word ≡ true → has_type world heap v t ≡ true
         → has_type world heap v types.Word ≡ true
-    to_word types.Top e h = absurd cc
-    to_word types.Word e h = h
-    to_word types.Null e h = absurd cc
-    to_word (types.Class c) e h = absurd cc
-    to_word types.BooleanArray e h = absurd cc
-    to_word types.ByteArray e h = absurd cc
-    to_word types.ShortArray e h = absurd cc
-    to_word (types.ReferenceArray c) e h = absurd cc
+    to_word t h1 h2 = grind arith
 
     to_null : (t : Ty) → is_below (is_class_below world) t types.Null ≡ true → has_type world heap v t ≡ true
         → has_type world heap v types.Null ≡ true
-    to_null types.Top e h = absurd cc
-    to_null types.Word e h = absurd cc
-    to_null types.Null e h = h
-    to_null (types.Class c) e h = absurd cc
-    to_null types.BooleanArray e h = absurd cc
-    to_null types.ByteArray e h = absurd cc
-    to_null types.ShortArray e h = absurd cc
-    to_null (types.ReferenceArray c) e h = absurd cc
+    to_null t h1 h2 = grind arith
 
     to_booleans : (t : Ty) → is_below (is_class_below world) t types.BooleanArray ≡ true
         → has_type world heap v t ≡ true → has_type world heap v types.BooleanArray ≡ true
-    to_booleans types.Top e h = absurd cc
-    to_booleans types.Word e h = absurd cc
-    to_booleans types.Null e h = null_leads heap is_boolean_array v h
-    to_booleans (types.Class c) e h = absurd cc
-    to_booleans types.BooleanArray e h = h
-    to_booleans types.ByteArray e h = absurd cc
-    to_booleans types.ShortArray e h = absurd cc
-    to_booleans (types.ReferenceArray c) e h = absurd cc
+    to_booleans t h1 h2 = grind (arith, null_leads)
 
     to_bytes : (t : Ty) → is_below (is_class_below world) t types.ByteArray ≡ true → has_type world heap v t ≡ true
         → has_type world heap v types.ByteArray ≡ true
-    to_bytes types.Top e h = absurd cc
-    to_bytes types.Word e h = absurd cc
-    to_bytes types.Null e h = null_leads heap is_byte_array v h
-    to_bytes (types.Class c) e h = absurd cc
-    to_bytes types.BooleanArray e h = absurd cc
-    to_bytes types.ByteArray e h = h
-    to_bytes types.ShortArray e h = absurd cc
-    to_bytes (types.ReferenceArray c) e h = absurd cc
+    to_bytes t h1 h2 = grind (arith, null_leads)
 
     to_shorts : (t : Ty) → is_below (is_class_below world) t types.ShortArray ≡ true
         → has_type world heap v t ≡ true → has_type world heap v types.ShortArray ≡ true
-    to_shorts types.Top e h = absurd cc
-    to_shorts types.Word e h = absurd cc
-    to_shorts types.Null e h = null_leads heap is_short_array v h
-    to_shorts (types.Class c) e h = absurd cc
-    to_shorts types.BooleanArray e h = absurd cc
-    to_shorts types.ByteArray e h = absurd cc
-    to_shorts types.ShortArray e h = h
-    to_shorts (types.ReferenceArray c) e h = absurd cc
+    to_shorts t h1 h2 = grind (arith, null_leads)
 
   pub type_up : (heap : Heap TaggedValue) (v : TaggedValue) (t u : Ty) → is_below (is_class_below world) t u ≡ true
       → has_type world heap v t ≡ true → has_type world heap v u ≡ true
-  type_up heap v t types.Top e h = refl
-  type_up heap v t types.Word e h = to_word heap v t e h
-  type_up heap v t types.Null e h = to_null heap v t e h
-  type_up heap v t (types.Class d) e h = to_class heap v t d e h
-  type_up heap v t types.BooleanArray e h = to_booleans heap v t e h
-  type_up heap v t types.ByteArray e h = to_bytes heap v t e h
-  type_up heap v t types.ShortArray e h = to_shorts heap v t e h
-  type_up heap v t (types.ReferenceArray d) e h = to_references heap v t d e h
+  type_up heap v t u h1 h2 = grind (arith, to_word, to_null, to_class, to_booleans, to_bytes, to_shorts, to_references)
 
   pub operand_up : (heap : Heap TaggedValue) (v : TaggedValue) (t u : Ty)
       → is_below (is_class_below world) t u ≡ true → IsOperand world heap v t → IsOperand world heap v u

@@ -1,5 +1,5 @@
 -- Instructions on words are safe.
-use Rattle.std.proofs.Common.{◌≡◌, ℕ, ℤ, zero, suc, ◌+◌, ◌<◌, List, [], ◌∷◌, ◌++◌, length, take, drop, set}
+use Rattle.std.proofs.Common.{◌≡◌, ℕ, ℤ, zero, suc, ◌+◌, ◌<◌, List, [], ◌∷◌, length, take, drop, set}
 use Rattle.std.proofs.Common.{Bool, true, false, if◌then◌else◌, Option, Some, None, Ok, Err, nat_lt, nat_le, max}
 use Rattle.std.proofs.Common.{slice_get, refl, sym, ap, ◌∙◌, subst, arith}
 use Rattle.std.proofs.lemmas.Bool.{le-leb, lt-ltb, ltb-false, ltb-true}
@@ -36,16 +36,14 @@ use Rattle.jc_machine.specs.Machine.{Machine, Surroundings}
 use Rattle.jc_machine.specs.Typed.{HaveTypes, HoldTypes, IsOperand, IsTyped, has_type}
 use Rattle.jc_machine.specs.Words.{act_word, on_result}
 use Rattle.jc_words.specs.Shorts.{binary_of, holds, incremented, lookup_offset, short, stable_offset, unary_of, word_of}
-use Rattle.jc_words.specs.Values.{Null, Ref, TaggedValue, Unset, Word, all_written}
-use Rattle.jc_safety.proofs.Goes.{method, placed, room_left, safe_gives}
-use Rattle.jc_safety.proofs.Goes.{safe_leaves, safe_on, throws_at}
+use Rattle.jc_words.specs.Values.{TaggedValue, Word, all_written}
+use Rattle.jc_safety.proofs.Goes.{method, placed, room_left, safe_gives, safe_leaves, safe_on, throws_at}
 use Rattle.jc_safety.proofs.Ground.{Ground}
 use Rattle.jc_safety.proofs.Lists.{drop_points, joined_points, put_points, same_length, take_points}
 use Rattle.jc_safety.proofs.Locals.{local_there, local_type, reads_nothing, reads_one, stored}
 use Rattle.jc_safety.proofs.Rows as rows
 use Rattle.jc_safety.proofs.Safe.{IsSafe, safe_check}
-use Rattle.jc_safety.proofs.Taking.{Applied, row_applied}
-use Rattle.jc_safety.proofs.Taking.{take_one, take_two, word_case}
+use Rattle.jc_safety.proofs.Taking.{Applied, row_applied, take_one, take_two, word_case}
 use Rattle.jc_safety.proofs.Thrown.{arithmetic}
 
 -- ---- operands that are moved were written
@@ -55,18 +53,14 @@ all_were_written : (world : List Shape) (heap : Heap TaggedValue) (n : ℕ) (vs 
 all_were_written world heap zero vs ts h = refl
 all_were_written world heap (suc n) [] ts h = refl
 all_were_written world heap (suc n) (v ∷ vs) [] h = absurd h
-all_were_written world heap (suc n) (v ∷ vs) (t ∷ ts) h =
-    rw h.0.written (all_were_written world heap n vs ts h.1)
+all_were_written world heap (suc n) (v ∷ vs) (t ∷ ts) h = grind (arith, all_were_written world heap n vs ts h.1)
 
 under : (b : Bool) (x t : Types) → (if b then Err StackUnder else Ok x) ≡ Ok t → (b ≡ false) × (x ≡ t)
-under false x t h = (refl, cc)
-under true x t h = absurd cc
+under b x t h1 = grind arith
 
 under_over : (a b : Bool) (x t : Types) → (if a then Err StackUnder else if b then Err StackOver else Ok x) ≡ Ok t
     → (a ≡ false) × (b ≡ false) × (x ≡ t)
-under_over false false x t h = (refl, refl, cc)
-under_over false true x t h = absurd cc
-under_over true b x t h = absurd cc
+under_over a b x t h1 = grind arith
 
 module _ {C : Type 0} (s : Surroundings C) (ground : Ground s) (m : Machine C) (t : IsTyped s m) (d : DeclaredMethod)
     (next : ℕ) where
@@ -135,43 +129,20 @@ module _ {C : Type 0} (s : Surroundings C) (ground : Ground s) (m : Machine C) (
     is : v ≡ Word number
 
   type_is_word : (u : Ty) → is_below below u types.Word ≡ true → u ≡ types.Word
-  type_is_word types.Top e = absurd cc
-  type_is_word types.Word e = refl
-  type_is_word types.Null e = absurd cc
-  type_is_word (types.Class c) e = absurd cc
-  type_is_word types.BooleanArray e = absurd cc
-  type_is_word types.ByteArray e = absurd cc
-  type_is_word types.ShortArray e = absurd cc
-  type_is_word (types.ReferenceArray c) e = absurd cc
+  type_is_word u h1 = grind arith
 
   as_word : (v : TaggedValue) → has_type shapes m.heap v types.Word ≡ true → IsWord v
-  as_word (Word n) h = record { number = n; small = ltb-true n 65536 h; is = refl }
-  as_word (Ref n) h = absurd cc
-  as_word Null h = absurd cc
-  as_word Unset h = absurd cc
+  as_word v h1 = grind (arith, ltb-true)
 
   word_of_type : (v : TaggedValue) (u : Ty) → is_below below u types.Word ≡ true
       → has_type shapes m.heap v u ≡ true → IsWord v
-  word_of_type v u e h =
-      as_word v (subst (λ (x : Ty). has_type shapes m.heap v x ≡ true) (type_is_word u e) h)
+  word_of_type v u e h = grind (arith, as_word, type_is_word)
 
   -- a word in place of a word
   locals_put : (local : ℕ) (u : Ty) → slice_get state.locals local ≡ Some u → is_below below u types.Word ≡ true
       → (k : ℕ) → k < 65536 → (ls : List Ty) → state.locals ≡ ls
       → HaveTypes shapes m.heap (set m.top.locals local (Word k)) ls
-  locals_put local u there e k small ls same =
-      subst (λ (x : List Ty). HaveTypes shapes m.heap (set m.top.locals local (Word k)) x) same
-      (put_points (λ v u. has_type shapes m.heap v u ≡ true) local m.top.locals state.locals (Word k)
-      (placed s ground m t).locals_typed (λ y at. word_has y (the_type y at)))
-    where
-      the_type : (y : Ty) → slice_get state.locals local ≡ Some y → y ≡ types.Word
-      the_type y at =
-          let same : u ≡ y = cc in
-          sym same ∙ type_is_word u e
-
-      word_has : (y : Ty) → y ≡ types.Word → has_type shapes m.heap (Word k) y ≡ true
-      word_has y is =
-          subst (λ (x : Ty). has_type shapes m.heap (Word k) x ≡ true) (sym is) (lt-ltb k 65536 small)
+  locals_put local u there e k small ls same = grind (arith, set, put_points, placed, type_is_word, lt-ltb)
 
   -- ---- operands that are moved
 
@@ -180,12 +151,7 @@ module _ {C : Type 0} (s : Surroundings C) (ground : Ground s) (m : Machine C) (
       if nat_lt (length m.top.operands) count then false else all_written (take count m.top.operands)
 
   not_fewer_holds : (count : ℕ) → nat_lt (length state.operands) count ≡ false → not_fewer count ≡ true
-  not_fewer_holds count e =
-      let same = same_length (IsOperand shapes m.heap) m.top.operands state.operands t.top.operands_typed in
-      let as_many : nat_lt (length m.top.operands) count ≡ false =
-      ap (λ (n : ℕ). nat_lt n count) same ∙ e in
-      ap (λ (b : Bool). if b then false else all_written (take count m.top.operands)) as_many
-      ∙ all_were_written shapes m.heap count m.top.operands state.operands t.top.operands_typed
+  not_fewer_holds count e = grind (arith, same_length, all_were_written)
 
   moved_on : (count : ℕ) (vs : List TaggedValue) (us : List Ty) (after : Types)
       → nat_lt (length state.operands) count ≡ false → with_operands state us ≡ after
@@ -202,29 +168,11 @@ module _ {C : Type 0} (s : Surroundings C) (ground : Ground s) (m : Machine C) (
 
   swapped_points : (upper lower : ℕ)
       → Operands (swapped upper lower m.top.operands) (swapped upper lower state.operands)
-  swapped_points upper lower =
-      let R = IsOperand shapes m.heap in
-      let vs = m.top.operands in
-      let us = state.operands in
-      let h = t.top.operands_typed in
-      joined_points R (take lower (drop upper vs) ++ take upper vs) (drop (upper + lower) vs)
-      (take lower (drop upper us) ++ take upper us) (drop (upper + lower) us)
-      (joined_points R (take lower (drop upper vs)) (take upper vs) (take lower (drop upper us)) (take upper us)
-      (take_points R lower (drop upper vs) (drop upper us) (drop_points R upper vs us h))
-      (take_points R upper vs us h))
-      (drop_points R (upper + lower) vs us h)
+  swapped_points upper lower = grind (arith, joined_points, take_points, drop_points)
 
   duplicated_points : (count depth : ℕ)
       → Operands (duplicated count depth m.top.operands) (duplicated count depth state.operands)
-  duplicated_points count depth =
-      let R = IsOperand shapes m.heap in
-      let vs = m.top.operands in
-      let us = state.operands in
-      let h = t.top.operands_typed in
-      joined_points R (take depth vs ++ take count vs) (drop depth vs) (take depth us ++ take count us) (drop depth us)
-      (joined_points R (take depth vs) (take count vs) (take depth us) (take count us) (take_points R depth vs us h)
-      (take_points R count vs us h))
-      (drop_points R depth vs us h)
+  duplicated_points count depth = grind (arith, joined_points, take_points, drop_points)
 
   -- ---- the instructions
 

@@ -1,9 +1,7 @@
 -- Objects of a typed heap, and heaps in which a component of one was changed, or to which an object was added.
-use Rattle.std.proofs.Common.{◌≡◌, ℕ, zero, suc, ◌<◌, List, [], ◌∷◌, set, slice_get, Option, Some, None}
-use Rattle.std.proofs.Common.{Bool, true, false, refl, arith, length-set}
+use Rattle.std.proofs.Common.{◌≡◌, ℕ, ◌<◌, List, set, Some, Bool, true, refl, arith, length-set}
 use Rattle.std.proofs.lemmas.Bool.{ltb-true}
 use Rattle.std.specs.List.{AllByRecursion}
-use Rattle.std.specs.Option.{option_map_or}
 use Rattle.jc_cap_desc.specs.Shape.{Shape}
 use Rattle.jc_store.specs.Heap as heaps
 use Rattle.jc_store.specs.Heap.{Heap, object_at, with_cell, with_new, with_object}
@@ -11,30 +9,21 @@ use Rattle.jc_store.specs.declared.kind.ObjectType.{ObjectType}
 use Rattle.jc_machine.specs.Lookup.{is_byte, is_word, leads_to}
 use Rattle.jc_machine.specs.Natives.{KeepsObjects}
 use Rattle.jc_machine.specs.Typed.{CellsTyped, HeapTyped, ObjectTyped}
-use Rattle.jc_words.specs.Values.{Null, Ref, TaggedValue, Unset, Word}
+use Rattle.jc_words.specs.Values.{Null, Ref, TaggedValue, Word}
 use Rattle.jc_safety.proofs.Growing.{keeps_changed, keeps_new, objects_still}
 use Rattle.jc_safety.proofs.Lists.{each_at, each_joined, each_set}
 
 -- an object of a typed heap is typed
 pub typed_at : (world : List Shape) (heap : Heap TaggedValue) → HeapTyped world heap → (n : ℕ)
     → (o : heaps.Object TaggedValue) → object_at heap n ≡ Some o → ObjectTyped world heap o
-typed_at world heap h zero o e = absurd cc
-typed_at world heap h (suc n) o e = each_at (ObjectTyped world heap) heap n o h e
+typed_at world heap h1 n o h2 = grind (arith, each_at)
 
 -- by what a reference is: null, or an object that passes the test
 pub ref_case : (heap : Heap TaggedValue) (test : ObjectType → Bool) (P : TaggedValue → Type 0) (v : TaggedValue)
     → leads_to heap test v ≡ true → P Null
     → ((n : ℕ) (o : heaps.Object TaggedValue) → object_at heap n ≡ Some o → test o.kind.object ≡ true → P (Ref n))
     → P v
-ref_case heap test P (Word n) h none some = absurd cc
-ref_case heap test P (Ref n) h none some = by_object (object_at heap n) refl h
-  where
-    by_object : (found : Option (heaps.Object TaggedValue)) → object_at heap n ≡ found
-        → option_map_or (λ o. test o.kind.object) found false ≡ true → P (Ref n)
-    by_object None e h = absurd cc
-    by_object (Some o) e h = some n o e h
-ref_case heap test P Null h none some = none
-ref_case heap test P Unset h none some = absurd cc
+ref_case heap test P v h1 h2 h3 = grind arith
 
 -- ---- a component is changed
 
@@ -47,8 +36,7 @@ pub record Written (world : List Shape) (before after : Heap TaggedValue) : Type
 each_changed : (world : List Shape) (heap : Heap TaggedValue) (n : ℕ) (p : heaps.Object TaggedValue)
     → (objects : Heap TaggedValue) → AllByRecursion (ObjectTyped world heap) objects → ObjectTyped world heap p
     → AllByRecursion (ObjectTyped world heap) (with_object objects n p)
-each_changed world heap zero p objects h k = h
-each_changed world heap (suc n) p objects h k = each_set (ObjectTyped world heap) objects n p h k
+each_changed world heap n p objects h1 h2 = grind (arith, each_set)
 
 pub written : (world : List Shape) (heap : Heap TaggedValue) → HeapTyped world heap → (n : ℕ)
     → (o : heaps.Object TaggedValue) (index : ℕ) (v : TaggedValue) → object_at heap n ≡ Some o
@@ -74,20 +62,9 @@ written world heap h n o index v found cells =
 
 pub made_typed : (world : List Shape) (heap : Heap TaggedValue) → HeapTyped world heap
     → (o : heaps.Object TaggedValue) → ObjectTyped world heap o → Written world heap (with_new heap o)
-made_typed world heap h o typed =
-    let keeps = keeps_new heap o in record {
-      typed =
-          objects_still heap (with_new heap o) keeps world (with_new heap o)
-          (each_joined (ObjectTyped world heap) heap (o ∷ []) h (typed, tt));
-      keeps = keeps;
-    }
+made_typed world heap h o typed = grind (arith, keeps_new, objects_still, each_joined)
 
 -- ---- components of arrays
-
--- a component of an array of words, of bytes, or of references
-pub byte_component : (cells : List TaggedValue) (n : ℕ) (v : TaggedValue)
-    → AllByRecursion (λ v. is_byte v ≡ true) cells → slice_get cells n ≡ Some v → is_byte v ≡ true
-byte_component cells n v h e = each_at (λ v. is_byte v ≡ true) cells n v h e
 
 -- bytes and words as values
 pub record IsNumber (most : ℕ) (v : TaggedValue) : Type 0 where
@@ -96,13 +73,7 @@ pub record IsNumber (most : ℕ) (v : TaggedValue) : Type 0 where
   pub is : v ≡ Word number
 
 pub byte_number : (v : TaggedValue) → is_byte v ≡ true → IsNumber 256 v
-byte_number (Word n) h = record { number = n; small = ltb-true n 256 h; is = refl }
-byte_number (Ref n) h = absurd cc
-byte_number Null h = absurd cc
-byte_number Unset h = absurd cc
+byte_number v h1 = grind (arith, ltb-true)
 
 pub word_number : (v : TaggedValue) → is_word v ≡ true → IsNumber 65536 v
-word_number (Word n) h = record { number = n; small = ltb-true n 65536 h; is = refl }
-word_number (Ref n) h = absurd cc
-word_number Null h = absurd cc
-word_number Unset h = absurd cc
+word_number v h1 = grind (arith, ltb-true)

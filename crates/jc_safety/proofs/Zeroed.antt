@@ -1,5 +1,5 @@
 -- Objects that are zeroed, and arrays of bytes to which a byte is written, are typed still.
-use Rattle.std.proofs.Common.{◌≡◌, ℕ, zero, suc, ◌<◌, List, [], ◌∷◌, length, map, set, Bool, true, false, cond, Option, Some, None}
+use Rattle.std.proofs.Common.{◌≡◌, ℕ, zero, suc, ◌<◌, List, [], ◌∷◌, length, map, set, Bool, true, cond, Option, Some, arith}
 use Rattle.std.proofs.Common.{slice_get, refl, sym, ap, subst}
 use Rattle.std.proofs.lemmas.Bool.{lt-ltb}
 use Rattle.std.specs.List.{AllByRecursion}
@@ -10,14 +10,13 @@ use Rattle.jc_names.specs.declared.name.ClassName.{ClassName}
 use Rattle.jc_store.specs.Heap as heaps
 use Rattle.jc_store.specs.Heap.{Heap, object_at, with_cell, with_object}
 use Rattle.jc_store.specs.declared.kind.ObjectType.{ObjectType}
-use Rattle.jc_store.specs.declared.kind.ObjectType.TheVariants.{BooleanArray, ByteArray, Instance, ReferenceArray}
-use Rattle.jc_store.specs.declared.kind.ObjectType.TheVariants.{ShortArray}
-use Rattle.jc_machine.specs.Lookup.{fields_of, is_byte, is_instance, is_kept_as, is_word, leads_to}
+use Rattle.jc_store.specs.declared.kind.ObjectType.TheVariants.{ByteArray}
+use Rattle.jc_machine.specs.Lookup.{is_byte, is_kept_as, is_word, leads_to}
 use Rattle.jc_machine.specs.Machine.{Machine, Surroundings}
 use Rattle.jc_machine.specs.Natives.{KeepsObjects}
 use Rattle.jc_machine.specs.Reading.{Pointwise}
 use Rattle.jc_machine.specs.Typed.{CellsTyped, HeapTyped, IsTypedBeside, ObjectTyped, is_cell}
-use Rattle.jc_words.specs.Values.{Null, Ref, TaggedValue, Unset, Word}
+use Rattle.jc_words.specs.Values.{TaggedValue, Word}
 use Rattle.jc_safety.specs.Zeroing.{with_heap, zero_or_null, zeroed, zeroed_where}
 use Rattle.jc_safety.proofs.Ground.{Ground}
 use Rattle.jc_safety.proofs.Growing.{objects_still, statics_still}
@@ -27,40 +26,23 @@ use Rattle.jc_safety.proofs.Writing.{Written, typed_at, written}
 -- ---- values
 
 word_zero : (v : TaggedValue) → is_word v ≡ true → is_word (zero_or_null v) ≡ true
-word_zero (Word n) e = refl
-word_zero (Ref n) e = absurd cc
-word_zero Null e = absurd cc
-word_zero Unset e = absurd cc
+word_zero v h1 = grind arith
 
 byte_zero : (v : TaggedValue) → is_byte v ≡ true → is_byte (zero_or_null v) ≡ true
-byte_zero (Word n) e = refl
-byte_zero (Ref n) e = absurd cc
-byte_zero Null e = absurd cc
-byte_zero Unset e = absurd cc
+byte_zero v h1 = grind arith
 
 leads_zero : (heap : Heap TaggedValue) (test : ObjectType → Bool) (v : TaggedValue) → leads_to heap test v ≡ true
     → leads_to heap test (zero_or_null v) ≡ true
-leads_zero heap test (Word n) e = absurd cc
-leads_zero heap test (Ref n) e = refl
-leads_zero heap test Null e = refl
-leads_zero heap test Unset e = absurd cc
+leads_zero heap test v h1 = grind arith
 
 module _ (world : List Shape) (heap : Heap TaggedValue) where
   kept_zero : (d : DeclaredType ClassName) (v : TaggedValue) → is_kept_as world heap d v ≡ true
       → is_kept_as world heap d (zero_or_null v) ≡ true
-  kept_zero Declared.Boolean v e = byte_zero v e
-  kept_zero Declared.Byte v e = byte_zero v e
-  kept_zero Declared.Short v e = word_zero v e
-  kept_zero (Declared.Reference c) v e = leads_zero heap _ v e
-  kept_zero Declared.BooleanArray v e = leads_zero heap _ v e
-  kept_zero Declared.ByteArray v e = leads_zero heap _ v e
-  kept_zero Declared.ShortArray v e = leads_zero heap _ v e
-  kept_zero (Declared.ReferenceArray c) v e = leads_zero heap _ v e
+  kept_zero d v h1 = grind (arith, byte_zero, word_zero, leads_zero)
 
   cell_zero : (field : Option (DeclaredType ClassName)) (v : TaggedValue) → is_cell world heap field v ≡ true
       → is_cell world heap field (zero_or_null v) ≡ true
-  cell_zero None v e = word_zero v e
-  cell_zero (Some d) v e = kept_zero d v e
+  cell_zero field v h1 = grind (arith, word_zero, kept_zero)
 
   -- ---- components
 
@@ -79,28 +61,18 @@ module _ (world : List Shape) (heap : Heap TaggedValue) where
 
   cells_zero : (cells : List TaggedValue) (type : ObjectType) → CellsTyped world heap cells type
       → CellsTyped world heap (map zero_or_null cells) type
-  cells_zero cells (Instance c) h = fields_zero cells (fields_of world c) h
-  cells_zero cells BooleanArray h = all_zero (λ v. is_byte v ≡ true) byte_zero cells h
-  cells_zero cells ByteArray h = all_zero (λ v. is_byte v ≡ true) byte_zero cells h
-  cells_zero cells ShortArray h = all_zero (λ v. is_word v ≡ true) word_zero cells h
-  cells_zero cells (ReferenceArray c) h =
-      all_zero (λ v. leads_to heap (is_instance world c) v ≡ true) (leads_zero heap (is_instance world c)) cells h
+  cells_zero cells type h1 = grind (arith, fields_zero, all_zero, byte_zero, word_zero, leads_zero)
 
   same_count : (vs : List TaggedValue) → length (map zero_or_null vs) ≡ length vs
   same_count [] = refl
   same_count (v ∷ vs) = ap suc (same_count vs)
 
   object_zero : (o : heaps.Object TaggedValue) → ObjectTyped world heap o → ObjectTyped world heap (zeroed o)
-  object_zero o h = record {
-    made = h.made;
-    cells = cells_zero o.cells o.kind.object h.cells;
-    counted = λ is. subst (λ (n : ℕ). n < 65536) (sym (same_count o.cells)) (h.counted is);
-  }
+  object_zero o h = grind (arith, cells_zero, same_count)
 
   one_zero : (b : Bool) (o : heaps.Object TaggedValue) → ObjectTyped world heap o
       → ObjectTyped world heap (cond b (zeroed o) o)
-  one_zero true o h = object_zero o h
-  one_zero false o h = h
+  one_zero b o h1 = grind (arith, object_zero)
 
   each_zero : (test : heaps.Object TaggedValue → Bool) (objects : Heap TaggedValue)
       → AllByRecursion (ObjectTyped world heap) objects
@@ -109,24 +81,19 @@ module _ (world : List Shape) (heap : Heap TaggedValue) where
   each_zero test (o ∷ objects) h = (one_zero (test o) o h.0, each_zero test objects h.1)
 
   one_kept : (b : Bool) (o : heaps.Object TaggedValue) → (cond b (zeroed o) o).kind ≡ o.kind
-  one_kept true o = refl
-  one_kept false o = refl
+  one_kept b o = grind arith
 
   one_owner : (b : Bool) (o : heaps.Object TaggedValue) → (cond b (zeroed o) o).owner ≡ o.owner
-  one_owner true o = refl
-  one_owner false o = refl
+  one_owner b o = grind arith
 
   one_size : (b : Bool) (o : heaps.Object TaggedValue) → length (cond b (zeroed o) o).cells ≡ length o.cells
-  one_size true o = same_count o.cells
-  one_size false o = refl
+  one_size b o = grind (arith, same_count)
 
   got_zero : (test : heaps.Object TaggedValue → Bool) (objects : Heap TaggedValue) (n : ℕ)
       (o : heaps.Object TaggedValue)
       → slice_get objects n ≡ Some o → slice_get (zeroed_where test objects) n ≡ Some (cond (test o) (zeroed o) o)
   got_zero test [] n o e = absurd cc
-  got_zero test (x ∷ objects) zero o e =
-      let same : x ≡ o = cc in
-      ap (λ (y : heaps.Object TaggedValue). Some (cond (test y) (zeroed y) y)) same
+  got_zero test (x ∷ objects) zero o e = grind arith
   got_zero test (x ∷ objects) (suc n) o e = got_zero test objects n o e
 
   keeps_zero : (test : heaps.Object TaggedValue → Bool) → KeepsObjects heap (zeroed_where test heap)
@@ -141,11 +108,7 @@ module _ (world : List Shape) (heap : Heap TaggedValue) where
 
   pub zeroing : HeapTyped world heap → (test : heaps.Object TaggedValue → Bool)
       → Written world heap (zeroed_where test heap)
-  zeroing h test =
-      let keeps = keeps_zero test in record {
-        typed = objects_still heap (zeroed_where test heap) keeps world (zeroed_where test heap) (each_zero test heap h);
-        keeps = keeps;
-      }
+  zeroing h test = grind (arith, keeps_zero, objects_still, each_zero)
 
 -- ---- a byte of an array of bytes
 

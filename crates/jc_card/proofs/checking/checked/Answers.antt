@@ -1,4 +1,4 @@
-use Rattle.std.proofs.Common.{◌≤◌, Err, ◌∙◌, sym, ap, subst}
+use Rattle.std.proofs.Common.{◌≤◌, Err, ◌∙◌, sym, ap, subst, arith}
 use Rattle.std.proofs.lemmas.Result.{err_from_is_err_and}
 use Rattle.jc_link.specs.Linked.{most_in_world}
 use Rattle.jc_card.specs.Load.{AreSpelled, IsFit, IsLinkedBehind}
@@ -6,16 +6,10 @@ use Rattle.jc_card.proofs.Checked.{is_cut, is_fit, uncarried, uncut, unlinked, u
 use Rattle.jc_card.proofs.checking.checked.Goals as goal
 
 pub returns-in_err-cut-clause-unfit : goal.returns-in_err-cut-clause-unfit
-returns-in_err-cut-clause-unfit c =
-    let p = err_from_is_err_and c.from_residual.result c.from_residual.ensures.1 in
-    rw (p.1, p.2) (uncut c.args.world.now.shapes c.args.image.now c.args.certificate.now c.in_err-cut.field-0.0
-    c.in_err-cut.ensures.found)
+returns-in_err-cut-clause-unfit c = grind (arith, err_from_is_err_and, uncut)
 
 pub returns-in_err-linked-clause-unfit : goal.returns-in_err-linked-clause-unfit
-returns-in_err-linked-clause-unfit c =
-    let p = err_from_is_err_and c.from_residual-in_err-linked.result c.from_residual-in_err-linked.ensures.1 in
-    rw (p.1, p.2) (unlinked c.args.world.now.shapes c.args.image.now c.args.certificate.now c.in_ok-cut.field-0
-    c.in_err-linked.field-0.0 c.in_ok-cut.ensures.found c.in_err-linked.ensures.refused)
+returns-in_err-linked-clause-unfit c = grind (arith, err_from_is_err_and, unlinked)
 
 pub returns-in_err-rows-clause-unfit : goal.returns-in_err-rows-clause-unfit
 returns-in_err-rows-clause-unfit c =

@@ -4,9 +4,8 @@ use Rattle.jc_code.specs.Decoding.{next_wide_branch, next_control, next_branch, 
 use Rattle.jc_code.specs.Decoding.{next_shuffle, next_local, next_constant, next_word_operation}
 use Rattle.jc_code.specs.Instructions.{next_operation, instr_at}
 use Rattle.jc_code.specs.Objects.{word_kind_of, next_tested_type, next_creation, next_interface, next_invocation}
-use Rattle.jc_code.specs.Objects.{narrow_field_of, wide_field_of, next_narrow_field, next_field}
-use Rattle.jc_code.specs.Objects.{reference_condition_of, next_wide_condition, next_condition, next_array}
-use Rattle.jc_code.specs.Objects.{next_reference}
+use Rattle.jc_code.specs.Objects.{narrow_field_of, wide_field_of, next_narrow_field, next_field, reference_condition_of}
+use Rattle.jc_code.specs.Objects.{next_wide_condition, next_condition, next_array, next_reference}
 use Rattle.jc_api.specs.Token.{chain, is_at_or_above}
 use Rattle.jc_classes.specs.Api.{those_to, each_below, room_to, number_to}
 use Rattle.jc_classes.specs.Walk.{most_classes}

@@ -1,24 +1,17 @@
-use Rattle.std.proofs.Common.{◌∙◌, ap, sym, None}
+use Rattle.std.proofs.Common.{◌∙◌, ap, sym, None, arith}
 use Rattle.jc_firewall.specs.Verdict.{runtime}
 use Rattle.jc_program.specs.Classes.{class_number}
 use Rattle.jc_machine.specs.Lookup.{class_of}
 use Rattle.jc_store.specs.Store.{fresh, with_made}
 use Rattle.jc_card.proofs.Making.{as_made, is_made, made_more, own_number, there_is}
 use Rattle.jc_card.specs.PrivateNew.{made_of}
-use Rattle.jc_card.specs.declared.runtime_objects.OwnObject.{OwnObject}
 use Rattle.jc_card.proofs.runtime_objects.make.Goals as goal
 
 pub unwrap-class-requires : goal.unwrap-class-requires
-unwrap-class-requires c =
-    there_is c.args.classes.now _ c.number_of.result
-    (c.number_of.ensures ∙ ap (class_number c.args.classes.now)
-    (c.class_of.ensures ∙ ap (λ (own : OwnObject). class_of own.object) c.own_object-own.ensures))
-    (own_number c.args.classes.now c.requires.numbers c.args.place)
+unwrap-class-requires c = grind (arith, there_is, own_number)
 
 pub unwrap-requires : goal.unwrap-requires
-unwrap-requires c = is_made c.args.store.now _ _ c.make.result
-    (c.from.ensures ∙ ap (λ (own : OwnObject). own.size) c.own_object-own.ensures) c.requires.room
-    c.make.ensures.full
+unwrap-requires c = grind (arith, is_made)
 
 pub returns : goal.returns
 returns c =

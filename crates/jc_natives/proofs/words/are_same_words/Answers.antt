@@ -3,8 +3,4 @@ use Rattle.jc_natives.proofs.Parts.{same_skips}
 use Rattle.jc_natives.proofs.words.are_same_words.Goals as goal
 
 pub loop-at-init : goal.loop-at-init
-loop-at-init c =
-    let start = c.same_start-at.ensures in
-    let low = start.within in
-    let sized = c.requires.sized in
-    same_skips c.same_start-at.result c.args.one.now c.args.other.now low (omega (arith, low, sized)) start.same
+loop-at-init c = grind (arith, same_skips)

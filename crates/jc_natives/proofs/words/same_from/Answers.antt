@@ -1,14 +1,9 @@
-use Rattle.std.proofs.Common.{◌+◌, sym, arith, refl}
+use Rattle.std.proofs.Common.{sym, arith}
 use Rattle.jc_natives.proofs.Parts.{same_block, same_last}
 use Rattle.jc_natives.proofs.words.same_from.Goals as goal
 
 pub loop-start-preserved : goal.loop-start-preserved
-loop-start-preserved c = record {
-  within = omega arith;
-  same = same_block c.loop-start.start (c.loop-start.start + c.args.size) (c.loop-start.start + c.args.size)
-      c.args.one.now c.args.other.now (omega arith) refl c.loop-start.invariant.same
-      (c.are_same.ensures.yes c.if-not-are_same.false);
-}
+loop-start-preserved c = grind (arith, same_block)
 
 pub returns-then-are_same-clause-same : goal.returns-then-are_same-clause-same
 returns-then-are_same-clause-same c =

@@ -1,18 +1,6 @@
-use Rattle.std.proofs.Common.{◌≡◌, Bool, true, cond, sym, subst, ◌∙◌}
-use Rattle.jc_card.specs.Commands.{agrees, asked, process, refused}
-use Rattle.jc_card.specs.Parts.{call_selected}
-use Rattle.jc_card.specs.Reads.{IsDone, ReadsEnded, ReadsResponse}
-use Rattle.jc_card.specs.declared.calls.AppletCall.TheVariants.{Select}
+use Rattle.std.proofs.Common.{arith}
 use Rattle.jc_card.proofs.Doing.{then_done}
 use Rattle.jc_card.proofs.card.Card.ask.Goals as goal
 
 pub returns-then-agrees : goal.returns-then-agrees
-returns-then-agrees c card h =
-    let k = c.args.command.now in
-    then_done c.call_selected-ended.new.self c.process.new.self (ReadsEnded c.call_selected-ended.result)
-    (ReadsResponse c.process.result) (call_selected card Select) (λ d e. asked d k e)
-    (c.call_selected-ended.ensures card h)
-    (λ d e i r.
-    let yes : agrees e ≡ true = sym (c.agrees.ensures e r) ∙ c.if-agrees.true in
-    subst (λ (b : Bool). IsDone c.process.new.self (ReadsResponse c.process.result)
-    (cond b (process d k true) (refused d))) (sym yes) (c.process.ensures d i))
+returns-then-agrees c card h = grind (arith, then_done)

@@ -63,22 +63,4 @@ invariant_of-self c =
     after c.call.result c.call.ensures.call c.call.ensures.dropped refl refl refl refl refl refl)
 
 pub returns : goal.returns
-returns c card holds =
-    let laws : CallLaws =
-    record { lawful = c.law.ensures; calls = c.accepted_packages_are_type_safe.ensures.calls } in
-    let a = c.args in
-    let k : CardWords = the_view c.self.inside in
-    let first : FirstCall =
-    record { called = c.called_at-called.result; owner = a.owner; arguments = c.as_slice.result } in
-    let words = c.as_slice.ensures.value ∙ c.words_of-words.ensures.words in
-    let read = words_read a.size c.as_slice.result.now words in
-    let few = subst (λ (ws : List ℕ). length ws < 256) (sym c.as_slice.ensures.value) c.words_of-words.ensures.few in
-    let name : MethodName = Loaded a.place.number a.place.install in
-    let values : List TaggedValue = Ref 13 ∷ Word 0 ∷ Word a.size ∷ [] in
-    let after : CardWords = record k { machine = c.call.new.self; kept = c.call.new.natives } in
-    let h = subst (λ (x : CardWords). Holds x card) (sym c.self.view_is) holds in
-    let known = subst (λ (w : World). IsInstallPlace w a.place) holds.world c.requires.place in
-    let can = can_begin card h.typed a.place a.owner a.size (omega (arith, c.ranges.size)) known
-    c.built_worlds_are_sound.ensures in
-    method_called laws k card h a.owner.context a.owner name values can first c.called_at-called.ensures refl read few
-    after c.call.result c.call.ensures.call c.call.ensures.dropped refl refl refl refl refl refl
+returns c card holds = grind (arith, words_read, can_begin, method_called)

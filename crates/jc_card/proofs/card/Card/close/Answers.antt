@@ -1,9 +1,9 @@
-use Rattle.std.proofs.Common.{subst, sym}
+use Rattle.std.proofs.Common.{subst, sym, arith}
 use Rattle.jc_natives.specs.Kept.{Kept, without_command}
 use Rattle.jc_card.specs.Card.{with_kept}
 use Rattle.jc_card.specs.Parts.{gives}
 use Rattle.jc_card.specs.contracts.card.Card.{the_view}
-use Rattle.jc_card.specs.Reads.{CardWords, GivesNothing, Holds, IsCard, IsDone}
+use Rattle.jc_card.specs.Reads.{CardWords, GivesNothing, IsCard}
 use Rattle.jc_card.proofs.Doing.{left_card}
 use Rattle.jc_card.proofs.Keeping.{kept_changed}
 use Rattle.jc_card.proofs.card.Card.close.Goals as goal
@@ -19,10 +19,4 @@ invariant_of-self c =
     (c.calls_keep_fitting.ensures.closed card.world card.heap card.kept h.typed.beside.fits)))
 
 pub returns : goal.returns
-returns c card holds =
-    let k : CardWords = the_view c.self.inside in
-    let h = subst (λ (x : CardWords). Holds x card) (sym c.self.view_is) holds in
-    subst (λ (x : Kept). IsDone (record k { kept = x }) GivesNothing (gives (with_kept card (without_command card.kept))
-    tt)) (sym c.close.ensures)
-    (kept_changed k card h (λ x. without_command x)
-    (c.calls_keep_fitting.ensures.closed card.world card.heap card.kept h.typed.beside.fits))
+returns c card holds = grind (arith, kept_changed)

@@ -1,9 +1,9 @@
-use Rattle.std.proofs.Common.{subst, sym}
+use Rattle.std.proofs.Common.{subst, sym, arith}
 use Rattle.jc_natives.specs.Kept.{Kept, after_install}
 use Rattle.jc_card.specs.Card.{with_kept}
 use Rattle.jc_card.specs.Parts.{gives}
 use Rattle.jc_card.specs.contracts.card.Card.{the_view}
-use Rattle.jc_card.specs.Reads.{CardWords, GivesNothing, Holds, IsCard, IsDone}
+use Rattle.jc_card.specs.Reads.{CardWords, GivesNothing, IsCard}
 use Rattle.jc_card.proofs.Doing.{left_card}
 use Rattle.jc_card.proofs.Keeping.{kept_changed}
 use Rattle.jc_card.proofs.card.Card.end_install.Goals as goal
@@ -19,11 +19,4 @@ invariant_of-self c =
     (c.calls_keep_fitting.ensures.over card.world card.heap card.kept h.typed.beside.fits c.args.succeeds)))
 
 pub returns : goal.returns
-returns c card holds =
-    let k : CardWords = the_view c.self.inside in
-    let h = subst (λ (x : CardWords). Holds x card) (sym c.self.view_is) holds in
-    subst (λ (x : Kept). IsDone (record k { kept = x }) GivesNothing (gives (with_kept card (after_install card.kept
-    c.args.succeeds))
-    tt)) (sym c.end_install.ensures)
-    (kept_changed k card h (λ x. after_install x c.args.succeeds)
-    (c.calls_keep_fitting.ensures.over card.world card.heap card.kept h.typed.beside.fits c.args.succeeds))
+returns c card holds = grind (arith, kept_changed)

@@ -1,4 +1,4 @@
-use Rattle.std.proofs.Common.{Ok, refl, subst, sym, ◌∙◌}
+use Rattle.std.proofs.Common.{Ok, refl, subst, sym, ◌∙◌, arith}
 use Rattle.std.proofs.lemmas.Result.{err_from_is_err_and}
 use Rattle.jc_link.specs.Linked.{World}
 use Rattle.jc_card.specs.Load.{IsFit, with_package}
@@ -7,11 +7,7 @@ use Rattle.jc_card.proofs.Checked.{refused}
 use Rattle.jc_card.proofs.card.Card.load.Goals as goal
 
 pub returns-in_err-linked-clause-done : goal.returns-in_err-linked-clause-done
-returns-in_err-linked-clause-done c card holds =
-    let p = err_from_is_err_and c.from_residual.result c.from_residual.ensures.1 in
-    let h = subst (λ (x : CardWords). Holds x card) (sym c.self.view_is) holds in
-    rw (p.1, p.2) (refused c.self.inside.world c.args.self.now card c.args.image.now c.args.certificate.now
-    c.in_err-linked.field-0.0 h.world holds c.in_err-linked.ensures.unfit)
+returns-in_err-linked-clause-done c card holds = grind (arith, err_from_is_err_and, refused)
 
 pub returns-in-Ok-clause-done : goal.returns-in-Ok-clause-done
 returns-in-Ok-clause-done c card holds =

@@ -8,12 +8,7 @@ use Rattle.jc_store.specs.Store.{Store}
 use Rattle.jc_card.proofs.card.Card.write.Goals as goal
 
 pub put_bytes-requires : goal.put_bytes-requires
-put_bytes-requires c =
-    let k : CardWords = the_view c.self.inside in
-    let card = c.self.invariant.card in
-    let h = c.self.invariant.holds in
-    let array = c.requires.array card (subst (λ (x : CardWords). Holds x card) c.self.view_is h) in
-    record { there = has_cells k card h c.args.number c.args.bytes.now array }
+put_bytes-requires c = grind (arith, has_cells)
 
 pub invariant_of-self : goal.invariant_of-self
 invariant_of-self c =

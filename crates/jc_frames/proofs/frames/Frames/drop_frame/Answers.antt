@@ -14,5 +14,4 @@ pop_frame-requires c =
     }
   where
     not_none : (k : ℕ) → nat_eq k 0 ≡ false → 0 < k
-    not_none zero e = absurd cc
-    not_none (suc k) e = omega arith
+    not_none k h1 = grind arith

@@ -10,40 +10,43 @@ use jc_link::{Linked, World};
 use jc_program::Program;
 use std::alloc::{AllocError, Global};
 
-/// Puts a package behind those of a world, and its static fields and arrays into the machine over it, if there is room
-/// for these: the tables of the world with it, made from those of the world before. Where no memory is left both are as
-/// they were.
+/// Puts a package behind those of a world, its tables behind those of the program, and its static fields and arrays
+/// into the machine over them, if there is room for these. Where no memory is left all are as they were.
 pub(crate) fn grow(
     alloc: Global,
     world: &mut World,
-    program: &Program,
+    program: &mut Program,
     machine: &mut WordMachine,
     linked: Linked,
     number: u8,
-) -> Result<Program, AllocError>
+) -> Result<(), AllocError>
     requires bound { IsBoundTo world.old linked }
-    requires tables { IsProgramOf world.old program.now }
+    requires tables { IsProgramOf world.old program.old }
     requires room { length world.old.shapes < most_in_world }
-    ensures world { IfOk result (λ program. world.new ≡ with_linked world.old linked) }
-    ensures program { IfOk result (λ program. IsProgramOf world.new program) }
-    ensures machine { IfOk result (λ program. Grows machine.old machine.new number linked) }
+    ensures world { IfOk result (λ u. world.new ≡ with_linked world.old linked) }
+    ensures program { IfOk result (λ u. IsProgramOf world.new program.new) }
+    ensures machine { IfOk result (λ u. Grows machine.old machine.new number linked) }
     ensures kept { IfErr result (λ e. world.new ≡ world.old) }
+    ensures same { IfErr result (λ e. program.new ≡ program.old) }
     ensures still { IfErr result (λ e. machine.new ≡ machine.old) }
 {
     let words = static_words(alloc, &linked, machine.store.objects_used())?;
     world.bodies();
     world.table();
+    let size = program.size();
     let before = world.add_for_now(linked)?;
     let last = world.bodies().len() - 1;
-    match program.grown(alloc, world) {
-        Ok(program) => match machine.load(number, &world.bodies()[last], words) {
-            Ok(()) => Ok(program),
+    match program.grow(alloc, world) {
+        Ok(()) => match machine.load(number, &world.bodies()[last], words) {
+            Ok(()) => Ok(()),
             Err(error) => {
+                program.take_back(size);
                 world.take_back(before);
                 Err(error)
             }
         },
         Err(error) => {
+            program.take_back(size);
             world.take_back(before);
             Err(error)
         }

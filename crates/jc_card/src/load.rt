@@ -49,10 +49,10 @@ impl Card {
         loads_stay_in_agreement(&self.runtime);
         is_word(self.most_objects);
         let number = self.world.bodies().len() as u8 + 1;
-        self.program = grow(
+        grow(
             alloc,
             &mut self.world,
-            &self.program,
+            &mut self.program,
             &mut self.machine,
             linked,
             number,

@@ -1,10 +1,10 @@
 -- Classes and their superclasses.
-use Rattle.std.proofs.Common.{◌≡◌, ℕ, zero, suc, ◌&&◌, false, true, List, Option, Some, None, is_some}
-use Rattle.std.proofs.Common.{refl, sym, ap, ◌∙◌}
+use Rattle.std.proofs.Common.{◌≡◌, ℕ, false, true, List, Option, Some, None, is_some, arith}
+use Rattle.std.proofs.Common.{refl, ap}
 use Rattle.std.specs.Option.{option_and_then}
 use Rattle.jc_cap_desc.specs.Shape.{ClassShape, Shape}
 use Rattle.jc_classes.specs.Methods.{interface_visit, virtual_method_of, virtual_visit}
-use Rattle.jc_classes.specs.Subtype.{comes_to_end, has_whole_chain}
+use Rattle.jc_classes.specs.Subtype.{has_whole_chain}
 use Rattle.jc_classes.specs.Walk.{found, most_classes, walk}
 use Rattle.jc_classes.specs.World.{class_at}
 use Rattle.jc_link.specs.Sound.{IsSound}
@@ -25,28 +25,23 @@ module _ (world : List Shape) (c : ClassName) (none : class_at world c ≡ None)
   no_method token asker = within most_classes
     where
       within : (n : ℕ) → walk (virtual_visit world asker token) world n c ≡ None
-      within zero = refl
-      within (suc n) = nothing _ (class_at world c) none
+      within n = grind (arith, nothing)
 
   pub not_listed : (interface : ClassName) → found (interface_visit world interface) world c ≡ None
   not_listed interface = within most_classes
     where
       within : (n : ℕ) → walk (interface_visit world interface) world n c ≡ None
-      within zero = refl
-      within (suc n) = nothing _ (class_at world c) none
+      within n = grind (arith, nothing)
 
 -- ---- a class that is
 
 module _ (world : List Shape) (c : ClassName) (sound : IsSound world) where
   -- in a sound world the chain of each class that is there comes to its end
   pub whole_chain : (k : ClassShape) → class_at world c ≡ Some k → has_whole_chain world c ≡ true
-  whole_chain k there =
-      ap (λ (o : Option ClassShape). is_some o && comes_to_end world most_classes c) there
-      ∙ sound.superclasses.orderly.ends c
+  whole_chain k there = grind (arith, Option, is_some)
 
   pub not_there : has_whole_chain world c ≡ false → class_at world c ≡ None
   not_there e = by_class (class_at world c) refl
     where
       by_class : (o : Option ClassShape) → class_at world c ≡ o → class_at world c ≡ None
-      by_class None at = at
-      by_class (Some k) at = true_false (sym (whole_chain k at) ∙ e)
+      by_class o h1 = grind (arith, None, Some, true_false, whole_chain)

@@ -11,10 +11,7 @@ use Rattle.std.specs.List.{filter_map, position_from}
 use Rattle.std.specs.Option.{option_and_then, option_map_or, option_to_list}
 use Rattle.jc_api.specs.declared.class.ApiClass.TheVariants.{Object}
 use Rattle.jc_cap.specs.ClassComponent.{is_class}
-use Rattle.jc_cap.specs.Interfaces.{Implemented}
-use Rattle.jc_cap.specs.declared.interfaces.Superinterface.{Superinterface}
 use Rattle.jc_cap.specs.declared.record.RecordBody.{RecordBody}
-use Rattle.jc_cap.specs.declared.record.RecordBody.TheVariants.{Interface, Class}
 use Rattle.jc_cap_desc.specs.Shape.{Shape}
 use Rattle.jc_classes.specs.Record.{interface_rows, superinterfaces}
 use Rattle.jc_classes.specs.Subtype.{IsAmong, IsSubtype, by_interface, by_superclass, is_subtype, object, same}
@@ -36,13 +33,11 @@ use Rattle.jc_program.proofs.Same.{left_true, name_itself, named, right_true, sa
 -- ---- how many interfaces a record lists
 
 pub class_lists : (body : RecordBody) → is_class body ≡ true → length (interface_rows body) ≡ length (listed_refs body)
-class_lists (Interface r) e = absurd cc
-class_lists (Class r) e = sym (length-map r.interfaces (λ (i : Implemented). i.interface))
+class_lists body h1 = grind (arith, length-map)
 
 pub interface_lists : (body : RecordBody) → is_class body ≡ false
     → length (superinterfaces body) ≡ length (listed_refs body)
-interface_lists (Interface r) e = sym (length-map r.superinterfaces (λ (i : Superinterface). i.interface))
-interface_lists (Class r) e = absurd cc
+interface_lists body h1 = grind (arith, length-map)
 
 -- ---- numbers of classes
 
@@ -64,8 +59,7 @@ number_is names (c ∷ classes) (k ∷ numbers) n are has =
         → (has_number n numbers ≡ true → (d : ClassName) × IsAmong d classes × (class_number names d ≡ Some n))
         → (b || has_number n numbers) ≡ true
         → (d : ClassName) × IsAmong d (c ∷ classes) × (class_number names d ≡ Some n)
-    by_first true t later has = (c, inl refl, sym first ∙ ap Some (eqb-true k n t))
-    by_first false t later has = let r = later has in (r.0, inr r.1, r.2)
+    by_first b h1 h2 h3 = grind (arith, first, Some, eqb-true)
 
 number_of : (names classes : List ClassName) (numbers : List ℕ) (c : ClassName) → AreNumbersOf names classes numbers
     → IsAmong c classes → (n : ℕ) × (class_number names c ≡ Some n) × (has_number n numbers ≡ true)
@@ -81,8 +75,7 @@ number_of names (d ∷ classes) (k ∷ numbers) c are among =
     rest = cc
 
     or_true : (a b : Bool) → b ≡ true → (a || b) ≡ true
-    or_true true b e = refl
-    or_true false b e = e
+    or_true a b h1 = grind arith
 
     by_place : (d ≡ c) ⊎ IsAmong c classes
         → (IsAmong c classes → (n : ℕ) × (class_number names c ≡ Some n) × (has_number n numbers ≡ true))
@@ -103,15 +96,11 @@ place_first p (y ∷ xs) from (suc k) n x at t e = by_first (p y) (place_first p
   where
     by_first : (b : Bool) → (position_from p (from + 1) xs ≡ Some n → n ≤ from + 1 + k)
         → cond b (Some from) (position_from p (from + 1) xs) ≡ Some n → n ≤ from + suc k
-    by_first true later e = let same = same_Some from n e in omega (arith, same)
-    by_first false later e = let l = later e in omega (arith, l)
+    by_first b h1 h2 = grind (arith, same_Some)
 
 number_first : (names : List ClassName) (c : ClassName) (n k : ℕ) → slice_get names k ≡ Some c
     → class_number names c ≡ Some n → n ≤ k
-number_first names c n k at e =
-    let l = place_first (λ d. is_same_name d c) names 0 k n c at (name_itself c)
-    (sym (position_from-zero (λ d. is_same_name d c) names) ∙ e) in
-    omega (arith, l)
+number_first names c n k at e = grind (arith, place_first, name_itself, position_from-zero)
 
 -- ---- numbers of interfaces, one more at a time
 
@@ -132,9 +121,7 @@ numbers_more h f refs at old so_far more before put less =
 pub numbers_all : {A B : Type 0} (h : A → Option B) (f : B → Option ℕ) (refs : List A) (at : ℕ) (old so_far : List ℕ)
     → map Some so_far ++ map f (filter_map h (drop at refs)) ≡ map Some old ++ map f (filter_map h refs)
     → length refs ≤ at → map Some so_far ≡ map Some old ++ map f (filter_map h refs)
-numbers_all h f refs at old so_far before past =
-    sym (append-nil (map Some so_far))
-    ∙ ap (λ bs. map Some so_far ++ map f bs) (sym (none_left h refs at past)) ∙ before
+numbers_all h f refs at old so_far before past = grind (arith, append-nil, map, Some, none_left)
 
 pub none_listed : (names : List ClassName) (numbers : List ℕ)
     → map Some numbers ≡ map Some numbers ++ map (class_number names) []
@@ -148,14 +135,10 @@ listed_within (r ∷ rows) zero m e = omega arith
 listed_within (r ∷ rows) (suc k) m e = let l = listed_within rows k m e in omega (arith, l)
 
 either_way : (a b : Bool) → (a || b) ≡ true → (a ≡ true) ⊎ (b ≡ true)
-either_way true b e = inl refl
-either_way false b e = inr e
+either_way a b h1 = grind arith
 
 pub objects_none : (names : List ClassName) → HasObjects names 0 []
-objects_none names = record {
-  before = λ m d less there. absurd (omega (arith, less));
-  behind = λ m past. empty_row m;
-}
+objects_none names = grind (arith, empty_row)
 
 pub objects_more : (names : List ClassName) (at : ℕ) (name : ClassName) (old new : List ℕ) → HasObjects names at old
     → slice_get names at ≡ Some name
@@ -170,32 +153,17 @@ objects_more names at name old new so_far here bits = record {
 }
   where
     none_of : (b : Bool) → (b && false) ≡ false
-    none_of true = refl
-    none_of false = refl
+    none_of b = grind arith
 
     all_of : (b : Bool) → (b && true) ≡ b
-    all_of true = refl
-    all_of false = refl
+    all_of b = grind arith
 
     or_none : (b : Bool) → (b || false) ≡ b
-    or_none true = refl
-    or_none false = refl
+    or_none b = grind arith
 
     by_order : (m : ℕ) (d : ClassName) → m < at + 1 → slice_get names m ≡ Some d → (m < at) ⊎ (at ≤ m)
         → has_bit new m ≡ is_same_name (Api Object) d
-    by_order m d less there (inl before) =
-        bits m
-        ∙ ap (λ b. has_bit old m || (is_same_name (Api Object) name && b))
-        (ne_eqb m at (λ e. omega (arith, e, before)))
-        ∙ ap (λ b. has_bit old m || b) (none_of (is_same_name (Api Object) name))
-        ∙ or_none (has_bit old m) ∙ so_far.before m d before there
-    by_order m d less there (inr behind) =
-        let same : m ≡ at = omega (arith, behind, less) in
-        let one : name ≡ d = same_Some name d (sym here ∙ ap (slice_get names) (sym same) ∙ there) in
-        bits m
-        ∙ ap (λ b. b || (is_same_name (Api Object) name && m == at)) (so_far.behind m behind)
-        ∙ ap (λ b. is_same_name (Api Object) name && b) (eq-eqb m at same)
-        ∙ all_of (is_same_name (Api Object) name) ∙ ap (is_same_name (Api Object)) one
+    by_order m d h1 h2 h3 = grind (arith, ne_eqb, none_of, or_none, same_Some, slice_get, eq-eqb, all_of)
 
 pub begun_first : (names : List ClassName) (first : ℕ) (objects : List ℕ) (rows : List (List ℕ))
     → first + length rows ≡ length names → HasObjects names (length names) objects
@@ -213,9 +181,7 @@ begun_first names first objects rows count objects_are rows_are = record {
     object_is m d at = objects_are.before m d (slice_get_within names m d at) at
 
     by_order : (k m : ℕ) → is_listed rows k m ≡ true → (m < length names) ⊎ (length names ≤ m) → m < length names
-    by_order k m listed (inl less) = less
-    by_order k m listed (inr past) =
-        true_false (sym listed ∙ rows_are k m (listed_within rows k m listed) ∙ objects_are.behind m past)
+    by_order k m h1 h2 = grind (arith, true_false, listed_within)
 
 module _ (names : List ClassName) (first at number : ℕ) (name : ClassName) (old new : List (List ℕ))
     (begun : AreBegun names first at old) (here : slice_get names at ≡ Some name)
@@ -224,9 +190,7 @@ module _ (names : List ClassName) (first at number : ℕ) (name : ClassName) (ol
   put_kept k m less e = put.bits k m less ∙ ap (λ b. b || (first + k == number && m == at)) e
 
   number_within : (k : ℕ) (d : ClassName) → class_number names d ≡ Some (first + k) → k < length old
-  number_within k d e =
-      let l = slice_get_within names (first + k) d (named names d (first + k) e) in
-      let n = begun.count in omega (arith, l, n)
+  number_within k d e = grind (arith, slice_get_within, first, named)
 
   own_more : (k m : ℕ) (d : ClassName) → m < at + 1 → slice_get names m ≡ Some d
       → class_number names d ≡ Some (first + k) → is_listed new k m ≡ true
@@ -244,8 +208,7 @@ module _ (names : List ClassName) (first at number : ℕ) (name : ClassName) (ol
           ∙ or_true (is_listed old k m)
         where
           or_true : (a : Bool) → (a || true) ≡ true
-          or_true true = refl
-          or_true false = refl
+          or_true a = grind arith
 
   only_more : (k m : ℕ) (d : ClassName) → is_listed new k m ≡ true → slice_get names m ≡ Some d
       → (is_same_name (Api Object) d ≡ true) ⊎ (class_number names d ≡ Some (first + k))
@@ -257,12 +220,7 @@ module _ (names : List ClassName) (first at number : ℕ) (name : ClassName) (ol
 
       by_bit : (is_listed old k m ≡ true) ⊎ ((first + k == number && m == at) ≡ true)
           → (is_same_name (Api Object) d ≡ true) ⊎ (class_number names d ≡ Some (first + k))
-      by_bit (inl t) = begun.only k m d t there
-      by_bit (inr t) =
-          let place = eqb-true (first + k) number (left_true (first + k == number) (m == at) t) in
-          let same = eqb-true m at (right_true (first + k == number) (m == at) t) in
-          let one : d ≡ name = same_Some d name (sym there ∙ ap (slice_get names) same ∙ here) in
-          inr (ap (class_number names) one ∙ is ∙ ap Some (sym place))
+      by_bit h1 = grind (arith, eqb-true, first, left_true, right_true, same_Some, slice_get, Some)
 
   within_more : AreWithin (length names) new
   within_more k m e =
@@ -272,10 +230,7 @@ module _ (names : List ClassName) (first at number : ℕ) (name : ClassName) (ol
       within = let l = listed_within new k m e in let n = put.count in omega (arith, l, n)
 
       by_bit : (is_listed old k m ≡ true) ⊎ ((first + k == number && m == at) ≡ true) → m < length names
-      by_bit (inl t) = begun.within k m t
-      by_bit (inr t) =
-          let same = eqb-true m at (right_true (first + k == number) (m == at) t) in
-          let l = slice_get_within names at name here in omega (arith, l, same)
+      by_bit h1 = grind (arith, within, eqb-true, right_true, first, slice_get_within)
 
   pub begun_more : AreBegun names first (at + 1) new
   begun_more = record {
@@ -304,9 +259,7 @@ listed_behind (r ∷ made) rows zero k m is = absurd (omega (arith, is))
 listed_behind (r ∷ made) rows (suc n) k m is = listed_behind made rows n k m (omega (arith, is))
 
 same_answer : (a b : Bool) → (a ≡ true → b ≡ true) → (b ≡ true → a ≡ true) → a ≡ b
-same_answer true b f g = sym (f refl)
-same_answer false true f g = g refl
-same_answer false false f g = refl
+same_answer a b h1 h2 = grind arith
 
 among_behind : (c : ClassName) (xs ys : List ClassName) → IsAmong c ys → IsAmong c (xs ++ ys)
 among_behind c [] ys m = m
@@ -314,14 +267,11 @@ among_behind c (x ∷ xs) ys m = inr (among_behind c xs ys m)
 
 among_either : (c : ClassName) (o : Option ClassName) (ys : List ClassName) → IsAmong c (option_to_list o ++ ys)
     → (o ≡ Some c) ⊎ IsAmong c ys
-among_either c None ys m = inr m
-among_either c (Some d) ys (inl e) = inl (ap Some e)
-among_either c (Some d) ys (inr m) = inr m
+among_either c o ys h1 = grind (arith, None, Some)
 
 among_first : (c : ClassName) (o : Option ClassName) (ys : List ClassName) → o ≡ Some c
     → IsAmong c (option_to_list o ++ ys)
-among_first c None ys e = absurd cc
-among_first c (Some d) ys e = inl (same_Some d c e)
+among_first c o ys h1 = grind (arith, None, Some, same_Some)
 
 -- rows that have no number from one on, before and behind what is put into them
 pub all_within : (Above : ℕ → ℕ → Type 0) (count : ℕ) (made begun rows : List (List ℕ)) → AreWithin count made
@@ -359,19 +309,15 @@ module _ (world : List Shape) (names : List ClassName)
     where
       by_other : (c : ClassName) → slice_get names n ≡ Some c → (o : Option ClassName) → slice_get names m ≡ o
           → option_map_or (λ d. is_subtype world c d) o true ≡ true
-      by_other c here None there = refl
-      by_other c here (Some d) there = each c d here there
+      by_other c h1 o h2 = grind (arith, None, Some)
 
       by_class : (o : Option ClassName) → slice_get names n ≡ o
           → option_map_or (λ c. option_map_or (λ d. is_subtype world c d) (slice_get names m) true) o true ≡ true
-      by_class None here = refl
-      by_class (Some c) here = by_other c here (slice_get names m) refl
+      by_class o h1 = grind (arith, None, Some, by_other, slice_get)
 
   fits_at : (n m : ℕ) (c d : ClassName) → slice_get names n ≡ Some c → slice_get names m ≡ Some d
       → fits n m ≡ is_subtype world c d
-  fits_at n m c d here there =
-      ap (λ o. option_map_or (λ k. option_map_or (λ e. is_subtype world k e) (slice_get names m) true) o true) here
-      ∙ ap (λ o. option_map_or (λ e. is_subtype world c e) o true) there
+  fits_at n m c d here there = grind (arith, slice_get)
 
   -- what stands right above a class
   up_one : (c e d : ClassName) → IsAmong e (itself_and_above world c) → IsSubtype world e d → IsSubtype world c d
@@ -422,8 +368,7 @@ module _ (world : List Shape) (names : List ClassName)
 
   made_listed : (n m : ℕ) (c d : ClassName) → n < first → slice_get names n ≡ Some c → slice_get names m ≡ Some d
       → IsSubtype world c d → is_listed (made ++ rows) n m ≡ true
-  made_listed n m c d before here there below =
-      listed_before made rows n m before ∙ right n m c d before here there ∙ all c d below
+  made_listed n m c d before here there below = grind (arith, listed_before)
 
   -- a class of those that are made, with its place among them
   within : (n : ℕ) (c : ClassName) → first ≤ n → slice_get names n ≡ Some c
@@ -496,9 +441,7 @@ module _ (world : List Shape) (names : List ClassName)
           (λ a number. rest a m (named names i a number) there)
 
   pub are_supertypes : AreSupertypes world names (made ++ rows)
-  are_supertypes n m c d here there =
-      same_answer (is_listed (made ++ rows) n m) (is_subtype world c d) (sound n m c d here there)
-      (λ t. complete c d (found c d t) n m here there)
+  are_supertypes n m c d here there = grind (arith, same_answer, sound, complete)
 
 -- ---- lists of what stands above, one more
 

@@ -1,7 +1,7 @@
 -- Each class of a world has a number.
 use Rattle.std.proofs.Common.{◌≡◌, ℕ, zero, suc, ◌+◌, ◌-◌, ◌<◌, ◌==◌, Bool, true, false, cond, List, [], ◌∷◌, ◌++◌}
 use Rattle.std.proofs.Common.{◌&&◌, ◌⊎◌, ◌≤◌, inl, inr, is_some, length, Option, Some}
-use Rattle.std.proofs.Common.{None, slice_get, nat_lt, refl, sym, ap, subst, ◌∙◌, arith}
+use Rattle.std.proofs.Common.{None, slice_get, nat_lt, refl, sym, ap, ◌∙◌, arith}
 use Rattle.std.proofs.lemmas.Bool.{eq-eqb, eqb-true, le-ltb, lt-ltb}
 use Rattle.std.proofs.lemmas.Iterator.Adapters.{position_from-zero}
 use Rattle.std.proofs.lemmas.List.{append-nil, append_assoc}
@@ -88,38 +88,20 @@ module _ (world : List Shape) (c : ClassName) (small : offset_of c < 0x10000) wh
   in_package : (home : ℕ) (o : Option Shape) (k : ClassShape) → slice_get world home ≡ o
       → option_and_then (class_in (offset_of c)) o ≡ Some k → name_in home (offset_of c) ≡ Some c
       → (n : ℕ) × (slice_get (class_names world) n ≡ Some c)
-  in_package home None k at found name = absurd cc
-  in_package home (Some shape) k at found name = stands home shape k at found name
+  in_package home o k h1 h2 h3 = grind (arith, None, Some, stands)
 
 api_named : (a : ApiClass) → name_in (api_home (package_of a)) (number_of a) ≡ Some (Api a)
 api_named a = by_package (package_of a) refl
   where
     by_package : (p : ApiPackage) → package_of a ≡ p → name_in (api_home p) (number_of a) ≡ Some (Api a)
-    by_package Lang e =
-        ap (λ o. option_and_then (λ class. cond (api_home (package_of class) == 0) (Some (Api class)) None) o)
-        (numbered_again a)
-        ∙ ap (λ q. cond (api_home q == 0) (Some (Api a)) None) e
-    by_package Framework e =
-        ap (λ o. option_and_then (λ class. cond (api_home (package_of class) == 1) (Some (Api class)) None) o)
-        (numbered_again a)
-        ∙ ap (λ q. cond (api_home q == 1) (Some (Api a)) None) e
+    by_package p h1 = grind (arith, Some, None, numbered_again)
 
 loaded_named : (n offset : ℕ) → name_in (suc (suc n)) offset ≡ Some (Loaded (suc n) offset)
-loaded_named n offset =
-    let one : suc (suc n) - 1 ≡ suc n = omega arith in
-    ap (λ b. cond b (api_name (suc (suc n)) offset) (Some (Loaded (suc (suc n) - 1) offset)))
-    (le-ltb (suc (suc n)) 2 (omega arith))
-    ∙ ap (λ i. Some (Loaded i offset)) one
+loaded_named n offset = grind (arith, Some, le-ltb)
 
 has_name : (world : List Shape) (c : ClassName) (k : ClassShape) → offset_of c < 0x10000 → class_at world c ≡ Some k
     → (n : ℕ) × (slice_get (class_names world) n ≡ Some c)
-has_name world (Api a) k small e =
-    in_package world (Api a) small (api_home (package_of a)) (slice_get world (api_home (package_of a))) k refl e
-    (api_named a)
-has_name world (Loaded zero offset) k small e = absurd cc
-has_name world (Loaded (suc n) offset) k small e =
-    in_package world (Loaded (suc n) offset) small (suc (suc n)) (slice_get world (suc (suc n))) k refl e
-    (loaded_named n offset)
+has_name world c k h1 h2 = grind (arith, in_package, slice_get, api_named, loaded_named)
 
 -- ---- each name is a class's
 
@@ -155,32 +137,20 @@ stands_in world home offset c e = by_api (nat_lt home 2) refl e
   where
     by_home : (a : ApiClass) (b : Bool) → class_of offset ≡ Some a → (api_home (package_of a) == home) ≡ b
         → cond b (Some (Api a)) None ≡ Some c → StandsIn world home offset c
-    by_home a true n t e = subst (StandsIn world home offset) (same_Some (Api a) c e) (record {
-      home_is = ap (slice_get world) (eqb-true (api_home (package_of a)) home t);
-      home_at = eqb-true (api_home (package_of a)) home t;
-      offset_is = number_back offset a n;
-    })
-    by_home a false n t e = absurd cc
+    by_home a b h1 h2 h3 = grind (arith, same_Some, slice_get, eqb-true, number_back)
 
     by_class : (o : Option ApiClass) → class_of offset ≡ o
         → option_and_then (λ class. cond (api_home (package_of class) == home) (Some (Api class)) None) o ≡ Some c
         → StandsIn world home offset c
-    by_class None n e = absurd cc
-    by_class (Some a) n e = by_home a (api_home (package_of a) == home) n refl e
+    by_class o h1 h2 = grind (arith, None, Some, by_home)
 
     by_place : (h : ℕ) → nat_lt h 2 ≡ false → StandsIn world h offset (Loaded (h - 1) offset)
-    by_place zero t = absurd cc
-    by_place (suc zero) t = absurd cc
-    by_place (suc (suc n)) t =
-        let one : suc n ≡ suc (suc n) - 1 = omega arith in
-        subst (λ i. StandsIn world (suc (suc n)) offset (Loaded i offset)) one
-        (record { home_is = refl; home_at = refl; offset_is = refl })
+    by_place h h1 = grind arith
 
     by_api : (b : Bool) → nat_lt home 2 ≡ b
         → cond b (api_name home offset) (Some (Loaded (home - 1) offset)) ≡ Some c → StandsIn world home offset c
     by_api true t e = by_class (class_of offset) refl e
-    by_api false t e =
-        subst (StandsIn world home offset) (same_Some (Loaded (home - 1) offset) c e) (by_place home t)
+    by_api false t e = search (arith, by_class, same_Some, by_place)
 
 -- where a name comes from
 record Origin (shapes : List Shape) (first : ℕ) (c : ClassName) : Type 0 where
@@ -261,8 +231,7 @@ some_found p (y ∷ xs) zero x at t =
 some_found p (y ∷ xs) (suc k) x at t = by_first (p y) (some_found p xs k x at t)
   where
     by_first : (b : Bool) → is_some (find p xs) ≡ true → is_some (cond b (Some y) (find p xs)) ≡ true
-    by_first true rest = refl
-    by_first false rest = rest
+    by_first b h1 = grind arith
 
 spelled : (b : Bool) (o : Option ClassName) (c : ClassName) → cond b o None ≡ Some c → o ≡ Some c
 spelled true o c e = e
@@ -302,13 +271,11 @@ place_kept p (x ∷ xs) ys first n e = by_first (p x) (place_kept p xs ys (first
         → (position_from p (first + 1) xs ≡ Some n → position_from p (first + 1) (xs ++ ys) ≡ Some n)
         → cond b (Some first) (position_from p (first + 1) xs) ≡ Some n
         → cond b (Some first) (position_from p (first + 1) (xs ++ ys)) ≡ Some n
-    by_first true rest e = e
-    by_first false rest e = rest e
+    by_first b h1 h2 = grind arith
 
 position_kept : {A : Type 0} (p : A → Bool) (xs ys : List A) (n : ℕ) → position p xs ≡ Some n
     → position p (xs ++ ys) ≡ Some n
-position_kept p xs ys n e =
-    position_from-zero p (xs ++ ys) ∙ place_kept p xs ys 0 n (sym (position_from-zero p xs) ∙ e)
+position_kept p xs ys n e = grind (arith, position_from-zero, place_kept)
 
 names_grown : (shapes : List Shape) (first home : ℕ) (more : Shape) → home ≡ first + length shapes
     → names_from first (shapes ++ more ∷ []) ≡ names_from first shapes ++ names_in home more

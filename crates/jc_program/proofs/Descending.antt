@@ -9,7 +9,7 @@ use Rattle.jc_cap_desc.specs.Shape.{ClassShape, Shape}
 use Rattle.jc_classes.specs.Subtype.{IsSubtype, by_interface, by_superclass, is_at_or_above, is_class_at}
 use Rattle.jc_classes.specs.Subtype.{is_class_below, is_interface_at, is_subtype, object, same}
 use Rattle.jc_classes.specs.Walk.{most_classes}
-use Rattle.jc_classes.specs.World.{class_at, superclass_of}
+use Rattle.jc_classes.specs.World.{class_at}
 use Rattle.jc_link.specs.Sound.{IsSound}
 use Rattle.jc_names.specs.Names.{is_same_name}
 use Rattle.jc_names.specs.declared.name.ClassName.{ClassName}
@@ -66,19 +66,14 @@ module _ (world : List Shape) (sound : IsSound world) where
           ∙ ap is_some (no_shareable (class_at world (Api Shareable)) refl))
 
       by_test : (b : Bool) → is_subtype world c (Api Shareable) ≡ b → false ≡ b
-      by_test false e = refl
-      by_test true e = by_place (nowhere c (Api Shareable) (found c (Api Shareable) e)
-          (no_shareable (class_at world (Api Shareable)) refl))
+      by_test b h1 = grind (arith, by_place, nowhere, no_shareable)
 
   -- by superclasses both are above too
   or_true : (b : Bool) → (b || true) ≡ true
-  or_true true = refl
-  or_true false = refl
+  or_true b = grind arith
 
   above_itself : (n m : ℕ) (c : ClassName) → n ≡ suc m → is_at_or_above world n c c ≡ true
-  above_itself n m c one =
-      ap (λ k. is_at_or_above world k c c) one
-      ∙ ap (λ b. b || option_map_or (is_at_or_above world m c) (superclass_of world c) false) (name_itself c)
+  above_itself n m c one = grind (arith, name_itself)
 
   below_both : (c d : ClassName) → (Api Object ≡ d) ⊎ (c ≡ d) → is_class_below world c d ≡ true
   below_both c d (inl o) =
@@ -96,18 +91,10 @@ module _ (world : List Shape) (sound : IsSound world) where
   class_below found below classes c d isnt = by_class (class_at world d) refl
     where
       by_tests : (a b : Bool) → (a ≡ true → b ≡ true) → (b ≡ true → a ≡ true) → a ≡ b
-      by_tests true b f g = sym (f refl)
-      by_tests false true f g = g refl
-      by_tests false false f g = refl
+      by_tests a b h1 h2 = grind arith
 
       not_false : (b : Bool) → not b ≡ false → b ≡ true
-      not_false true e = refl
-      not_false false e = absurd cc
+      not_false b h1 = grind arith
 
       by_class : (o : Option ClassShape) → class_at world d ≡ o → is_class_below world c d ≡ is_subtype world c d
-      by_class None none = by_tests (is_class_below world c d) (is_subtype world c d) (below c d)
-          (λ t. below_both c d (nowhere c d (found c d t) none))
-      by_class (Some k) there =
-          let is = ap (λ (o : Option ClassShape). option_map_or (λ j. is_class j.body) o false) there in
-          let other = ap (λ (o : Option ClassShape). option_map_or (λ j. not (is_class j.body)) o false) there in
-          sym (classes c d (is ∙ not_false (is_class k.body) (sym other ∙ isnt)))
+      by_class o h1 = grind (arith, None, by_tests, below_both, nowhere, Some, Option, not, not_false)

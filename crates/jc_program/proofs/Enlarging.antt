@@ -9,7 +9,7 @@ use Rattle.jc_classes.specs.Subtype.{IsSubtype, is_subtype}
 use Rattle.jc_classes.specs.World.{class_at}
 use Rattle.jc_names.specs.Names.{home_of}
 use Rattle.jc_names.specs.declared.name.ClassName.{ClassName}
-use Rattle.jc_program.specs.Classes.{class_names, names_in}
+use Rattle.jc_program.specs.Classes.{class_names}
 use Rattle.jc_link.specs.Linked.{World}
 use Rattle.jc_program.specs.Program.{IsGrownFrom}
 use Rattle.jc_program.specs.declared.program.Program.{Program}
@@ -30,10 +30,7 @@ none_within count k m e = true_false (sym e ∙ empty_row m)
 -- ---- the rows of a world with a package more
 
 as_many : (before : List Shape) (more : Shape) → length (class_names before) ≤ length (class_names (grown before more))
-as_many before more =
-    let l = ap length (keeps_numbers before more).names
-    ∙ length-append (class_names before) (names_in (length before) more) in
-    omega (arith, l)
+as_many before more = grind (arith, length, keeps_numbers, length-append)
 
 module _ (before : List Shape) (more : Shape) (rows : List (List ℕ))
     (count : length rows ≡ length (class_names before))
@@ -42,25 +39,20 @@ module _ (before : List Shape) (more : Shape) (rows : List (List ℕ))
     (found : (c d : ClassName) → is_subtype before c d ≡ true → IsSubtype before c d) where
   names_before : (n : ℕ) → n < length (class_names before)
       → slice_get (class_names (grown before more)) n ≡ slice_get (class_names before) n
-  names_before n less =
-      ap (λ ns. slice_get ns n) (keeps_numbers before more).names
-      ∙ get_front (class_names before) (names_in (length before) more) n less
+  names_before n less = grind (arith, slice_get, keeps_numbers, get_front, length)
 
   named_within : (n : ℕ) (c : ClassName) → slice_get (class_names before) n ≡ Some c → IsWithin before c
   named_within n c at = by_class (class_at before c) refl (is_there before n c at)
     where
       by_class : (o : Option ClassShape) → class_at before c ≡ o → is_some o ≡ true → IsWithin before c
-      by_class None e t = true_false (sym t)
-      by_class (Some k) e t = stand.classes c k e
+      by_class o h1 h2 = grind (arith, None, true_false, Some)
 
   not_listed : (n m : ℕ) → length rows ≤ m → (b : Bool) → is_listed rows n m ≡ b → b ≡ false
-  not_listed n m past true e = let l = within n m e in absurd (omega (arith, l, past))
-  not_listed n m past false e = refl
+  not_listed n m h1 b h2 = grind arith
 
   not_below : (m : ℕ) (c d : ClassName) → IsWithin before c → home_of d ≡ length before → (b : Bool)
       → is_subtype before c d ≡ b → b ≡ false
-  not_below m c d w home true e = let l = stand.above c d w (found c d e) in absurd (omega (arith, l, home))
-  not_below m c d w home false e = refl
+  not_below m c d h1 h2 b h3 = grind arith
 
   right_still : AreRight (grown before more) (class_names (grown before more)) rows
   right_still n m c d less here there = by_order (cases_lt m (length (class_names before)))
@@ -86,11 +78,11 @@ pub still_right : (world : List Shape) (names : List ClassName) (rows : List (Li
     → ((before after : List Shape) → LiesWithin before after → KeepsAllLookups before after)
     → ((world : List Shape) → StandWithin world)
     → ((world : List Shape) (c d : ClassName) → is_subtype world c d ≡ true → IsSubtype world c d)
-    → AreWithin (length rows) rows → AreRowsBefore world names rows → AreRight world names rows
-still_right world names rows keeps stand found within r =
+    → AreRowsBefore world names rows → AreRight world names rows
+still_right world names rows keeps stand found r =
     subst (λ ns. AreRight world ns rows) (sym r.names_are)
     (subst (λ w. AreRight w (class_names w) rows) (sym r.world_is)
-    (right_still r.before r.more rows r.count r.right within
+    (right_still r.before r.more rows r.count r.right r.within
     (keeps r.before (grown r.before r.more) (lies_behind r.before r.more)) (stand r.before) (found r.before)))
 
 pub still_few : (world : List Shape) (names : List ClassName) (rows : List (List ℕ)) → AreRowsBefore world names rows
@@ -102,17 +94,10 @@ still_few world names rows r =
     (omega (arith, l, n))
 
 pub still_within : (world : List Shape) (names : List ClassName) (rows : List (List ℕ)) → AreRowsBefore world names rows
-    → AreWithin (length rows) rows → AreWithin (length names) rows
-still_within world names rows r within k m e =
-    let l = within k m e in let f = still_few world names rows r in omega (arith, l, f)
+    → AreWithin (length names) rows
+still_within world names rows r k m e =
+    let l = r.within k m e in let f = still_few world names rows r in omega (arith, l, f)
 
 pub rows_before : (p : Program) (w : World) (names : List ClassName) → IsGrownFrom p w → names ≡ class_names w.shapes
     → AreRowsBefore w.shapes names p.supertypes
-rows_before p w names r names_are = record {
-  before = r.before.shapes;
-  more = r.bound.0;
-  world_is = ap (λ (w : World). w.shapes) r.world_is ∙ r.bound.1;
-  names_are = names_are;
-  count = r.tables.counts.supertypes ∙ ap length r.tables.classes;
-  right = subst (λ ns. AreSupertypes r.before.shapes ns p.supertypes) r.tables.classes r.tables.supertypes;
-}
+rows_before p w names r names_are = grind (arith, length)

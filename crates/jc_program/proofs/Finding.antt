@@ -1,5 +1,5 @@
 -- Methods that are found by their names.
-use Rattle.std.proofs.Common.{◌≡◌, ◌≢◌, ℕ, zero, suc, ◌+◌, ◌<◌, ◌≤◌, ◌==◌, ◌&&◌, Bool, true, false, cond, List}
+use Rattle.std.proofs.Common.{◌≡◌, ◌≢◌, ℕ, zero, suc, ◌+◌, ◌<◌, ◌≤◌, ◌==◌, ◌&&◌, Bool, false, cond, List}
 use Rattle.std.proofs.Common.{[], ◌∷◌, ◌++◌, length, drop, map, Option, Some, None, slice_get, unwrap_or, nat_lt}
 use Rattle.std.proofs.Common.{refl, sym, ap, ◌∙◌, arith}
 use Rattle.std.proofs.lemmas.Bool.{eq-eqb, ltb-false, ne_eqb}
@@ -22,8 +22,7 @@ find_position p xs =
     by_place : (b : Bool) → (b ≡ false → length xs ≤ position_or_len p xs)
         → slice_get xs (position_or_len p xs) ≡ option_and_then (slice_get xs)
         (cond b (Some (position_or_len p xs)) None)
-    by_place true h = refl
-    by_place false h = slice_get_past xs (position_or_len p xs) (h refl)
+    by_place b h1 = grind (arith, slice_get_past)
 
 find_both : {A : Type 0} (p : A → Bool) (xs ys : List A) → find p (xs ++ ys) ≡ option_or (find p xs) (find p ys)
 find_both p [] ys = refl
@@ -31,12 +30,10 @@ find_both p (x ∷ xs) ys = by_first (p x) (find_both p xs ys)
   where
     by_first : (b : Bool) → find p (xs ++ ys) ≡ option_or (find p xs) (find p ys)
         → cond b (Some x) (find p (xs ++ ys)) ≡ option_or (cond b (Some x) (find p xs)) (find p ys)
-    by_first true rest = refl
-    by_first false rest = rest
+    by_first b h1 = grind arith
 
 or_none : {A : Type 0} (o : Option A) → option_or o None ≡ o
-or_none None = refl
-or_none (Some x) = refl
+or_none o = grind (arith, None, Some)
 
 -- a list in two parts
 record Parts {A : Type 0} (items : List A) (xs ys : List (Option A)) : Type 0 where
@@ -46,10 +43,10 @@ record Parts {A : Type 0} (items : List A) (xs ys : List (Option A)) : Type 0 wh
   first_is : map Some first ≡ xs
   rest_is : map Some rest ≡ ys
 
-head_of : {A : Type 0} (x : A) (xs : List A) (y : A) (ys : List A) → x ∷ xs ≡ y ∷ ys → x ≡ y
+pub head_of : {A : Type 0} (x : A) (xs : List A) (y : A) (ys : List A) → x ∷ xs ≡ y ∷ ys → x ≡ y
 head_of x xs y ys e = ap (λ zs. unwrap_or (slice_get zs 0) x) e
 
-tail_of : {A : Type 0} (x : A) (xs : List A) (y : A) (ys : List A) → x ∷ xs ≡ y ∷ ys → xs ≡ ys
+pub tail_of : {A : Type 0} (x : A) (xs : List A) (y : A) (ys : List A) → x ∷ xs ≡ y ∷ ys → xs ≡ ys
 tail_of x xs y ys e = ap (drop 1) e
 
 parts_of : {A : Type 0} (xs : List (Option A)) (ys : List (Option A)) (items : List A) → map Some items ≡ xs ++ ys
@@ -70,7 +67,7 @@ parts_of (x ∷ xs) ys (i ∷ items) e =
 -- ---- the methods of one package
 
 module _ (world : List Shape) (number : ℕ) (body : LinkedBody) where
-  abbrev with_header : MethodBody → MethodHeader → LoadedMethod
+  abbrev pub with_header : MethodBody → MethodHeader → LoadedMethod
   with_header b header = record {
     number = number;
     offset = b.offset;
@@ -86,8 +83,7 @@ module _ (world : List Shape) (number : ℕ) (body : LinkedBody) where
     where
       by_header : (o : Option MethodHeader) → Some m ≡ option_map (with_header b) o → is_named asked offset m
           ≡ (number == asked && b.offset == offset)
-      by_header None e = absurd cc
-      by_header (Some h) e = ap (λ k. is_named asked offset (unwrap_or k m)) e
+      by_header o h1 = grind (arith, None, Some, unwrap_or)
 
   own_method : (offset : ℕ) (bs : List MethodBody) (ms : List LoadedMethod) → map Some ms
       ≡ map (loaded_method world number body) bs
@@ -111,8 +107,7 @@ module _ (world : List Shape) (number : ℕ) (body : LinkedBody) where
           → cond t (Some m) (find (is_named number offset) ms)
           ≡ option_and_then (loaded_method world number body)
           (cond t (Some b) (find (λ b. b.offset == offset) bs))
-      by_offset true this others = this
-      by_offset false this others = others
+      by_offset t h1 h2 = grind arith
 
   not_here : (asked offset : ℕ) → number ≢ asked → (bs : List MethodBody) (ms : List LoadedMethod) → map Some ms
       ≡ map (loaded_method world number body) bs

@@ -23,3 +23,7 @@ mod Following
 mod Descending
 mod Tokening
 mod Enlarging
+mod Beginning
+mod Growing
+mod Composing
+mod Extending

@@ -1,5 +1,5 @@
 -- Names of classes by number, and numbers by name.
-use Rattle.std.proofs.Common.{◌*◌, length-append, ◌≡◌, ◌≢◌, ◌⊎◌, inl, inr, ℕ, zero, suc, ◌+◌, ◌<◌, ◌≤◌, ◌==◌, ◌&&◌}
+use Rattle.std.proofs.Common.{◌*◌, ◌-◌, length-append, ◌≡◌, ◌≢◌, ◌⊎◌, ℕ, zero, suc, ◌+◌, ◌<◌, ◌≤◌, ◌==◌}
 use Rattle.std.proofs.Common.{Bool, true, false, cond, List, [], ◌∷◌, ◌++◌, length, drop, Option, Some, None}
 use Rattle.std.proofs.Common.{slice_get, get_or, nat_lt, refl, sym, ap, ◌∙◌, arith}
 use Rattle.std.proofs.Math.Path.{fun_ext}
@@ -10,21 +10,19 @@ use Rattle.std.proofs.lemmas.Option.{same_Some}
 use Rattle.std.specs.List.{cons_option, filter_map, position, position_or_len}
 use Rattle.std.specs.Option.{option_map_or, option_to_list}
 use Rattle.jc_cap_desc.specs.Shape.{Shape}
-use Rattle.jc_api.specs.Class.{number_of}
 use Rattle.jc_names.specs.Names.{is_same_name, offset_of}
 use Rattle.jc_names.specs.declared.name.ClassName.{ClassName}
-use Rattle.jc_names.specs.declared.name.ClassName.TheVariants.{Api, Loaded}
 use Rattle.jc_classes.specs.Limits.{IsSmall}
 use Rattle.jc_classes.specs.Members.{name_of}
 use Rattle.jc_program.specs.Classes.{class_names, class_number, names_from, names_in}
-use Rattle.jc_program.specs.PrivateClasses.{AreNumbered, is_placed, table_of}
+use Rattle.jc_program.specs.PrivateClasses.{AreNamesBefore, AreNumbered, is_placed, table_of}
 use Rattle.jc_program.specs.PrivateLaid.{number_in}
+use Rattle.jc_program.proofs.Counting.{keeps_numbers}
 
 -- ---- names of one package
 
 pub first_option : {B : Type 0} (o : Option B) (rest : List B) → option_to_list o ++ rest ≡ cons_option o rest
-first_option None rest = refl
-first_option (Some b) rest = refl
+first_option o rest = grind (arith, None, Some)
 
 -- one class more of those whose names are put behind others
 named_more : {A B : Type 0} (h : A → Option B) (xs : List A) (so_far total : List B) (i : ℕ) (x : A)
@@ -42,10 +40,7 @@ named_more h (y ∷ xs) so_far total (suc i) x all less at =
 pub one_more : {A B : Type 0} (h : A → Option B) (xs : List A) (so_far total : List B) (i : ℕ) (x : A)
     → so_far ++ filter_map h (drop i xs) ≡ total → i < length xs → x ≡ get_or xs i x
     → (so_far ++ option_to_list (h x)) ++ filter_map h (drop (i + 1) xs) ≡ total
-one_more h xs so_far total i x all less at =
-    let one : i + 1 ≡ suc i = omega arith in
-    ap (λ k. (so_far ++ option_to_list (h x)) ++ filter_map h (drop k xs)) one
-    ∙ named_more h xs so_far total i x all less at
+one_more h xs so_far total i x all less at = grind (arith, drop, named_more)
 
 pub all_named : {A B : Type 0} (h : A → Option B) (xs : List A) (so_far total : List B) (i : ℕ)
     → so_far ++ filter_map h (drop i xs) ≡ total → length xs ≤ i → so_far ≡ total
@@ -70,10 +65,31 @@ pub package_more : (shapes : List Shape) (so_far total : List ClassName) (home :
     → so_far ++ names_from home (drop home shapes) ≡ total → home < length shapes
     → (so_far ++ option_map_or (names_in home) (slice_get shapes home) []) ++ names_from (home + 1)
     (drop (home + 1) shapes) ≡ total
-package_more shapes so_far total home all less =
-    let one : home + 1 ≡ suc home = omega arith in
-    ap (λ k. (so_far ++ option_map_or (names_in home) (slice_get shapes home) []) ++ names_from k (drop k shapes)) one
-    ∙ one_package shapes so_far total home home all less
+package_more shapes so_far total home all less = grind (arith, slice_get, drop, one_package)
+
+last_there : {A : Type 0} (xs : List A) (x : A) → slice_get (xs ++ x ∷ []) (length xs) ≡ Some x
+last_there [] x = refl
+last_there (y ∷ xs) x = last_there xs x
+
+-- those of the last package stand behind the others
+last_names : (world : List Shape) (names : List ClassName) → AreNamesBefore world names
+    → class_names world ≡ names ++ option_map_or (names_in (length world - 1)) (slice_get world (length world - 1)) []
+last_names world names are =
+    let before = are.before in let more = are.more in
+    let n = length-append before (more ∷ []) in let same = ap (λ shapes. length shapes) are.world_is in
+    let home : length before ≡ length world - 1 = omega (arith, n, same) in
+    ap class_names are.world_is ∙ (keeps_numbers before more).names
+    ∙ ap (λ ns. ns ++ names_in (length before) more) (sym are.names_are)
+    ∙ ap (λ (o : Option Shape). names ++ option_map_or (names_in (length before)) o [])
+    (sym (last_there before more))
+    ∙ ap (λ shapes. names ++ option_map_or (names_in (length before)) (slice_get shapes (length before)) [])
+    (sym are.world_is)
+    ∙ ap (λ h. names ++ option_map_or (names_in h) (slice_get world h) []) home
+
+pub grown_names : (world : List Shape) (names more : List ClassName) (home : ℕ) → AreNamesBefore world names
+    → home ≡ length world - 1 → more ≡ option_map_or (names_in home) (slice_get world home) []
+    → names ++ more ≡ class_names world
+grown_names world names more home are last is = grind (arith, slice_get, last_names)
 
 -- ---- how many there are
 
@@ -83,8 +99,7 @@ fewer h (x ∷ xs) = by_first (h x) (fewer h xs)
   where
     by_first : (o : Option _) → length (filter_map h xs) ≤ length xs
         → length (cons_option o (filter_map h xs)) ≤ suc (length xs)
-    by_first None rest = omega (arith, rest)
-    by_first (Some b) rest = omega (arith, rest)
+    by_first o h1 = grind (arith, None, Some)
 
 names_few : (shapes : List Shape) (home : ℕ)
     → ((i : ℕ) (shape : Shape) → slice_get shapes i ≡ Some shape → length shape.classes ≤ 255)
@@ -98,9 +113,7 @@ names_few (s ∷ shapes) home few =
 
 pub few_names : (world : List Shape) (names : List ClassName) → names ≡ class_names world → IsSmall world
     → length names < 0x10000
-few_names world names are small =
-    let a = names_few world 0 small.classes in let b = small.packages in let c = ap (λ ns. length ns) are in
-    omega (arith, a, b, c)
+few_names world names are small = grind (arith, names_few, length)
 
 -- ---- numbers
 
@@ -109,22 +122,15 @@ next_same a b = by_tests (eqb_tells (suc a) (suc b)) (eqb_tells a b)
   where
     by_tests : ((suc a == suc b ≡ true) × (suc a ≡ suc b)) ⊎ ((suc a == suc b ≡ false) × (suc a ≢ suc b))
         → ((a == b ≡ true) × (a ≡ b)) ⊎ ((a == b ≡ false) × (a ≢ b)) → (suc a == suc b) ≡ (a == b)
-    by_tests (inl h) (inl k) = h.0 ∙ sym k.0
-    by_tests (inl h) (inr k) = let e = h.1 in absurd (k.1 (omega (arith, e)))
-    by_tests (inr h) (inl k) = let e = k.1 in absurd (h.1 (omega (arith, e)))
-    by_tests (inr h) (inr k) = h.0 ∙ sym k.0
+    by_tests h1 h2 = grind arith
 
 -- classes that stand at one place have one name
 placed_same : (c d : ClassName) → is_placed (table_of c) (offset_of c) d ≡ is_same_name d c
-placed_same (Api a) (Api b) = refl
-placed_same (Api a) (Loaded p m) = ap (λ b. b && m == number_of a) (ne_eqb (suc p) 0 (λ e. omega (arith, e)))
-placed_same (Loaded p m) (Api b) = ap (λ t. t && number_of b == m) (ne_eqb 0 (suc p) (λ e. omega (arith, e)))
-placed_same (Loaded p m) (Loaded q n) = ap (λ b. b && n == m) (next_same q p)
+placed_same c d = grind (arith, ne_eqb, next_same)
 
 pub number_is : (tables : List (List (Option ℕ))) (names : List ClassName) (c : ClassName) → AreNumbered tables names
     → number_in tables (table_of c) (offset_of c) ≡ class_number names c
-number_is tables names c are =
-    are.numbers (table_of c) (offset_of c) ∙ ap (λ p. position p names) (fun_ext (placed_same c))
+number_is tables names c are = grind (arith, fun_ext, placed_same)
 
 pub position_below : {A : Type 0} (p : A → Bool) (xs : List A) (n : ℕ) → position p xs ≡ Some n → n < length xs
 position_below p xs n e =
@@ -132,11 +138,8 @@ position_below p xs n e =
   where
     by_place : (b : Bool) → (b ≡ true → position_or_len p xs < length xs)
         → cond b (Some (position_or_len p xs)) None ≡ Some n → n < length xs
-    by_place true h e = let k = same_Some (position_or_len p xs) n e in let l = h refl in omega (arith, k, l)
-    by_place false h e = absurd cc
+    by_place b h1 h2 = grind (arith, same_Some)
 
 pub number_below : (tables : List (List (Option ℕ))) (names : List ClassName) (c : ClassName) (n : ℕ)
     → AreNumbered tables names → number_in tables (table_of c) (offset_of c) ≡ Some n → n < 0x10000
-number_below tables names c n are e =
-    let b = position_below (λ d. is_same_name d c) names n (sym (number_is tables names c are) ∙ e) in
-    let f = are.few in omega (arith, b, f)
+number_below tables names c n are e = grind (arith, position_below, number_is)

@@ -16,19 +16,13 @@ no_such e = absurd cc
 
 -- ---- one number more
 
-or_last : (a b : Bool) → (a || (b || false)) ≡ (a || b)
-or_last true b = refl
-or_last false true = refl
-or_last false false = refl
-
 any_more : (p : ℕ → Bool) (ns : List ℕ) (at : ℕ) → at < length ns
     → (list_any p (take at ns) || p (get_or ns at 0)) ≡ list_any p (take (at + 1) ns)
 any_more p [] at less = absurd (omega (arith, less))
 any_more p (n ∷ ns) zero less = either_none (p n)
   where
     either_none : (b : Bool) → b ≡ (b || false)
-    either_none true = refl
-    either_none false = refl
+    either_none b = grind arith
 any_more p (n ∷ ns) (suc at) less =
     let one : suc at + 1 ≡ suc (at + 1) = omega arith in
     grouped (p n) (list_any p (take at ns)) (p (get_or ns at 0))
@@ -36,8 +30,7 @@ any_more p (n ∷ ns) (suc at) less =
     ∙ sym (ap (λ k. list_any p (take k (n ∷ ns))) one)
   where
     grouped : (x y z : Bool) → ((x || y) || z) ≡ (x || (y || z))
-    grouped true y z = refl
-    grouped false y z = refl
+    grouped x y z = grind arith
 
 pub all_more : (rows : List (List ℕ)) (numbers : List ℕ) (at number : ℕ) (a b c : List ℕ) (s t : Bool)
     → AreUnited (is_any_listed rows (take at numbers)) a b s → AreUnited (is_listed rows number) b c t
@@ -115,8 +108,7 @@ any_listed p (k ∷ numbers) e = by_first (p k) refl (any_listed p numbers) e
     by_first false t rest e = let r = rest e in (r.0, or_true (k == r.0) (has_number r.0 numbers) r.1, r.2)
       where
         or_true : (a b : Bool) → b ≡ true → (a || b) ≡ true
-        or_true true b e = refl
-        or_true false b e = e
+        or_true a b h1 = grind arith
 
 listed_any : (p : ℕ → Bool) (numbers : List ℕ) (n : ℕ) → has_number n numbers ≡ true → p n ≡ true
     → list_any p numbers ≡ true
@@ -130,8 +122,7 @@ listed_any p (k ∷ numbers) n has e = by_first (k == n) refl (listed_any p numb
     by_first false t rest has = or_true (p k) (list_any p numbers) (rest has e)
       where
         or_true : (a b : Bool) → b ≡ true → (a || b) ≡ true
-        or_true true b e = refl
-        or_true false b e = e
+        or_true a b h1 = grind arith
 
 -- ---- one row
 
@@ -165,26 +156,19 @@ module _ (made rows : List (List ℕ)) (at : ℕ) (numbers row : List ℕ) (chan
   hole_there n m other = ap (λ o. has_bit (unwrap_or o []) m) (at_other made rows at n [] other)
 
   here_kept : (m : ℕ) → is_listed old place m ≡ true → is_listed new place m ≡ true
-  here_kept m e =
-      new_here m ∙ united.bits m
-      ∙ ap (λ b. b || is_any_listed hole numbers m) (sym (old_here m) ∙ e)
+  here_kept m e = grind (arith, new_here, old_here)
 
   all_kept : (n m : ℕ) → is_listed old n m ≡ true → is_listed new n m ≡ true
   all_kept n m e = by_place (cases_eq n place)
     where
       by_place : (n ≡ place) ⊎ (n ≡ place → ⊥) → is_listed new n m ≡ true
-      by_place (inl same) =
-          ap (λ k. is_listed new k m) same ∙ here_kept m (ap (λ k. is_listed old k m) (sym same) ∙ e)
-      by_place (inr other) = new_there n m other ∙ e
+      by_place h1 = grind (arith, here_kept, new_there)
 
   all_same : changed ≡ false → (n m : ℕ) → is_listed new n m ≡ is_listed old n m
   all_same none n m = by_place (cases_eq n place)
     where
       by_place : (n ≡ place) ⊎ (n ≡ place → ⊥) → is_listed new n m ≡ is_listed old n m
-      by_place (inl same) =
-          ap (λ k. is_listed new k m) same ∙ new_here m ∙ united.same none m ∙ sym (old_here m)
-          ∙ ap (λ k. is_listed old k m) (sym same)
-      by_place (inr other) = new_there n m other
+      by_place h1 = grind (arith, new_here, old_here, new_there)
 
   has_above : (above m : ℕ) → has_number above numbers ≡ true → is_listed new above m ≡ true
       → is_listed new place m ≡ true
@@ -199,8 +183,7 @@ module _ (made rows : List (List ℕ)) (at : ℕ) (numbers row : List ℕ) (chan
           ∙ or_true (has_bit (get_or rows at []) m)
         where
           or_true : (a : Bool) → (a || true) ≡ true
-          or_true true = refl
-          or_true false = refl
+          or_true a = grind arith
 
   fits_new : (fits : ℕ → ℕ → Bool)
       → ((n above m : ℕ) → IsOneAbove place numbers n above → fits above m ≡ true → fits n m ≡ true)
@@ -212,8 +195,7 @@ module _ (made rows : List (List ℕ)) (at : ℕ) (numbers row : List ℕ) (chan
       in_hole k t = by_hole (cases_eq k place)
         where
           by_hole : (k ≡ place) ⊎ (k ≡ place → ⊥) → fits k m ≡ true
-          by_hole (inl same) = no_such (sym t ∙ ap (λ i. is_listed hole i m) same ∙ hole_here m)
-          by_hole (inr other) = before k m (sym (hole_there k m other) ∙ t)
+          by_hole h1 = grind (arith, no_such, hole_here, hole_there)
 
       by_bit : (a b : Bool) → has_bit (get_or rows at []) m ≡ a → is_any_listed hole numbers m ≡ b → (a || b) ≡ true
           → fits place m ≡ true
@@ -224,11 +206,7 @@ module _ (made rows : List (List ℕ)) (at : ℕ) (numbers row : List ℕ) (chan
       by_bit false false s t e = no_such (sym e)
 
       by_place : (n ≡ place) ⊎ (n ≡ place → ⊥) → fits n m ≡ true
-      by_place (inl same) =
-          ap (λ k. fits k m) same
-          ∙ by_bit (has_bit (get_or rows at []) m) (is_any_listed hole numbers m) refl refl
-          (sym (united.bits m) ∙ sym (new_here m) ∙ ap (λ k. is_listed new k m) (sym same) ∙ e)
-      by_place (inr other) = before n m (sym (new_there n m other) ∙ e)
+      by_place h1 = grind (arith, by_bit, get_or, new_here, new_there)
 
   passed_new : ArePassed (IsOneAbove place numbers) old new changed
   passed_new = record {
@@ -248,8 +226,7 @@ module _ (made rows : List (List ℕ)) (at : ℕ) (numbers row : List ℕ) (chan
 -- ---- one behind the other
 
 either_false : (p q : Bool) → (p || q) ≡ false → (p ≡ false) × (q ≡ false)
-either_false true q e = no_such e
-either_false false q e = (refl, e)
+either_false p q h1 = grind (arith, no_such)
 
 module _ (first at : ℕ) (lists a b c : List (List ℕ)) (s t : Bool)
     (one : ArePassed (IsRightAbove first at lists) a b s) (list : List ℕ)
@@ -260,9 +237,7 @@ module _ (first at : ℕ) (lists a b c : List (List ℕ)) (s t : Bool)
 
   fewer_both : (s t : Bool) → ArePassed (IsRightAbove first at lists) a b s
       → ArePassed (IsOneAbove (first + at) list) b c t → (s || t) ≡ true → unset_in c < unset_in a
-  fewer_both true t f g e = let x = f.fewer refl in let y = g.most in omega (arith, x, y)
-  fewer_both false true f g e = let x = f.most in let y = g.fewer refl in omega (arith, x, y)
-  fewer_both false false f g e = no_such (sym e)
+  fewer_both s t h1 h2 h3 = grind (arith, no_such)
 
   before_or_last : (n above : ℕ) → More n above
       → IsRightAbove first at lists n above ⊎ IsOneAbove (first + at) list n above
@@ -270,15 +245,7 @@ module _ (first at : ℕ) (lists a b c : List (List ℕ)) (s t : Bool)
     where
       by_order : (is_above.0 < at) ⊎ (at ≤ is_above.0)
           → IsRightAbove first at lists n above ⊎ IsOneAbove (first + at) list n above
-      by_order (inl less) = inl (is_above.0, less, is_above.2, is_above.3)
-      by_order (inr behind) =
-          let less = is_above.1 in
-          let same : is_above.0 ≡ at = omega (arith, behind, less) in
-          inr (
-            is_above.2 ∙ ap (λ k. first + k) same,
-            ap (has_number above) is ∙ ap (λ k. has_number above (unwrap_or (slice_get lists k) [])) (sym same)
-                ∙ is_above.3,
-          )
+      by_order h1 = grind (arith, unwrap_or, slice_get)
 
   pub passed_more : ArePassed More a c (s || t)
   passed_more = record {
@@ -297,19 +264,10 @@ module _ (first at : ℕ) (lists a b c : List (List ℕ)) (s t : Bool)
       closes : (s ≡ false) × (t ≡ false) → (n above m : ℕ)
           → IsRightAbove first at lists n above ⊎ IsOneAbove (first + at) list n above
           → is_listed c above m ≡ true → is_listed c n m ≡ true
-      closes p n above m (inl r) listed =
-          two.same p.1 n m ∙ one.closed p.0 n above m r (sym (two.same p.1 above m) ∙ listed)
-      closes p n above m (inr o) listed = two.closed p.1 n above m o listed
+      closes h1 n above m h2 h3 = grind arith
 
 pub passed_none : (first : ℕ) (lists rows : List (List ℕ)) → ArePassed (IsRightAbove first 0 lists) rows rows false
-passed_none first lists rows = record {
-  kept = λ n m e. e;
-  same = λ e n m. refl;
-  most = omega arith;
-  fewer = λ e. no_such (sym e);
-  closed = λ e n above m r listed. let less = r.1 in absurd (omega (arith, less));
-  sound = λ fits step before. before;
-}
+passed_none first lists rows = grind (arith, no_such)
 
 -- ---- until all is there
 

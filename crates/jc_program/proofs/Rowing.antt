@@ -4,8 +4,8 @@ use Rattle.std.proofs.Common.{◌&&◌, ◌||◌, Bool, true, false, not, cond, 
 use Rattle.std.proofs.Common.{length, get_or, set, take, bit_or}
 use Rattle.std.proofs.Common.{refl, sym, ap, ◌∙◌, arith}
 use Rattle.std.specs.Int.{bit_at, w64}
-use Rattle.std.proofs.lemmas.Bool.{cases_eq, cases_lt, cases_order, eq-eqb, eqb-true, le-ltb, lt-ltb, ne_eqb}
-use Rattle.std.proofs.lemmas.List.{get_or-set_same, get_or-set_other, get_or_past}
+use Rattle.std.proofs.lemmas.Bool.{cases_eq, eq-eqb, eqb-true, le-ltb, ne_eqb}
+use Rattle.std.proofs.lemmas.List.{get_or-set_same, get_or-set_other}
 use Rattle.std.proofs.lemmas.Nat.Bits.{bit_at-lt, bit_at-zero, bit_at_or}
 use Rattle.std.proofs.lemmas.Nat.Bits.{bit_at_set_other, bit_at_set_same, same_from_bits_below}
 use lib.Bits.{or_lt, or_zero_l}
@@ -31,18 +31,12 @@ empty_row n = ap (λ b. b == 1) (bit_at-zero (n % 64))
 
 -- ---- how many numbers aren't there
 
-abbrev one_if : Bool → ℕ
-one_if there = cond there 0 1
-
 module _ (old new : List ℕ) (kept : (n : ℕ) → has_bit old n ≡ true → has_bit new n ≡ true) where
   least : (n : ℕ) → cond (has_bit new n) 0 1 ≤ cond (has_bit old n) 0 1
   least n = by_old (has_bit old n) (has_bit new n) (kept n)
     where
       by_old : (a b : Bool) → (a ≡ true → b ≡ true) → cond b 0 1 ≤ cond a 0 1
-      by_old true true k = omega arith
-      by_old true false k = no_such (sym (k refl))
-      by_old false true k = omega arith
-      by_old false false k = omega arith
+      by_old a b h1 = grind (arith, no_such)
 
   pub unset_most : (n : ℕ) → unset new n ≤ unset old n
   unset_most zero = omega arith
@@ -54,15 +48,7 @@ module _ (old new : List ℕ) (kept : (n : ℕ) → has_bit old n ≡ true → h
     where
       by_number : (k < n → unset new n < unset old n) → (k ≡ n) ⊎ (k ≡ n → ⊥)
           → unset new (suc n) < unset old (suc n)
-      by_number rest (inl e) =
-          let a = ap one_if (ap (has_bit old) (sym e) ∙ before) in
-          let b = ap one_if (ap (has_bit new) (sym e) ∙ now) in
-          let m = unset_most n in
-          omega (arith, a, b, m)
-      by_number rest (inr other) =
-          let a = least n in
-          let b = rest (omega (arith, other, less)) in
-          omega (arith, a, b)
+      by_number h1 h2 = grind (arith, unset_most, least)
 
 -- ---- what was put in, put together
 
@@ -83,13 +69,10 @@ module _ (a b c : List ℕ) (p q : ℕ → Bool) (s t : Bool) (one : AreUnited p
 
   same_both : (s t : Bool) → AreUnited p a b s → AreUnited q b c t → (s || t) ≡ false
       → (n : ℕ) → has_bit c n ≡ has_bit a n
-  same_both true t f g e n = no_such e
-  same_both false true f g e n = no_such e
-  same_both false false f g e n = g.same refl n ∙ f.same refl n
+  same_both s t h1 h2 h3 n = grind (arith, no_such)
 
   grouped : (x y z : Bool) → ((x || y) || z) ≡ (x || (y || z))
-  grouped true y z = refl
-  grouped false y z = refl
+  grouped x y z = grind arith
 
   pub united_both : AreUnited (λ n. p n || q n) a c (s || t)
   united_both = record {
@@ -107,8 +90,7 @@ united_alike p q a b s alike u = record {
 }
 
 either_none : (b : Bool) → b ≡ (b || false)
-either_none true = refl
-either_none false = refl
+either_none b = grind arith
 
 -- ---- one word
 
@@ -124,38 +106,22 @@ differs (suc w) a b = by_last (cases_eq (bit_at a w) (bit_at b w)) (differs w a 
     all last before i less = by_number (cases_eq i w)
       where
         by_number : (i ≡ w) ⊎ (i ≡ w → ⊥) → bit_at a i ≡ bit_at b i
-        by_number (inl e) = ap (bit_at a) e ∙ last ∙ ap (bit_at b) (sym e)
-        by_number (inr other) = before i (omega (arith, other, less))
+        by_number h1 = grind arith
 
     by_last : (bit_at a w ≡ bit_at b w) ⊎ (bit_at a w ≡ bit_at b w → ⊥)
         → ((i : ℕ) × (i < w) × (bit_at a i ≢ bit_at b i)) ⊎ ((i : ℕ) → i < w → bit_at a i ≡ bit_at b i)
         → ((i : ℕ) × (i < suc w) × (bit_at a i ≢ bit_at b i))
         ⊎ ((i : ℕ) → i < suc w → bit_at a i ≡ bit_at b i)
-    by_last (inr other) rest = inl (w, omega arith, other)
-    by_last (inl last) (inl r) = let l = r.1 in inl (r.0, omega (arith, l), r.2)
-    by_last (inl last) (inr before) = inr (all last before)
+    by_last h1 h2 = grind (arith, all)
 
 one_of_two : (x y : ℕ) → x < 2 → y < 2 → (max x y == 1) ≡ ((x == 1) || (y == 1))
-one_of_two zero zero p q = refl
-one_of_two zero (suc zero) p q = refl
-one_of_two (suc zero) zero p q = refl
-one_of_two (suc zero) (suc zero) p q = refl
-one_of_two zero (suc (suc y)) p q = absurd (omega (arith, q))
-one_of_two (suc zero) (suc (suc y)) p q = absurd (omega (arith, q))
-one_of_two (suc (suc x)) y p q = absurd (omega (arith, p))
+one_of_two x y h1 h2 = grind arith
 
 or_bit : (x y i : ℕ) → (bit_at (bit_or x y) i == 1) ≡ (bit_at x i == 1 || bit_at y i == 1)
-or_bit x y i =
-    ap (λ b. b == 1) (bit_at_or x y i) ∙ one_of_two (bit_at x i) (bit_at y i) (bit_at-lt x i) (bit_at-lt y i)
+or_bit x y i = grind (arith, bit_at_or, one_of_two, bit_at-lt)
 
 same_bit : (x y : ℕ) → x < 2 → y < 2 → (x == 1) ≡ (y == 1) → x ≡ y
-same_bit zero zero p q e = refl
-same_bit zero (suc zero) p q e = no_such (sym e)
-same_bit (suc zero) zero p q e = no_such e
-same_bit (suc zero) (suc zero) p q e = refl
-same_bit zero (suc (suc y)) p q e = absurd (omega (arith, q))
-same_bit (suc zero) (suc (suc y)) p q e = absurd (omega (arith, q))
-same_bit (suc (suc x)) y p q e = absurd (omega (arith, p))
+same_bit x y h1 h2 h3 = grind (arith, no_such)
 
 module _ (words : List ℕ) (at more : ℕ) (within : at < length words) where
   abbrev word : ℕ
@@ -165,27 +131,16 @@ module _ (words : List ℕ) (at more : ℕ) (within : at < length words) where
   new = set words at (bit_or word more)
 
   here : (n : ℕ) → n / 64 ≡ at → has_bit new n ≡ (has_bit words n || bits_of at more n)
-  here n e =
-      let t : n / 64 == at ≡ true = eq-eqb (n / 64) at e in
-      ap (λ i. bit_at (get_or new i 0) (n % 64) == 1) e
-      ∙ ap (λ w. bit_at w (n % 64) == 1) (get_or-set_same words at (bit_or word more) 0 within)
-      ∙ or_bit word more (n % 64)
-      ∙ ap (λ i. bit_at (get_or words i 0) (n % 64) == 1 || bit_at more (n % 64) == 1) (sym e)
-      ∙ ap (λ b. has_bit words n || (b && bit_at more (n % 64) == 1)) (sym t)
+  here n e = grind (arith, eq-eqb, get_or, get_or-set_same, bit_or, or_bit)
 
   there : (n : ℕ) → (n / 64 ≡ at → ⊥) → has_bit new n ≡ (has_bit words n || bits_of at more n)
-  there n other =
-      let t : n / 64 == at ≡ false = ne_eqb (n / 64) at other in
-      ap (λ w. bit_at w (n % 64) == 1) (get_or-set_other words at (n / 64) (bit_or word more) 0 other)
-      ∙ either_none (has_bit words n)
-      ∙ ap (λ b. has_bit words n || (b && bit_at more (n % 64) == 1)) (sym t)
+  there n other = grind (arith, ne_eqb, get_or-set_other, bit_or, either_none)
 
   bits : (n : ℕ) → has_bit new n ≡ (has_bit words n || bits_of at more n)
   bits n = by_word (cases_eq (n / 64) at)
     where
       by_word : (n / 64 ≡ at) ⊎ (n / 64 ≡ at → ⊥) → has_bit new n ≡ (has_bit words n || bits_of at more n)
-      by_word (inl e) = here n e
-      by_word (inr other) = there n other
+      by_word h1 = grind (arith, here, there)
 
   kept : (n : ℕ) → has_bit words n ≡ true → has_bit new n ≡ true
   kept n e = bits n ∙ ap (λ b. b || bits_of at more n) e
@@ -198,13 +153,7 @@ module _ (words : List ℕ) (at more : ℕ) (within : at < length words) where
       by_had : (i : ℕ) → i < 64 → (bit_at (bit_or word more) i ≢ bit_at word i) → (b c : Bool)
           → (bit_at word i == 1) ≡ b → (bit_at (bit_or word more) i == 1) ≡ c
           → (b ≡ false) × (c ≡ true)
-      by_had i less apart false true had has = (refl, refl)
-      by_had i less apart true true had has =
-          absurd (apart (same_bit _ _ (bit_at-lt (bit_or word more) i) (bit_at-lt word i) (has ∙ sym had)))
-      by_had i less apart false false had has =
-          absurd (apart (same_bit _ _ (bit_at-lt (bit_or word more) i) (bit_at-lt word i) (has ∙ sym had)))
-      by_had i less apart true false had has =
-          no_such (sym (or_bit word more i ∙ ap (λ b. b || bit_at more i == 1) had) ∙ has)
+      by_had i h1 h2 b c h3 h4 = grind (arith, same_bit, bit_at-lt, bit_or, no_such, or_bit)
 
       by_bit : ((i : ℕ) × (i < 64) × (bit_at (bit_or word more) i ≢ bit_at word i))
           ⊎ ((i : ℕ) → i < 64 → bit_at (bit_or word more) i ≡ bit_at word i)
@@ -227,10 +176,7 @@ module _ (words : List ℕ) (at more : ℕ) (within : at < length words) where
   set_itself ws i less k = by_place (cases_eq k i)
     where
       by_place : (k ≡ i) ⊎ (k ≡ i → ⊥) → get_or (set ws i (get_or ws i 0)) k 0 ≡ get_or ws k 0
-      by_place (inl e) =
-          ap (λ j. get_or (set ws i (get_or ws i 0)) j 0) e ∙ get_or-set_same ws i (get_or ws i 0) 0 less
-          ∙ ap (λ j. get_or ws j 0) (sym e)
-      by_place (inr other) = get_or-set_other ws i k (get_or ws i 0) 0 other
+      by_place h1 = grind (arith, get_or, set, get_or-set_same, get_or-set_other)
 
   -- a word's bits were put in, and it was looked whether the word changed
   pub united_word : at < 1024 → word < 2 ^ 64 → bit_or word more < 2 ^ 64
@@ -245,8 +191,7 @@ module _ (words : List ℕ) (at more : ℕ) (within : at < length words) where
   }
     where
       was : (b : Bool) → not b ≡ false → b ≡ true
-      was true e = refl
-      was false e = no_such e
+      was b h1 = grind (arith, no_such)
 
 -- ---- one number
 
@@ -265,20 +210,11 @@ one_bit number n = by_number (cases_eq n number)
   where
     by_word : (b : Bool) → (n / 64 == number / 64) ≡ b → (n ≡ number → ⊥)
         → (b && bit_at (one_at (number % 64)) (n % 64) == 1) ≡ false
-    by_word true t other =
-        let same = eqb-true (n / 64) (number / 64) t in
-        ap (λ b. b == 1) (one_there (number % 64) (n % 64) (omega arith) (λ e. other (omega (arith, same, e))))
-    by_word false t other = refl
+    by_word b h1 h2 = grind (arith, eqb-true, one_there)
 
     by_number : (n ≡ number) ⊎ (n ≡ number → ⊥)
         → bits_of (number / 64) (1 * 2 ^ (number % 64) % 2 ^ 64) n ≡ (n == number)
-    by_number (inl e) =
-        let t : n == number ≡ true = eq-eqb n number e in
-        ap (λ k. bits_of (number / 64) (one_at (number % 64)) k) e
-        ∙ ap (λ b. b && bit_at (one_at (number % 64)) (number % 64) == 1) (eq-eqb (number / 64) (number / 64) refl)
-        ∙ ap (λ b. b == 1) (one_here (number % 64) (omega arith)) ∙ sym t
-    by_number (inr other) =
-        let t : n == number ≡ false = ne_eqb n number other in by_word (n / 64 == number / 64) refl other ∙ sym t
+    by_number h1 = grind (arith, eq-eqb, one_here, ne_eqb, by_word)
 
 -- ---- the first of other words
 

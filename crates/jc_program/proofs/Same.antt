@@ -8,43 +8,32 @@ use Rattle.std.specs.List.{position, position_from}
 use Rattle.std.specs.Option.{option_map_or}
 use Rattle.jc_api.specs.Class.{class_of, number_of}
 use Rattle.jc_api.specs.declared.class.ApiClass.{ApiClass}
-use Rattle.jc_api.specs.declared.class.ApiClass.TheVariants as Apis
 use Rattle.jc_names.specs.Names.{is_same_name}
 use Rattle.jc_names.specs.declared.name.ClassName.{ClassName}
-use Rattle.jc_names.specs.declared.name.ClassName.TheVariants.{Api, Loaded}
 use Rattle.jc_program.specs.Classes.{class_number}
 
 pub true_false : {P : Type 0} → true ≡ false → P
 true_false e = absurd cc
 
 pub left_true : (a b : Bool) → (a && b) ≡ true → a ≡ true
-left_true true b e = refl
-left_true false b e = absurd cc
+left_true a b h1 = grind arith
 
 pub right_true : (a b : Bool) → (a && b) ≡ true → b ≡ true
-right_true true b e = e
-right_true false b e = absurd cc
+right_true a b h1 = grind arith
 
 -- ---- one name
 
 pub numbered_again : (a : ApiClass) → class_of (number_of a) ≡ Some a
-numbered_again Apis.Object = refl
-numbered_again a = refl
+numbered_again a = grind arith
 
 same_number : (a b : ApiClass) → number_of a ≡ number_of b → a ≡ b
 same_number a b e = same_Some a b (sym (numbered_again a) ∙ ap class_of e ∙ numbered_again b)
 
 pub same_name : (c d : ClassName) → is_same_name c d ≡ true → c ≡ d
-same_name (Api a) (Api b) e = ap Api (same_number a b (eqb-true (number_of a) (number_of b) e))
-same_name (Loaded p m) (Loaded q n) e =
-    ap (λ i. Loaded i m) (eqb-true p q (left_true (p == q) (m == n) e))
-    ∙ ap (Loaded q) (eqb-true m n (right_true (p == q) (m == n) e))
-same_name (Api a) (Loaded q n) e = absurd cc
-same_name (Loaded p m) (Api b) e = absurd cc
+same_name c d h1 = grind (arith, same_number, eqb-true, left_true, right_true)
 
 pub name_itself : (c : ClassName) → is_same_name c c ≡ true
-name_itself (Api a) = eq-eqb (number_of a) (number_of a) refl
-name_itself (Loaded p m) = ap (λ b. b && (m == m)) (eq-eqb p p refl) ∙ eq-eqb m m refl
+name_itself c = grind (arith, eq-eqb)
 
 -- ---- places
 
@@ -122,7 +111,4 @@ number_told names c number is d = by_name (is_same_name d c) refl
         true_false (sym (ap (λ k. is_same_name k c) one ∙ name_itself c) ∙ other))
 
     by_name : (b : Bool) → is_same_name d c ≡ b → option_map_or (λ n. n == number) (class_number names d) false ≡ b
-    by_name true e =
-        ap (λ k. option_map_or (λ n. n == number) (class_number names k) false) (same_name d c e)
-        ∙ ap (λ o. option_map_or (λ n. n == number) o false) is ∙ eq-eqb number number refl
-    by_name false e = by_number (class_number names d) refl e
+    by_name b h1 = grind (arith, same_name, eq-eqb, by_number)

@@ -1,11 +1,10 @@
 -- Cells of objects, superclass by superclass, and the rows of classes.
-use Rattle.std.proofs.Common.{◌≡◌, ◌⊎◌, inl, inr, ℕ, zero, suc, ◌+◌, ◌<◌, ◌≤◌}
+use Rattle.std.proofs.Common.{◌≡◌, ◌⊎◌, ℕ, ◌+◌, ◌<◌, ◌≤◌}
 use Rattle.std.proofs.Common.{List, [], ◌∷◌, ◌++◌, length}
-use Rattle.std.proofs.Common.{Some, None, slice_get, get_or, unwrap_or, refl, sym, ap, ◌∙◌, arith}
+use Rattle.std.proofs.Common.{Some, None, slice_get, get_or, unwrap_or, sym, ap, ◌∙◌, arith}
 use Rattle.std.proofs.Common.{length-append}
 use Rattle.std.proofs.lemmas.Bool.{cases_lt}
 use Rattle.std.proofs.lemmas.Option.{same_Some, slice_get_within, unwrap_or-slice_get}
-use Rattle.std.specs.Option.{option_map_or}
 use Rattle.jc_cap_desc.specs.Shape.{Shape}
 use Rattle.jc_classes.specs.Walk.{most_classes}
 use Rattle.jc_classes.specs.World.{superclass_of}
@@ -27,8 +26,7 @@ pub cells_alone : (world : List Shape) (c : ClassName) → superclass_of world c
 cells_alone world c e = let z = none_above most_classes in omega (arith, z)
   where
     none_above : (n : ℕ) → cells_above world n c ≡ 0
-    none_above zero = refl
-    none_above (suc n) = ap (λ o. option_map_or (λ d. size_of world d + cells_above world n d) o 0) e
+    none_above n = grind arith
 
 pub cells_up : (world : List Shape) (c d : ClassName) → IsSound world → superclass_of world c ≡ Some d
     → cells_of world c ≡ size_of world c + cells_of world d
@@ -54,16 +52,7 @@ row_more world names rows last at c here so_far fits = record {
   where
     by_order : (number : ℕ) (d : ClassName) → number < at + 1 → slice_get names number ≡ Some d
         → (number < at) ⊎ (at ≤ number) → row_at (rows ++ last ∷ []) number ≡ class_row_of world d
-    by_order number d less is (inl before) =
-        let n = so_far.count in
-        ap (λ o. unwrap_or o no_row) (get_before rows last number (omega (arith, before, n)))
-        ∙ so_far.there number d before is
-    by_order number d less is (inr behind) =
-        let n = so_far.count in
-        let same : number ≡ length rows = omega (arith, behind, less, n) in
-        let one : at ≡ number = omega (arith, behind, less) in
-        ap (row_at (rows ++ last ∷ [])) same ∙ ap (λ o. unwrap_or o no_row) (get_last rows last)
-        ∙ fits ∙ ap (class_row_of world) (same_Some c d (sym here ∙ ap (slice_get names) one ∙ is))
+    by_order number d h1 h2 h3 = grind (arith, unwrap_or, get_before, length, get_last, same_Some, slice_get)
 
 pub are_rows : (world : List Shape) (names : List ClassName) (rows : List ClassRow)
     → HaveRows world names (length names) rows → AreClassRows world names rows

@@ -1,6 +1,6 @@
 -- The virtual tokens of the API's members.
-use Rattle.std.proofs.Common.{◌≡◌, ◌⊎◌, inl, inr, ℕ, zero, suc, ◌+◌, ◌<◌, ◌≤◌, ◌==◌, Bool, true, false, cond, List, []}
-use Rattle.std.proofs.Common.{◌∷◌, ◌++◌, length, Option, Some, None, unwrap_or, refl, sym, ap, ◌∙◌}
+use Rattle.std.proofs.Common.{◌≡◌, ◌⊎◌, ℕ, zero, suc, ◌+◌, ◌<◌, ◌≤◌, ◌==◌, Bool, cond, List, []}
+use Rattle.std.proofs.Common.{◌∷◌, ◌++◌, length, Option, Some, None, unwrap_or, refl, ◌∙◌}
 use Rattle.std.proofs.Common.{arith, length-append}
 use Rattle.std.proofs.lemmas.Bool.{cases_lt}
 use Rattle.std.proofs.lemmas.Option.{none-some, slice_get_past}
@@ -13,7 +13,7 @@ use Rattle.jc_api.specs.declared.class.ApiClass.{ApiClass}
 use Rattle.jc_cap.specs.declared.record.ClassRecord.{ClassRecord}
 use Rattle.jc_cap.specs.declared.record.InterfaceRecord.{InterfaceRecord}
 use Rattle.jc_cap.specs.declared.record.RecordBody.TheVariants.{Interface, Class}
-use Rattle.jc_cap_desc.specs.Shape.{ClassShape, Shape}
+use Rattle.jc_cap_desc.specs.Shape.{Shape}
 use Rattle.jc_classes.specs.Api.{class_in_api, record_in}
 use Rattle.jc_classes.specs.Methods.{package_visible}
 use Rattle.jc_classes.specs.Record.{public_entries}
@@ -28,8 +28,7 @@ use Rattle.jc_program.proofs.Calling.{get_before, get_last}
 -- ---- their tables begin at token 0
 
 from_zero : (o : Option ℕ) → o ≡ option_map (λ n. 0 + n) o
-from_zero None = refl
-from_zero (Some n) = let same : n ≡ 0 + n = omega arith in ap Some same
+from_zero o = grind (arith, None, Some)
 
 place_is_token : (bound : Bound) (c : ApiClass) (member : ℕ)
     → place_in member (class_in_api bound c) ≡ token_in member (record_in bound c)
@@ -38,10 +37,7 @@ place_is_token bound c member = by_kind (is_interface c) _ _ refl
     by_kind : (b : Bool) (i : InterfaceRecord) (r : ClassRecord) → r.public_methods.base ≡ 0
         → position (λ m. m == member) (public_entries (cond b (Interface i) (Class r)))
         ≡ token_in member (cond b (Interface i) (Class r))
-    by_kind true i r first = refl
-    by_kind false i r first =
-        from_zero (position (λ m. m == member) r.public_methods.methods)
-        ∙ ap (λ base. option_map (λ n. base + n) (position (λ m. m == member) r.public_methods.methods)) (sym first)
+    by_kind b i r h1 = grind (arith, from_zero)
 
 places_are_tokens : (world : List Shape) → StandsOnApi world → (member : ℕ)
     → member_place world member ≡ member_token world member
@@ -50,11 +46,7 @@ places_are_tokens world on member = by_member (member_of member)
     by_member : (o : Option ApiMember)
         → option_and_then (λ (m : ApiMember). option_and_then (place_in member) (class_at world (Api m.class))) o
         ≡ option_and_then (λ (m : ApiMember). token_of_class world (Api m.class) member) o
-    by_member None = refl
-    by_member (Some m) =
-        ap (option_and_then (place_in member)) (on.classes m.class)
-        ∙ place_is_token on.bound m.class member
-        ∙ sym (ap (option_and_then (λ (k : ClassShape). token_in member k.body)) (on.classes m.class))
+    by_member o = grind (arith, None, Some, place_is_token)
 
 -- ---- the table
 
@@ -67,16 +59,7 @@ token_more world tokens last at so_far fits = record {
   where
     by_order : (member : ℕ) → member < at + 1 → (member < at) ⊎ (at ≤ member)
         → token_at (tokens ++ last ∷ []) member ≡ member_place world member
-    by_order member less (inl before) =
-        let n = so_far.count in
-        ap (λ o. unwrap_or o None) (get_before tokens last member (omega (arith, before, n)))
-        ∙ so_far.there member before
-    by_order member less (inr behind) =
-        let n = so_far.count in
-        let same : member ≡ length tokens = omega (arith, behind, less, n) in
-        let one : at ≡ member = omega (arith, behind, less) in
-        ap (token_at (tokens ++ last ∷ [])) same ∙ ap (λ o. unwrap_or o None) (get_last tokens last)
-        ∙ fits ∙ ap (member_place world) one
+    by_order member h1 h2 = grind (arith, unwrap_or, None, get_before, length, get_last)
 
 member_past : (n : ℕ) → 56 ≤ n → member_of n ≡ None
 member_past zero past = refl
@@ -90,12 +73,7 @@ pub are_member_tokens : (world : List Shape) (tokens : List (Option ℕ)) → St
 are_member_tokens world tokens on have member = by_order (cases_lt member 56)
   where
     by_order : (member < 56) ⊎ (56 ≤ member) → token_at tokens member ≡ member_token world member
-    by_order (inl before) = have.there member before ∙ places_are_tokens world on member
-    by_order (inr past) =
-        let n = have.count in
-        ap (λ o. unwrap_or o None) (slice_get_past tokens member (omega (arith, past, n)))
-        ∙ sym (ap (option_and_then (λ (m : ApiMember). token_of_class world (Api m.class) member))
-        (member_past member past))
+    by_order h1 = grind (arith, places_are_tokens, unwrap_or, None, slice_get_past, member_past)
 
 -- ---- no token is package-visible
 
@@ -105,6 +83,4 @@ public_tokens world on member token e = by_member (member_of member) refl (place
     by_member : (o : Option ApiMember) → member_of member ≡ o
         → option_and_then (λ (m : ApiMember). option_and_then (place_in member) (class_at world (Api m.class))) o
         ≡ Some token → token < package_visible
-    by_member None number f = absurd (none-some token f)
-    by_member (Some m) number f =
-        on.public m.class member token m number (sym (ap (option_and_then (place_in member)) (on.classes m.class)) ∙ f)
+    by_member o h1 h2 = grind (arith, None, none-some, Some)

@@ -1,7 +1,9 @@
 -- Private. Tables of the numbers of classes, by their names, and lists of these names that are made.
-use Rattle.std.specs.Prelude.{◌≡◌, ℕ, suc, ◌<◌, ◌==◌, ◌&&◌, ◌++◌, Bool, List, drop, length, Option, Some, slice_get}
+use Rattle.std.specs.Prelude.{◌≡◌, ℕ, suc, ◌-◌, ◌<◌, ◌==◌, ◌&&◌, ◌++◌, Bool, List, drop, length, Option, Some}
+use Rattle.std.specs.Prelude.{slice_get}
 use Rattle.std.specs.List.{filter_map, position}
 use Rattle.jc_cap_desc.specs.Shape.{ClassShape, Shape}
+use Rattle.jc_classes.specs.Growth.{grown}
 use Rattle.jc_classes.specs.Members.{name_of}
 use Rattle.jc_names.specs.Names.{offset_of}
 use Rattle.jc_names.specs.declared.name.ClassName.{ClassName}
@@ -41,3 +43,17 @@ pub record AreAllNamed (count : ℕ) (world : List Shape) (now : List ClassName)
   pub names : now ++ names_from count (drop count world) ≡ class_names world
   pub offsets : (home : ℕ) (shape : Shape) → home < count → slice_get world home ≡ Some shape
       → StandAtWords shape.classes
+
+-- ---- a package more
+
+-- these are the names of the classes of a world without its last package
+pub record AreNamesBefore (world : List Shape) (names : List ClassName) : Type 0 where
+  pub before : List Shape
+  pub more : Shape
+  pub world_is : world ≡ grown before more
+  pub names_are : names ≡ class_names before
+
+-- the classes of the last package of a world stand at offsets of 16 bits
+abbrev pub HaveLastWordOffsets : List Shape → Type 0
+HaveLastWordOffsets world = (shape : Shape) → slice_get world (length world - 1) ≡ Some shape
+    → StandAtWords shape.classes

@@ -69,3 +69,4 @@ pub record AreRowsBefore (world : List Shape) (names : List ClassName) (rows : L
   pub names_are : names ≡ class_names world
   pub count : length rows ≡ length (class_names before)
   pub right : AreSupertypes before (class_names before) rows
+  pub within : AreWithin (length rows) rows

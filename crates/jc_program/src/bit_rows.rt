@@ -7,24 +7,9 @@ ghost use Rattle.jc_program.specs.PrivateBitRows.{ArePassed, AreSettled, IsOneAb
 ghost use Rattle.jc_program.specs.Supertypes.{is_listed};
 
 use crate::bit_row::BitRow;
-use jc_base::Shared;
 use std::alloc::{AllocError, Global};
 use std::marker::Model;
 use std::mem;
-
-/// Puts rows behind others that are shared.
-pub(crate) fn put_shared(
-    alloc: Global,
-    shared: &mut Vec<Shared<BitRow>>,
-    rows: Vec<BitRow>,
-) -> Result<(), AllocError>
-    ensures { IfOk result (λ u. shared.new.items ≡ shared.old.items ++ rows.items) }
-{
-    for row in rows {
-        shared.push(Shared::new(alloc, row)?)?;
-    }
-    Ok(())
-}
 
 /// Numbers of rows.
 #[derive(Drop)]
@@ -50,12 +35,12 @@ impl NumberList {
 }
 
 /// The row with a number: of those that are made, or of those that are being made, which come behind them.
-fn row_of<'a>(made: &'a [Shared<BitRow>], rows: &'a [BitRow], number: u16) -> Option<&'a BitRow>
+fn row_of<'a>(made: &'a [BitRow], rows: &'a [BitRow], number: u16) -> Option<&'a BitRow>
     ensures { option_map (λ r. r.now) result ≡ slice_get (made.now ++ rows.now) number }
 {
     let number = usize::from(number);
     if number < made.len() {
-        Some(made[number].get())
+        Some(&made[number])
     } else {
         rows.get(number - made.len())
     }
@@ -63,7 +48,7 @@ fn row_of<'a>(made: &'a [Shared<BitRow>], rows: &'a [BitRow], number: u16) -> Op
 
 /// Puts what the row with a number has into another row. Whether a number wasn't there.
 fn unite_from(
-    made: &[Shared<BitRow>],
+    made: &[BitRow],
     rows: &[BitRow],
     number: u16,
     row: &mut BitRow,
@@ -79,7 +64,7 @@ fn unite_from(
 /// Puts what the rows with these numbers have into another row. Whether a number wasn't there.
 #[tactic(auto, using(crate::proofs::Rising::all_more))]
 fn unite_all(
-    made: &[Shared<BitRow>],
+    made: &[BitRow],
     rows: &[BitRow],
     numbers: &[u16],
     row: &mut BitRow,
@@ -97,7 +82,7 @@ fn unite_all(
 /// Puts what the rows right above one have into this one. Whether a number wasn't there.
 fn pass_row(
     alloc: Global,
-    made: &[Shared<BitRow>],
+    made: &[BitRow],
     rows: &mut [BitRow],
     at: usize,
     above: &[u16],
@@ -117,7 +102,7 @@ fn pass_row(
 #[tactic(auto, using(crate::proofs::Rising::passed_none))]
 fn pass(
     alloc: Global,
-    made: &[Shared<BitRow>],
+    made: &[BitRow],
     rows: &mut [BitRow],
     above: &[NumberList],
 ) -> Result<bool, AllocError>
@@ -138,7 +123,7 @@ fn pass(
 #[tactic(auto, using(crate::proofs::Rising::risen_none))]
 pub(crate) fn settle(
     alloc: Global,
-    made: &[Shared<BitRow>],
+    made: &[BitRow],
     rows: &mut [BitRow],
     above: &[NumberList],
 ) -> Result<(), AllocError>

@@ -1,6 +1,6 @@
 //! What is asked of a world's classes, by number: a row of 8 bytes each.
 
-ghost use Rattle.std.specs.Prelude.{◌≡◌, ◌+◌, ◌<◌, ◌==◌, List, length, slice_get, Some, IfOk, IfSome};
+ghost use Rattle.std.specs.Prelude.{◌≡◌, ◌+◌, ◌<◌, ◌≤◌, ◌==◌, List, length, slice_get, take, Some, IfOk, IfSome};
 ghost use Rattle.jc_api.specs.declared.class.ApiClass.TheVariants.{Shareable};
 ghost use Rattle.jc_cap_desc.specs.Shape.{Shape};
 ghost use Rattle.jc_classes.specs.Subtype.{is_interface_at, is_subtype};
@@ -160,25 +160,27 @@ fn class_row_of(
     })
 }
 
-/// The rows of classes: each is made with those before it.
-fn rows_of(
-    alloc: Global,
+/// Puts the rows of the other classes behind those of the first ones: each is made with those before it.
+fn put_rows(
+    rows: &mut Vec<ClassRow>,
     table: &ClassTable,
     classes: &Classes,
     supertypes: &Supertypes,
-) -> Result<Vec<ClassRow>, AllocError>
+) -> Result<(), AllocError>
     requires sound { IsSound table.now }
     requires names { classes.now ≡ class_names table.now }
     requires above { AreSupertypes table.now classes.now supertypes.now }
-    ensures { IfOk result (λ rows. HaveRows table.now classes.now (length classes.now) rows.items) }
+    requires first { HaveRows table.now classes.now (length rows.old.items) rows.old.items }
+    requires few { length rows.old.items ≤ length classes.now }
+    ensures done { IfOk result (λ u. HaveRows table.now classes.now (length classes.now) rows.new.items) }
+    ensures begins { take (length rows.old.items) rows.new.items ≡ rows.old.items }
 {
-    let mut rows = Vec::new(alloc);
-    for at in 0..classes.len() {
+    for at in rows.len()..classes.len() {
         let number = ClassNumber::new(at as u16);
-        let row = class_row_of(&rows, table, classes, supertypes, number)?;
+        let row = class_row_of(rows, table, classes, supertypes, number)?;
         rows.push(row)?;
     }
-    Ok(rows)
+    Ok(())
 }
 
 /// For each class and interface of a world what a machine asks of it.
@@ -214,8 +216,36 @@ impl ClassRows {
         // Only its contract counts: what always holds of a table.
         let _count = table.len();
         built_worlds_are_sound();
-        let rows = rows_of(alloc, table, classes, supertypes)?;
+        let mut rows = Vec::new(alloc);
+        put_rows(&mut rows, table, classes, supertypes)?;
         Ok(ClassRows { rows })
+    }
+
+    /// Puts the rows of the other classes of a world behind those of the first ones.
+    #[tactic(auto, using(crate::proofs::Summing::are_rows))]
+    pub(crate) fn grow(
+        &mut self,
+        table: &ClassTable,
+        classes: &Classes,
+        supertypes: &Supertypes,
+    ) -> Result<(), AllocError>
+        requires sound { IsSound table.now }
+        requires names { classes.now ≡ class_names table.now }
+        requires above { AreSupertypes table.now classes.now supertypes.now }
+        requires first { HaveRows table.now classes.now (length self.old) self.old }
+        requires few { length self.old ≤ length classes.now }
+        ensures rows { IfOk result (λ u. AreClassRows table.now classes.now self.new) }
+        ensures count { IfOk result (λ u. length self.new ≡ length classes.now) }
+        ensures begins { take (length self.old) self.new ≡ self.old }
+    {
+        put_rows(&mut self.rows, table, classes, supertypes)
+    }
+
+    /// Keeps those of the first classes alone.
+    pub(crate) fn keep(&mut self, count: usize)
+        ensures { self.new ≡ take count self.old }
+    {
+        self.rows.truncate(count);
     }
 
     /// For how many classes.

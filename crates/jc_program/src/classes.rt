@@ -1,17 +1,18 @@
 //! The classes of a world, by number and by name.
 
-ghost use Rattle.std.specs.Prelude.{◌≡◌, ℕ, ◌<◌, ◌==◌, ◌&&◌, ◌++◌, [], length, slice_get, Some, if◌then◌else◌, IfOk};
+ghost use Rattle.std.specs.Prelude.{◌≡◌, ℕ, ◌+◌, ◌<◌, ◌==◌, ◌&&◌, ◌++◌, ◌∷◌, [], length, slice_get, take, Some};
+ghost use Rattle.std.specs.Prelude.{if◌then◌else◌, IfErr, IfOk};
 ghost use Rattle.std.specs.List.{filter_map};
 ghost use Rattle.std.specs.Option.{option_map_or, option_or, option_to_list};
 ghost use Rattle.jc_cap_desc.specs.Shape.{Shape};
 ghost use Rattle.jc_classes.specs.Limits.{IsSmall};
 ghost use Rattle.jc_classes.specs.Members.{name_of};
 ghost use Rattle.jc_program.specs.Classes.{HaveWordOffsets, StandAtWords, class_names, class_number, names_in};
-ghost use Rattle.jc_program.specs.PrivateClasses.{AreClassNumbers, table_of};
+ghost use Rattle.jc_program.specs.PrivateClasses.{AreNamesBefore, HaveLastWordOffsets, table_of};
 ghost use Rattle.jc_program.specs.PrivateLaid.{number_in};
 ghost use Rattle.jc_names.specs.Names.{offset_of};
 
-use crate::numbers::{OffsetTable, number_in, put_number};
+use crate::numbers::{OffsetTable, forget_numbers, number_in, put_number};
 use jc_classes::{Class, ClassTable};
 use jc_link::World;
 use jc_names::{ClassName, PackagePlace, name_in};
@@ -130,24 +131,13 @@ fn put_name(
     number: u32,
 ) -> Result<(), AllocError>
     requires few { number < 0xFFFF_FFFF }
-    ensures { IfOk result (λ u. (p i : ℕ) → number_in tables.new.items p i
+    ensures done { IfOk result (λ u. (p i : ℕ) → number_in tables.new.items p i
         ≡ (if table_of name == p && offset_of name == i then option_or (number_in tables.old.items p i) (Some number)
         else number_in tables.old.items p i)) }
+    ensures kept { IfErr result (λ e. (p i : ℕ) → number_in tables.new.items p i ≡ number_in tables.old.items p i) }
 {
     let offset = usize::from(name.offset());
     put_number(alloc, tables, table_of(name), offset, number)
-}
-
-/// The numbers of classes by their names; of two with one name the first.
-fn class_numbers_of(alloc: Global, names: &[ClassName]) -> Result<Vec<OffsetTable>, AllocError>
-    requires few { length names.now < 0x10000 }
-    ensures { IfOk result (λ tables. AreClassNumbers tables.items names.now) }
-{
-    let mut tables = Vec::new(alloc);
-    for at in 0..names.len() {
-        put_name(alloc, &mut tables, names[at], at as u32)?;
-    }
-    Ok(tables)
 }
 
 /// The classes and interfaces of a world, each with a number, and each by its name in one step.
@@ -177,8 +167,57 @@ impl Classes {
         ensures offsets { IfOk result (λ classes. HaveWordOffsets world.now.shapes) }
     {
         let names = names_of(alloc, world.table())?;
-        let numbers = class_numbers_of(alloc, &names)?;
-        Ok(Classes { names, numbers })
+        let mut classes = Classes {
+            names: Vec::new(alloc),
+            numbers: Vec::new(alloc),
+        };
+        classes.put_all(alloc, &names)?;
+        Ok(classes)
+    }
+
+    /// Puts the classes of the last package of a world behind the others.
+    #[tactic(auto, using(crate::proofs::Naming::few_names))]
+    pub(crate) fn grow(&mut self, alloc: Global, table: &ClassTable) -> Result<(), AllocError>
+        requires before { AreNamesBefore table.now self.old }
+        ensures names { IfOk result (λ u. self.new ≡ class_names table.now) }
+        ensures offsets { IfOk result (λ u. HaveLastWordOffsets table.now) }
+        ensures begins { take (length self.old) self.new ≡ self.old }
+    {
+        let mut more = Vec::new(alloc);
+        put_package(&mut more, table, PackagePlace::new(table.len() - 1))?;
+        self.put_all(alloc, &more)
+    }
+
+    /// Puts classes behind the others.
+    fn put_all(&mut self, alloc: Global, names: &[ClassName]) -> Result<(), AllocError>
+        requires few { length self.old + length names.now < 0x10000 }
+        ensures done { IfOk result (λ u. self.new ≡ self.old ++ names.now) }
+        ensures begins { take (length self.old) self.new ≡ self.old }
+    {
+        for at in 0..names.len() {
+            self.push(alloc, names[at])?;
+        }
+        Ok(())
+    }
+
+    /// Puts a class behind the others. Where no memory is left they are as they were.
+    fn push(&mut self, alloc: Global, name: ClassName) -> Result<(), AllocError>
+        requires few { length self.old + 1 < 0x10000 }
+        ensures done { IfOk result (λ u. self.new ≡ self.old ++ name ∷ []) }
+        ensures kept { IfErr result (λ e. self.new ≡ self.old) }
+    {
+        self.names.reserve(1)?;
+        put_name(alloc, &mut self.numbers, name, self.names.len() as u32)?;
+        self.names.push_reserved(name);
+        Ok(())
+    }
+
+    /// Keeps the first classes alone.
+    pub(crate) fn keep(&mut self, count: usize)
+        ensures { self.new ≡ take count self.old }
+    {
+        self.names.truncate(count);
+        forget_numbers(&mut self.numbers, count);
     }
 
     /// How many there are.

@@ -1,11 +1,11 @@
 //! The methods of interfaces that a world's classes have, by numbers and token.
 
-ghost use Rattle.std.specs.Prelude.{◌≡◌, ◌==◌, ◌++◌, [], length, IfOk};
+ghost use Rattle.std.specs.Prelude.{◌≡◌, ℕ, ◌≤◌, ◌==◌, ◌++◌, [], None, length, take, IfOk};
 ghost use Rattle.std.specs.Option.{option_to_list};
 ghost use Rattle.jc_classes.specs.Listed.{AreListedBy};
 ghost use Rattle.jc_link.specs.Sound.{IsSound};
-ghost use Rattle.jc_program.specs.Called.{AreInterfaceCalls, interface_call_at};
-ghost use Rattle.jc_program.specs.PrivateCalled.{AreListed, HasInterfaces, table_for};
+ghost use Rattle.jc_program.specs.Called.{AreInterfaceCalls, interface_call_at, keyed_at};
+ghost use Rattle.jc_program.specs.PrivateCalled.{AreListed, HasListed, table_for};
 
 use crate::called::{Called, indexes_called};
 use crate::classes::{ClassNumber, Classes};
@@ -49,7 +49,7 @@ fn put_row(
     class: ClassName,
     row: &ListedInterface,
 ) -> Result<(), AllocError>
-    ensures whole { IfOk result (λ u. lists.new.whole ≡ lists.old.whole) }
+    ensures whole { lists.new.whole ≡ lists.old.whole }
     ensures last { IfOk result (λ u. lists.new.last ≡ lists.old.last
         ++ option_to_list (table_for table.now methods.now classes.now class row.now)) }
 {
@@ -72,8 +72,8 @@ fn put_tables(
 ) -> Result<(), AllocError>
     requires sound { IsSound table.now }
     requires first { lists.old.last ≡ [] }
-    ensures whole { IfOk result (λ u. lists.new.whole ≡ lists.old.whole) }
-    ensures last { IfOk result (λ u. HasInterfaces table.now methods.now classes.now class lists.new.last) }
+    ensures whole { lists.new.whole ≡ lists.old.whole }
+    ensures last { IfOk result (λ u. HasListed table.now methods.now classes.now class lists.new.last) }
 {
     let rows = listed_by(table, class);
     for row in rows {
@@ -82,24 +82,29 @@ fn put_tables(
     Ok(())
 }
 
-/// The tables of classes.
-fn lists_of(
+/// Puts the tables of the other classes behind those of the first ones.
+fn put_lists(
     alloc: Global,
+    lists: &mut KeyedLists,
     table: &ClassTable,
     methods: &Methods,
     classes: &Classes,
     names: &[ClassName],
-) -> Result<KeyedLists, AllocError>
+) -> Result<(), AllocError>
     requires sound { IsSound table.now }
-    ensures { IfOk result (λ lists. AreListed (HasInterfaces table.now methods.now classes.now)
-        names.now (length names.now) lists.whole) }
+    requires first { AreListed (HasListed table.now methods.now classes.now)
+        names.now (length lists.old.whole) lists.old.whole }
+    requires few { length lists.old.whole ≤ length names.now }
+    ensures done { IfOk result (λ u. AreListed (HasListed table.now methods.now classes.now)
+        names.now (length names.now) lists.new.whole) }
+    ensures begins { take (length lists.old.whole) lists.new.whole ≡ lists.old.whole }
 {
-    let mut lists = KeyedLists::new(alloc);
-    for at in 0..names.len() {
-        put_tables(alloc, &mut lists, table, methods, classes, names[at])?;
+    for at in lists.len()..names.len() {
+        lists.begin();
+        put_tables(alloc, lists, table, methods, classes, names[at])?;
         lists.close()?;
     }
-    Ok(lists)
+    Ok(())
 }
 
 /// For each class of a world the methods of the interfaces that it or a superclass lists, by the interfaces' tokens.
@@ -119,7 +124,7 @@ impl Model for InterfaceMethods {
 
 impl InterfaceMethods {
     /// The methods of interfaces that these classes have in a world, with these methods with code.
-    #[tactic(auto, using(crate::proofs::Interfacing::are_interface_calls))]
+    #[tactic(auto, using(crate::proofs::Interfacing::are_interface_calls, crate::proofs::Calling::none_listed_yet))]
     pub fn new(
         alloc: Global,
         world: &World,
@@ -127,14 +132,54 @@ impl InterfaceMethods {
         classes: &Classes,
     ) -> Result<InterfaceMethods, AllocError>
         ensures calls { IfOk result (λ made. AreInterfaceCalls world.now.shapes methods.now classes.now made) }
+        ensures known { IfOk result (λ made. (number other token : ℕ) → length classes.now ≤ other
+            → keyed_at made number other token ≡ None) }
         ensures count { IfOk result (λ made. length made ≡ length classes.now) }
     {
         let table = world.table();
         // Only its contract counts: what always holds of a table.
         let _count = table.len();
         built_worlds_are_sound();
-        let lists = lists_of(alloc, table, methods, classes, classes.names())?;
+        let mut lists = KeyedLists::new(alloc);
+        put_lists(alloc, &mut lists, table, methods, classes, classes.names())?;
         Ok(InterfaceMethods { lists })
+    }
+
+    /// Puts the methods of interfaces that the other classes of a world have behind those of the first ones.
+    #[tactic(auto, using(crate::proofs::Interfacing::are_interface_calls))]
+    pub(crate) fn grow(
+        &mut self,
+        alloc: Global,
+        table: &ClassTable,
+        methods: &Methods,
+        classes: &Classes,
+    ) -> Result<(), AllocError>
+        requires sound { IsSound table.now }
+        requires first { AreListed (HasListed table.now methods.now classes.now)
+            classes.now (length self.old) self.old }
+        requires few { length self.old ≤ length classes.now }
+        ensures calls { IfOk result (λ u. AreInterfaceCalls table.now methods.now classes.now self.new) }
+        ensures known { IfOk result (λ u. (number other token : ℕ) → length classes.now ≤ other
+            → keyed_at self.new number other token ≡ None) }
+        ensures count { IfOk result (λ u. length self.new ≡ length classes.now) }
+        ensures begins { take (length self.old) self.new ≡ self.old }
+    {
+        put_lists(
+            alloc,
+            &mut self.lists,
+            table,
+            methods,
+            classes,
+            classes.names(),
+        )?;
+        Ok(())
+    }
+
+    /// Keeps those of the first classes alone.
+    pub(crate) fn keep(&mut self, count: usize)
+        ensures { self.new ≡ take count self.old }
+    {
+        self.lists.keep(count);
     }
 
     /// For how many classes.

@@ -1,8 +1,9 @@
 //! For each class some tables that are found by their keys.
 
-ghost use Rattle.std.specs.Prelude.{◌≡◌, ◌∷◌, [], length, slice_get, IfOk};
+ghost use Rattle.std.specs.Prelude.{◌≡◌, ◌+◌, ◌≤◌, ◌∷◌, [], ℕ, length, slice_get, take, Some, IfErr, IfOk};
 ghost use Rattle.jc_program.specs.Called.{keyed_at};
 ghost use Rattle.jc_program.specs.PrivateCalled.{no_lists, with_last, with_tables};
+ghost use Rattle.jc_program.specs.declared.keyed.Window.{Window as TheWindow};
 
 use crate::called::Called;
 use crate::laid::start_of;
@@ -23,6 +24,24 @@ fn window_at(windows: &[Window], index: usize) -> Option<Window>
     ensures { result ≡ slice_get windows.now index }
 {
     windows.get(index).copied()
+}
+
+/// Where the tables that a window shows end.
+fn window_end(window: Window) -> usize
+    ensures { result ≡ window.start + window.count }
+{
+    window.start as usize + usize::from(window.count)
+}
+
+/// Where the tables that these windows show end.
+fn tables_end(windows: &[Window]) -> usize
+    ensures { (n : ℕ) (w : TheWindow) → slice_get windows.now n ≡ Some w → w.start + w.count ≤ result }
+{
+    let mut end = 0;
+    for window in windows {
+        end = end.max(window_end(*window));
+    }
+    end
 }
 
 /// Tables of classes, those of one class behind those of another. First come those of whole classes, and behind them
@@ -65,9 +84,29 @@ impl KeyedLists {
         self.windows.len()
     }
 
+    /// Takes away the tables of a class that isn't whole.
+    pub(crate) fn begin(&mut self)
+        ensures whole { self.new.whole ≡ self.old.whole }
+        ensures last { self.new.last ≡ [] }
+    {
+        self.tables.keep(self.shown);
+    }
+
+    /// Keeps the tables of the first classes alone.
+    pub(crate) fn keep(&mut self, count: usize)
+        ensures whole { self.new.whole ≡ take count self.old.whole }
+        ensures last { self.new.last ≡ [] }
+    {
+        self.windows.truncate(count);
+        self.shown = self.shown.min(tables_end(&self.windows));
+        self.tables.keep(self.shown);
+    }
+
     /// Puts a table behind those of the class that is being made.
     pub(crate) fn put(&mut self, key: u16, table: &[Called]) -> Result<(), AllocError>
-        ensures { IfOk result (λ u. self.new ≡ with_tables self.old (record { key = key; called = table.now } ∷ [])) }
+        ensures done { IfOk result (λ u. self.new
+            ≡ with_tables self.old (record { key = key; called = table.now } ∷ [])) }
+        ensures kept { IfErr result (λ e. self.new ≡ self.old) }
     {
         self.tables.put(key, table)?;
         Ok(())
@@ -75,7 +114,8 @@ impl KeyedLists {
 
     /// Makes the class that is being made a whole one.
     pub(crate) fn close(&mut self) -> Result<(), AllocError>
-        ensures { IfOk result (λ u. self.new ≡ with_last self.old) }
+        ensures done { IfOk result (λ u. self.new ≡ with_last self.old) }
+        ensures kept { IfErr result (λ e. self.new ≡ self.old) }
     {
         let start = start_of(self.shown)?;
         let all = self.tables.len();

@@ -38,7 +38,7 @@ pub use laws::{
 };
 pub use member_tokens::MemberTokens;
 pub use methods::{MethodNumber, Methods};
-pub use program::Program;
+pub use program::{Program, ProgramSize};
 pub use row::LoadedMethod;
 pub use superclasses::Superclasses;
 pub use supertypes::Supertypes;

@@ -1,13 +1,13 @@
-//! The methods of all packages, laid.
+//! The methods of packages, put one behind the other.
 
-ghost use Rattle.std.specs.Prelude.{◌≡◌, ◌≤◌, true, [], ◌∷◌, ◌++◌, map, is_some, Some, IfOk};
+ghost use Rattle.std.specs.Prelude.{◌≡◌, ◌≤◌, true, [], ◌∷◌, ◌++◌, length, map, take, is_some, Some, IfErr, IfOk};
 ghost use Rattle.jc_link.specs.Linked.{IsKnown, IsResolved};
 ghost use Rattle.jc_program.specs.Methods.{AreLoaded, header_at, loaded_method, methods_of};
 ghost use Rattle.jc_program.specs.PrivateLaid.{HaveHeaders};
 ghost use Rattle.jc_names.specs.Names.{home_at};
 
 use crate::handler::loaded_handlers;
-use crate::laid::Laid;
+use crate::methods::Methods;
 use jc_cap::MethodHeader;
 use jc_classes::ClassTable;
 use jc_link::{LinkedBody, MethodCode, World};
@@ -25,7 +25,7 @@ fn header_at(table: &ClassTable, package: u8, offset: u16) -> Option<MethodHeade
 /// Puts a method behind others.
 fn put_method(
     alloc: Global,
-    laid: &mut Laid,
+    loaded: &mut Methods,
     table: &ClassTable,
     package: u8,
     body: &LinkedBody,
@@ -33,18 +33,26 @@ fn put_method(
 ) -> Result<(), AllocError>
     requires resolved { IsResolved table.now (home_at «package») body.now }
     requires headed { is_some (header_at table.now «package» method.now.offset) ≡ true }
-    ensures { IfOk result (λ u. map Some laid.new
-        ≡ map Some laid.old ++ loaded_method table.now «package» body.now method.now ∷ []) }
+    ensures done { IfOk result (λ u. map Some loaded.new
+        ≡ map Some loaded.old ++ loaded_method table.now «package» body.now method.now ∷ []) }
+    ensures kept { IfErr result (λ e. loaded.new ≡ loaded.old) }
 {
     let handlers = loaded_handlers(alloc, body, method.code_offset, &method.handlers)?;
     let header = header_at(table, package, method.offset).unwrap();
-    laid.push(package, method.offset, header, &method.code, handlers)
+    loaded.push(
+        alloc,
+        package,
+        method.offset,
+        header,
+        &method.code,
+        handlers,
+    )
 }
 
 /// Puts methods of a package behind others.
 fn put_methods(
     alloc: Global,
-    laid: &mut Laid,
+    loaded: &mut Methods,
     table: &ClassTable,
     package: u8,
     body: &LinkedBody,
@@ -52,41 +60,44 @@ fn put_methods(
 ) -> Result<(), AllocError>
     requires resolved { IsResolved table.now (home_at «package») body.now }
     requires headed { HaveHeaders table.now «package» methods.now }
-    ensures { IfOk result (λ u. map Some laid.new
-        ≡ map Some laid.old ++ map (loaded_method table.now «package» body.now) methods.now) }
+    ensures done { IfOk result (λ u. map Some loaded.new
+        ≡ map Some loaded.old ++ map (loaded_method table.now «package» body.now) methods.now) }
+    ensures begins { take (length loaded.old) loaded.new ≡ loaded.old }
 {
     for method in methods {
-        put_method(alloc, laid, table, package, body, method)?;
+        put_method(alloc, loaded, table, package, body, method)?;
     }
     Ok(())
 }
 
 /// Puts the methods of a package behind others.
 #[tactic(auto, using(crate::proofs::Known::have_headers))]
-fn put_package(
+pub(crate) fn put_package(
     alloc: Global,
-    laid: &mut Laid,
+    loaded: &mut Methods,
     table: &ClassTable,
     package: u8,
     body: &LinkedBody,
 ) -> Result<(), AllocError>
     requires known { IsKnown table.now (home_at «package») body.now }
     requires first { 1 ≤ «package» }
-    ensures { IfOk result (λ u. map Some laid.new ≡ map Some laid.old ++ methods_of table.now «package» body.now) }
+    ensures done { IfOk result (λ u. map Some loaded.new
+        ≡ map Some loaded.old ++ methods_of table.now «package» body.now) }
+    ensures begins { take (length loaded.old) loaded.new ≡ loaded.old }
 {
     let kept = body.kept();
-    put_methods(alloc, laid, table, package, body, &kept.methods)
+    put_methods(alloc, loaded, table, package, body, &kept.methods)
 }
 
-/// The methods of all loaded packages.
-pub(crate) fn laid_of(alloc: Global, world: &World) -> Result<Laid, AllocError>
-    ensures { IfOk result (λ laid. AreLoaded world.now laid) }
+/// Puts the methods of all loaded packages behind others.
+pub(crate) fn put_all(alloc: Global, loaded: &mut Methods, world: &World) -> Result<(), AllocError>
+    requires first { loaded.old ≡ [] }
+    ensures { IfOk result (λ u. AreLoaded world.now loaded.new) }
 {
     let table = world.table();
     let bodies = world.bodies();
-    let mut laid = Laid::new(alloc);
     for at in 0..bodies.len() {
-        put_package(alloc, &mut laid, table, (at + 1) as u8, &bodies[at])?;
+        put_package(alloc, loaded, table, (at + 1) as u8, &bodies[at])?;
     }
-    Ok(laid)
+    Ok(())
 }

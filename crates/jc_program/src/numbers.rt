@@ -1,10 +1,9 @@
 //! Tables of the numbers of methods, by their names.
 
-ghost use Rattle.std.specs.Prelude.{◌≡◌, ℕ, ◌==◌, ◌&&◌, ◌<◌, None, Some, if◌then◌else◌, length, IfOk};
+ghost use Rattle.std.specs.Prelude.{◌≡◌, ℕ, ◌==◌, ◌&&◌, ◌<◌, None, Some, is_some, if◌then◌else◌, length, IfErr, IfOk};
 ghost use Rattle.std.specs.Option.{option_or};
-ghost use Rattle.jc_program.specs.PrivateLaid.{AreNumbers, number_in, place_at};
+ghost use Rattle.jc_program.specs.PrivateLaid.{below, number_in, place_at};
 
-use crate::laid::Laid;
 use std::alloc::{AllocError, Global};
 use std::marker::Model;
 
@@ -42,6 +41,25 @@ impl Place {
         Place { held: number + 1 }
     }
 
+    /// Whether it is a number below another one.
+    fn is_below(&self, count: usize) -> bool
+        ensures { result ≡ is_some (below count self.now) }
+    {
+        match self.number() {
+            Some(number) => (number as usize) < count,
+            None => false,
+        }
+    }
+
+    /// Takes the number away, if it isn't below another one.
+    fn forget(&mut self, count: usize)
+        ensures { self.new ≡ below count self.old }
+    {
+        if !self.is_below(count) {
+            *self = Place::none();
+        }
+    }
+
     #[inline]
     #[tactic(auto, unfolding(crate::specs::PrivateLaid::place_of))]
     fn number(&self) -> Option<u32>
@@ -72,7 +90,7 @@ impl Model for OffsetTable {
 /// Makes room for an offset.
 fn make_room(places: &mut Vec<Place>, offset: usize) -> Result<(), AllocError>
     ensures long { IfOk result (λ u. offset < length places.new.items) }
-    ensures same { IfOk result (λ u. (i : ℕ) → place_at places.new.items i ≡ place_at places.old.items i) }
+    ensures same { (i : ℕ) → place_at places.new.items i ≡ place_at places.old.items i }
 {
     while places.len() <= offset {
         places.push(Place::none())?;
@@ -83,15 +101,25 @@ fn make_room(places: &mut Vec<Place>, offset: usize) -> Result<(), AllocError>
 /// Puts a number at an offset, where none is there.
 fn put_first(places: &mut Vec<Place>, offset: usize, number: u32) -> Result<(), AllocError>
     requires few { number < 0xFFFF_FFFF }
-    ensures { IfOk result (λ u. (i : ℕ) → place_at places.new.items i
+    ensures done { IfOk result (λ u. (i : ℕ) → place_at places.new.items i
         ≡ (if offset == i then option_or (place_at places.old.items i) (Some number)
         else place_at places.old.items i)) }
+    ensures kept { IfErr result (λ e. (i : ℕ) → place_at places.new.items i ≡ place_at places.old.items i) }
 {
     make_room(places, offset)?;
     if places[offset].number().is_none() {
         places[offset] = Place::of(number);
     }
     Ok(())
+}
+
+/// Takes away the numbers from one on.
+fn forget_places(places: &mut Vec<Place>, count: usize)
+    ensures { (i : ℕ) → place_at places.new.items i ≡ below count (place_at places.old.items i) }
+{
+    for at in 0..places.len() {
+        places[at].forget(count);
+    }
 }
 
 impl OffsetTable {
@@ -115,10 +143,18 @@ impl OffsetTable {
     /// Puts a number at an offset, where none is there.
     fn put(&mut self, offset: usize, number: u32) -> Result<(), AllocError>
         requires few { number < 0xFFFF_FFFF }
-        ensures { IfOk result (λ u. (i : ℕ) → place_at self.new i
+        ensures done { IfOk result (λ u. (i : ℕ) → place_at self.new i
             ≡ (if offset == i then option_or (place_at self.old i) (Some number) else place_at self.old i)) }
+        ensures kept { IfErr result (λ e. (i : ℕ) → place_at self.new i ≡ place_at self.old i) }
     {
         put_first(&mut self.places, offset, number)
+    }
+
+    /// Takes away the numbers from one on.
+    fn forget(&mut self, count: usize)
+        ensures { (i : ℕ) → place_at self.new i ≡ below count (place_at self.old i) }
+    {
+        forget_places(&mut self.places, count);
     }
 }
 
@@ -137,7 +173,7 @@ fn make_package(
     package: usize,
 ) -> Result<(), AllocError>
     ensures long { IfOk result (λ u. «package» < length tables.new.items) }
-    ensures same { IfOk result (λ u. (p i : ℕ) → number_in tables.new.items p i ≡ number_in tables.old.items p i) }
+    ensures same { (p i : ℕ) → number_in tables.new.items p i ≡ number_in tables.old.items p i }
 {
     while tables.len() <= package {
         tables.push(OffsetTable::new(alloc))?;
@@ -154,35 +190,21 @@ pub(crate) fn put_number(
     number: u32,
 ) -> Result<(), AllocError>
     requires few { number < 0xFFFF_FFFF }
-    ensures { IfOk result (λ u. (p i : ℕ) → number_in tables.new.items p i
+    ensures done { IfOk result (λ u. (p i : ℕ) → number_in tables.new.items p i
         ≡ (if «package» == p && offset == i then option_or (number_in tables.old.items p i) (Some number)
         else number_in tables.old.items p i)) }
+    ensures kept { IfErr result (λ e. (p i : ℕ) → number_in tables.new.items p i ≡ number_in tables.old.items p i) }
 {
     make_package(alloc, tables, package)?;
     tables[package].put(offset, number)?;
     Ok(())
 }
 
-/// The numbers of methods by their names; of two with one name the first.
-pub(crate) fn numbers_of(alloc: Global, laid: &Laid) -> Result<Vec<OffsetTable>, AllocError>
-    ensures { IfOk result (λ tables. AreNumbers tables.items laid.now) }
+/// Takes away the numbers from one on.
+pub(crate) fn forget_numbers(tables: &mut Vec<OffsetTable>, count: usize)
+    ensures { (p i : ℕ) → number_in tables.new.items p i ≡ below count (number_in tables.old.items p i) }
 {
-    let mut tables = Vec::new(alloc);
-    for at in 0..laid.len() {
-        let Ok(number) = u32::try_from(at) else {
-            return Err(AllocError);
-        };
-        if number == u32::MAX {
-            return Err(AllocError);
-        }
-        let method = laid.method(at);
-        put_number(
-            alloc,
-            &mut tables,
-            usize::from(method.package),
-            usize::from(method.offset),
-            number,
-        )?;
+    for at in 0..tables.len() {
+        tables[at].forget(count);
     }
-    Ok(tables)
 }

@@ -1,21 +1,21 @@
 //! All tables of a world together.
 
-ghost use Rattle.std.specs.Prelude.{◌≡◌, length, IfOk};
-ghost use Rattle.jc_program.specs.Classes.{HaveWordOffsets, class_names};
-ghost use Rattle.jc_program.specs.Program.{IsGrownFrom, IsProgramOf};
-ghost use Rattle.jc_program.specs.Supertypes.{AreSupertypes};
+ghost use Rattle.std.specs.Prelude.{◌≡◌, IfOk};
+ghost use Rattle.jc_program.specs.Program.{IsGrownFrom, IsProgramOf, first_tables, program_size};
 
 use crate::class_rows::ClassRows;
 use crate::classes::Classes;
 use crate::entries::Entries;
 use crate::interfaces::InterfaceMethods;
+use crate::loading::put_package;
 use crate::member_tokens::MemberTokens;
 use crate::methods::Methods;
 use crate::superclasses::Superclasses;
 use crate::supertypes::Supertypes;
 use crate::virtuals::VirtualMethods;
 use crate::visible::VisibleMethods;
-use jc_link::World;
+use jc_classes::{ClassTable, growing_keeps_lookups};
+use jc_link::{World, built_worlds_are_sound, growing_keeps_linking};
 use std::alloc::{AllocError, Global};
 
 /// What a machine runs of a world: its methods and entries by number, and what it asks of a class by its number.
@@ -33,47 +33,27 @@ pub struct Program {
     pub member_tokens: MemberTokens,
 }
 
+/// How many methods, pools of constants and classes a program has.
+#[derive(Clone, Copy, Debug)]
+pub struct ProgramSize {
+    methods: usize,
+    pools: usize,
+    classes: usize,
+}
+
 impl Program {
     /// All tables of a world.
     pub fn new(alloc: Global, world: &World) -> Result<Program, AllocError>
         ensures { IfOk result (λ program. IsProgramOf world.now program) }
     {
-        let classes = Classes::new(alloc, world)?;
-        let supertypes = Supertypes::new(alloc, world, &classes)?;
-        Program::over(alloc, world, classes, supertypes)
-    }
-
-    /// All tables of a world that has one linked package more than the world of these. They share with these what a
-    /// package more leaves as it is.
-    #[tactic(auto, using(crate::proofs::Enlarging::rows_before))]
-    pub fn grown(&self, alloc: Global, world: &World) -> Result<Program, AllocError>
-        requires grown { IsGrownFrom self.now world.now }
-        ensures { IfOk result (λ program. IsProgramOf world.now program) }
-    {
-        let classes = Classes::new(alloc, world)?;
-        let supertypes = self.supertypes.grown(alloc, world, &classes)?;
-        Program::over(alloc, world, classes, supertypes)
-    }
-
-    /// All tables of a world, with those of its classes and of what these are below.
-    fn over(
-        alloc: Global,
-        world: &World,
-        classes: Classes,
-        supertypes: Supertypes,
-    ) -> Result<Program, AllocError>
-        requires names { classes ≡ class_names world.now.shapes }
-        requires offsets { HaveWordOffsets world.now.shapes }
-        requires above { AreSupertypes world.now.shapes classes supertypes }
-        requires count { length supertypes ≡ length classes }
-        ensures { IfOk result (λ program. IsProgramOf world.now program) }
-    {
         let methods = Methods::new(alloc, world)?;
         let entries = Entries::new(alloc, world, &methods)?;
+        let classes = Classes::new(alloc, world)?;
         let superclasses = Superclasses::new(alloc, world, &classes)?;
         let virtual_methods = VirtualMethods::new(alloc, world, &methods, &classes)?;
         let visible_methods = VisibleMethods::new(alloc, world, &methods, &classes)?;
         let interface_methods = InterfaceMethods::new(alloc, world, &methods, &classes)?;
+        let supertypes = Supertypes::new(alloc, world, &classes)?;
         let rows = ClassRows::new(alloc, world, &classes, &supertypes)?;
         let member_tokens = MemberTokens::new(alloc, world)?;
         Ok(Program {
@@ -88,5 +68,61 @@ impl Program {
             rows,
             member_tokens,
         })
+    }
+
+    /// How large it is.
+    pub fn size(&self) -> ProgramSize
+        ensures { result ≡ program_size self.now }
+    {
+        ProgramSize {
+            methods: self.methods.len(),
+            pools: self.entries.len(),
+            classes: self.classes.len(),
+        }
+    }
+
+    /// Puts the tables of the last package of a world behind these, which are those of the world without it. Where no
+    /// memory is left they begin with what they were: so much of it can be kept.
+    pub fn grow(&mut self, alloc: Global, world: &World) -> Result<(), AllocError>
+        requires grown { IsGrownFrom self.old world.now }
+        ensures done { IfOk result (λ u. IsProgramOf world.now self.new) }
+        ensures begins { first_tables self.new (program_size self.old) ≡ self.old }
+    {
+        growing_keeps_lookups();
+        growing_keeps_linking();
+        built_worlds_are_sound();
+        let table = world.table();
+        // Only its contract counts: what always holds of a table.
+        let _count = table.len();
+        let bodies = world.bodies();
+        let body = &bodies[bodies.len() - 1];
+        put_package(alloc, &mut self.methods, table, bodies.len() as u8, body)?;
+        self.entries.grow(alloc, &self.methods, body)?;
+        self.classes.grow(alloc, table)?;
+        self.superclasses.grow(alloc, table, &self.classes)?;
+        self.virtual_methods
+            .grow(alloc, table, &self.methods, &self.classes)?;
+        self.visible_methods
+            .grow(alloc, table, &self.methods, &self.classes)?;
+        self.interface_methods
+            .grow(alloc, table, &self.methods, &self.classes)?;
+        self.supertypes.grow(alloc, table, &self.classes)?;
+        self.rows.grow(table, &self.classes, &self.supertypes)?;
+        Ok(())
+    }
+
+    /// Keeps so much of it, the first.
+    pub fn take_back(&mut self, size: ProgramSize)
+        ensures { self.new ≡ first_tables self.old size }
+    {
+        self.methods.keep(size.methods);
+        self.entries.keep(size.pools);
+        self.classes.keep(size.classes);
+        self.superclasses.keep(size.classes);
+        self.virtual_methods.keep(size.classes);
+        self.visible_methods.keep(size.classes);
+        self.interface_methods.keep(size.classes);
+        self.supertypes.keep(size.classes);
+        self.rows.keep(size.classes);
     }
 }

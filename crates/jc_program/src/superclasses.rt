@@ -1,6 +1,6 @@
 //! The superclasses of a world's classes, by number.
 
-ghost use Rattle.std.specs.Prelude.{◌≡◌, ◌==◌, length, map, IfOk};
+ghost use Rattle.std.specs.Prelude.{◌≡◌, ◌≤◌, ◌==◌, ◌++◌, drop, length, map, take, IfErr, IfOk};
 ghost use Rattle.jc_program.specs.Classes.{superclass_at, superclass_number};
 
 use crate::classes::{ClassNumber, Classes};
@@ -55,6 +55,31 @@ impl Superclasses {
     {
         let above = superclasses_of(alloc, world.table(), classes, classes.names())?;
         Ok(Superclasses { above })
+    }
+
+    /// Puts the superclasses of the other classes of a world behind those of the first ones. Where no memory is left
+    /// they are as they were.
+    pub(crate) fn grow(
+        &mut self,
+        alloc: Global,
+        table: &ClassTable,
+        classes: &Classes,
+    ) -> Result<(), AllocError>
+        requires few { length self.old ≤ length classes.now }
+        ensures done { IfOk result (λ u. self.new
+            ≡ self.old ++ map (superclass_number table.now classes.now) (drop (length self.old) classes.now)) }
+        ensures kept { IfErr result (λ e. self.new ≡ self.old) }
+    {
+        let others = &classes.names()[self.above.len()..];
+        let mut more = superclasses_of(alloc, table, classes, others)?;
+        self.above.append(&mut more)
+    }
+
+    /// Keeps those of the first classes alone.
+    pub(crate) fn keep(&mut self, count: usize)
+        ensures { self.new ≡ take count self.old }
+    {
+        self.above.truncate(count);
     }
 
     /// For how many classes.

@@ -1,6 +1,7 @@
 //! What the classes of a world are below, by number.
 
-ghost use Rattle.std.specs.Prelude.{◌≡◌, ℕ, ◌+◌, ◌<◌, ◌≤◌, ◌==◌, ◌&&◌, ◌||◌, ◌++◌, length, map, slice_get, Some, IfOk};
+ghost use Rattle.std.specs.Prelude.{◌≡◌, ℕ, ◌+◌, ◌<◌, ◌≤◌, ◌==◌, ◌&&◌, ◌||◌, ◌++◌, length, map, slice_get};
+ghost use Rattle.std.specs.Prelude.{take, Some, IfOk};
 ghost use Rattle.std.specs.List.{filter_map};
 ghost use Rattle.std.specs.Option.{option_and_then, option_to_list};
 ghost use Rattle.jc_api.specs.declared.class.ApiClass.TheVariants.{Object};
@@ -17,10 +18,10 @@ ghost use Rattle.jc_names.specs.declared.name.ClassName.{ClassName as Name};
 ghost use Rattle.jc_names.specs.declared.name.ClassName.TheVariants.{Api};
 
 use crate::bit_row::BitRow;
-use crate::bit_rows::{NumberList, put_shared, settle};
+use crate::bit_rows::{NumberList, settle};
 use crate::classes::{ClassNumber, Classes};
 use jc_api::ApiClass;
-use jc_base::{ClassRef, Shared};
+use jc_base::ClassRef;
 use jc_classes::{Class, ClassTable, found_subtypes_are_subtypes, growing_keeps_lookups};
 use jc_link::World;
 use jc_names::ClassName;
@@ -229,7 +230,7 @@ fn rows_behind(
     alloc: Global,
     table: &ClassTable,
     classes: &Classes,
-    made: &[Shared<BitRow>],
+    made: &[BitRow],
 ) -> Result<Vec<BitRow>, AllocError>
     requires small { IsSmall table.now }
     requires few { length made.now ≤ length classes.now }
@@ -246,53 +247,18 @@ fn rows_behind(
     Ok(rows)
 }
 
-/// The same rows, shared.
-fn shared_again(alloc: Global, rows: &[Shared<BitRow>]) -> Result<Vec<Shared<BitRow>>, AllocError>
-    ensures { IfOk result (λ made. made.items ≡ rows.now) }
-{
-    let mut made = Vec::with_capacity(alloc, rows.len())?;
-    for row in rows {
-        made.push(row.share()?)?;
-    }
-    Ok(made)
-}
-
-/// Rows of the first classes, and those of the others behind them.
-fn all_rows(
-    alloc: Global,
-    table: &ClassTable,
-    classes: &Classes,
-    first: Vec<Shared<BitRow>>,
-) -> Result<Vec<Shared<BitRow>>, AllocError>
-    requires small { IsSmall table.now }
-    requires few { length first.items ≤ length classes.now }
-    requires right { AreRight table.now classes.now first.items }
-    requires within { AreWithin (length classes.now) first.items }
-    ensures above { IfOk result (λ rows. AreSupertypes table.now classes.now rows.items) }
-    ensures count { IfOk result (λ rows. length rows.items ≡ length classes.now) }
-    ensures within { IfOk result (λ rows. AreWithin (length classes.now) rows.items) }
-{
-    let mut rows = first;
-    let made = rows_behind(alloc, table, classes, &rows)?;
-    put_shared(alloc, &mut rows, made)?;
-    Ok(rows)
-}
-
 /// For each class and interface of a world those that it is below: a bit for each number.
 #[derive(Drop)]
 pub struct Supertypes {
-    rows: Vec<Shared<BitRow>>,
+    rows: Vec<BitRow>,
 }
 
 impl Model for Supertypes {
-    ghost use Rattle.std.specs.Prelude.{ℕ, List, length};
-    ghost use Rattle.jc_program.specs.PrivateSupertypes.{AreWithin};
+    ghost use Rattle.std.specs.Prelude.{ℕ, List};
 
     ghost Value = { List (List ℕ) };
 
     ghost view = { λ s. s.rows.items };
-
-    ghost invariant = { λ s. AreWithin (length s.rows.items) s.rows.items };
 }
 
 impl Supertypes {
@@ -301,34 +267,42 @@ impl Supertypes {
     pub fn new(alloc: Global, world: &World, classes: &Classes) -> Result<Supertypes, AllocError>
         ensures above { IfOk result (λ rows. AreSupertypes world.now.shapes classes.now rows) }
         ensures count { IfOk result (λ rows. length rows ≡ length classes.now) }
+        ensures known { IfOk result (AreWithin (length classes.now)) }
     {
         let table = world.table();
         // Only its contract counts: what always holds of a table.
         let _count = table.len();
-        let rows = all_rows(alloc, table, classes, Vec::new(alloc))?;
+        let rows = rows_behind(alloc, table, classes, &[])?;
         Ok(Supertypes { rows })
     }
 
-    /// What these classes of a world are below, which has one package more than that whose rows these are. The rows of
-    /// the classes that were there are shared.
-    pub(crate) fn grown(
-        &self,
+    /// Puts the rows of the other classes of a world behind those of the first ones: it has one package more than that
+    /// whose rows these are. Where no memory is left they are as they were.
+    pub(crate) fn grow(
+        &mut self,
         alloc: Global,
-        world: &World,
+        table: &ClassTable,
         classes: &Classes,
-    ) -> Result<Supertypes, AllocError>
-        requires before { AreRowsBefore world.now.shapes classes.now self.now }
-        ensures above { IfOk result (λ rows. AreSupertypes world.now.shapes classes.now rows) }
-        ensures count { IfOk result (λ rows. length rows ≡ length classes.now) }
+    ) -> Result<(), AllocError>
+        requires before { AreRowsBefore table.now classes.now self.old }
+        ensures above { IfOk result (λ u. AreSupertypes table.now classes.now self.new) }
+        ensures count { IfOk result (λ u. length self.new ≡ length classes.now) }
+        ensures known { IfOk result (λ u. AreWithin (length classes.now) self.new) }
+        ensures begins { take (length self.old) self.new ≡ self.old }
     {
         found_subtypes_are_subtypes();
         growing_keeps_lookups();
-        let table = world.table();
         // Only its contract counts: what always holds of a table.
         let _count = table.len();
-        let shared = shared_again(alloc, &self.rows)?;
-        let rows = all_rows(alloc, table, classes, shared)?;
-        Ok(Supertypes { rows })
+        let mut made = rows_behind(alloc, table, classes, &self.rows)?;
+        self.rows.append(&mut made)
+    }
+
+    /// Keeps those of the first classes alone.
+    pub(crate) fn keep(&mut self, count: usize)
+        ensures { self.new ≡ take count self.old }
+    {
+        self.rows.truncate(count);
     }
 
     /// For how many classes.
@@ -352,7 +326,7 @@ impl Supertypes {
         ensures { result ≡ is_listed self.now number other }
     {
         match self.rows.get(usize::from(number.index())) {
-            Some(row) => row.get().has(other.index()),
+            Some(row) => row.has(other.index()),
             None => false,
         }
     }

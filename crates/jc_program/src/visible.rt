@@ -1,6 +1,6 @@
 //! The package-visible virtual methods of a world's classes, by number, token and package.
 
-ghost use Rattle.std.specs.Prelude.{◌≡◌, ◌+◌, ◌==◌, [], length, IfOk};
+ghost use Rattle.std.specs.Prelude.{◌≡◌, ◌+◌, ◌≤◌, ◌==◌, [], length, take, IfOk};
 ghost use Rattle.jc_link.specs.Sound.{IsSound};
 ghost use Rattle.jc_program.specs.Called.{AreVisible, visible_at};
 ghost use Rattle.jc_program.specs.PrivateCalled.{AreListed, HasNoPlaceFrom, HasPlaces, HasVisible};
@@ -38,7 +38,7 @@ fn put_place(
     place: u16,
 ) -> Result<(), AllocError>
     requires first { HasPlaces table.now methods.now class place lists.old.last }
-    ensures whole { IfOk result (λ u. lists.new.whole ≡ lists.old.whole) }
+    ensures whole { lists.new.whole ≡ lists.old.whole }
     ensures last { IfOk result (λ u. HasPlaces table.now methods.now class (place + 1) lists.new.last) }
 {
     let tokens = table.visible_tokens(class, usize::from(place));
@@ -51,6 +51,7 @@ fn put_place(
 }
 
 /// Makes the tables of a class.
+#[tactic(auto, using(crate::proofs::Showing::all_visible, crate::proofs::Showing::no_place))]
 fn put_visible(
     alloc: Global,
     lists: &mut KeyedLists,
@@ -60,7 +61,7 @@ fn put_visible(
 ) -> Result<(), AllocError>
     requires sound { IsSound table.now }
     requires first { lists.old.last ≡ [] }
-    ensures whole { IfOk result (λ u. lists.new.whole ≡ lists.old.whole) }
+    ensures whole { lists.new.whole ≡ lists.old.whole }
     ensures last { IfOk result (λ u. HasVisible table.now methods.now class lists.new.last) }
 {
     let places = short_of(places_of(table, class))?;
@@ -70,23 +71,27 @@ fn put_visible(
     Ok(())
 }
 
-/// The tables of classes.
-fn lists_of(
+/// Puts the tables of the other classes behind those of the first ones.
+fn put_lists(
     alloc: Global,
+    lists: &mut KeyedLists,
     table: &ClassTable,
     methods: &Methods,
     names: &[ClassName],
-) -> Result<KeyedLists, AllocError>
+) -> Result<(), AllocError>
     requires sound { IsSound table.now }
-    ensures { IfOk result (λ lists. AreListed (HasVisible table.now methods.now)
-        names.now (length names.now) lists.whole) }
+    requires first { AreListed (HasVisible table.now methods.now) names.now (length lists.old.whole) lists.old.whole }
+    requires few { length lists.old.whole ≤ length names.now }
+    ensures done { IfOk result (λ u. AreListed (HasVisible table.now methods.now)
+        names.now (length names.now) lists.new.whole) }
+    ensures begins { take (length lists.old.whole) lists.new.whole ≡ lists.old.whole }
 {
-    let mut lists = KeyedLists::new(alloc);
-    for at in 0..names.len() {
-        put_visible(alloc, &mut lists, table, methods, names[at])?;
+    for at in lists.len()..names.len() {
+        lists.begin();
+        put_visible(alloc, lists, table, methods, names[at])?;
         lists.close()?;
     }
-    Ok(lists)
+    Ok(())
 }
 
 /// For each class of a world what its package-visible methods are: for each package in which it or a superclass
@@ -107,7 +112,7 @@ impl Model for VisibleMethods {
 
 impl VisibleMethods {
     /// The package-visible methods of these classes in a world, with these methods with code.
-    #[tactic(auto, using(crate::proofs::Showing::are_visible))]
+    #[tactic(auto, using(crate::proofs::Showing::are_visible, crate::proofs::Calling::none_listed_yet))]
     pub fn new(
         alloc: Global,
         world: &World,
@@ -121,8 +126,35 @@ impl VisibleMethods {
         // Only its contract counts: what always holds of a table.
         let _count = table.len();
         built_worlds_are_sound();
-        let lists = lists_of(alloc, table, methods, classes.names())?;
+        let mut lists = KeyedLists::new(alloc);
+        put_lists(alloc, &mut lists, table, methods, classes.names())?;
         Ok(VisibleMethods { lists })
+    }
+
+    /// Puts the package-visible methods of the other classes of a world behind those of the first ones.
+    #[tactic(auto, using(crate::proofs::Showing::are_visible))]
+    pub(crate) fn grow(
+        &mut self,
+        alloc: Global,
+        table: &ClassTable,
+        methods: &Methods,
+        classes: &Classes,
+    ) -> Result<(), AllocError>
+        requires sound { IsSound table.now }
+        requires first { AreListed (HasVisible table.now methods.now) classes.now (length self.old) self.old }
+        requires few { length self.old ≤ length classes.now }
+        ensures visible { IfOk result (λ u. AreVisible table.now methods.now classes.now self.new) }
+        ensures count { IfOk result (λ u. length self.new ≡ length classes.now) }
+        ensures begins { take (length self.old) self.new ≡ self.old }
+    {
+        put_lists(alloc, &mut self.lists, table, methods, classes.names())
+    }
+
+    /// Keeps those of the first classes alone.
+    pub(crate) fn keep(&mut self, count: usize)
+        ensures { self.new ≡ take count self.old }
+    {
+        self.lists.keep(count);
     }
 
     /// For how many classes.

@@ -12,8 +12,8 @@ last_of bodies all body n d is at =
     let place : n ≡ length bodies = omega (arith, at, size) in
     rw (is, place) (get_or-append_seam bodies body [] d)
 
-pub grown-requires : goal.grown-requires
-grown-requires c = grind arith
+pub grow-requires : goal.grow-requires
+grow-requires c = grind arith
 
 pub returns-in-Ok-load-clause-machine : goal.returns-in-Ok-load-clause-machine
 returns-in-Ok-load-clause-machine c = grind (arith, last_of)

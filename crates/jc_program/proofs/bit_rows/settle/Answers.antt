@@ -1,15 +1,10 @@
-use Rattle.std.proofs.Common.{◌++◌, subst, ◌∙◌, length}
-use Rattle.jc_program.specs.PrivateBitRows.{ArePassed, IsRightAbove}
+use Rattle.std.proofs.Common.{◌++◌, ◌∙◌, length, arith}
+use Rattle.jc_program.specs.PrivateBitRows.{IsRightAbove}
 use Rattle.jc_program.proofs.Rising.{risen_more, settled}
 use Rattle.jc_program.proofs.bit_rows.settle.Goals as goal
 
 pub returns-then-not-branch-clause-settled : goal.returns-then-not-branch-clause-settled
-returns-then-not-branch-clause-settled c =
-    let made = c.args.made.now in
-    let above = IsRightAbove (length made) (length c.args.above.now) c.args.above.now in
-    settled above (made ++ c.args.rows.now) (made ++ c.loop.rows) (made ++ c.pass.new.rows) c.loop.invariant.risen
-    (subst (ArePassed above (made ++ c.loop.rows) (made ++ c.pass.new.rows)) c.if-not-branch.true
-    c.in_ok-pass.ensures.passed)
+returns-then-not-branch-clause-settled c = grind (arith, length, settled)
 
 pub loop-preserved : goal.loop-preserved
 loop-preserved c =

@@ -1,30 +1,16 @@
-use Rattle.std.proofs.Common.{◌++◌, ◌+◌, [], append-nil, drop, slice_get, sym, ap, ◌∙◌, arith}
+use Rattle.std.proofs.Common.{◌++◌, append-nil, drop, slice_get, sym, ap, ◌∙◌, arith}
 use Rattle.std.proofs.Math.ListN.{drop_of_length-le}
-use Rattle.std.specs.Option.{option_map_or}
 use Rattle.jc_cap_desc.specs.Shape.{Shape}
-use Rattle.jc_program.specs.Classes.{StandAtWords, names_from, names_in}
+use Rattle.jc_program.specs.Classes.{StandAtWords, names_from}
 use Rattle.jc_program.proofs.Naming.{package_more}
 use Rattle.jc_program.proofs.Wording.{each_and_next, holds_of_all}
 use Rattle.jc_program.proofs.classes.names_of.Goals as goal
 
 pub loop-at-init : goal.loop-at-init
-loop-at-init c = record {
-  names = ap (λ ns. ns ++ names_from 0 c.args.table.now) c.new-names.ensures.items;
-  offsets = λ home shape less. absurd (omega (arith, less));
-}
+loop-at-init c = grind arith
 
 pub loop-at-preserved : goal.loop-at-preserved
-loop-at-preserved c =
-    let world = c.args.table.now in
-    let at = c.loop-at.at in
-    let names = c.loop-at.names.items in
-    let so_far = c.loop-at.invariant in record {
-      names = ap (λ ns. ns ++ names_from (at + 1) (drop (at + 1) world)) (c.in_ok-put_package.ensures.names
-          ∙ ap (λ home. names ++ option_map_or (names_in home) (slice_get world home) []) c.new.ensures)
-          ∙ package_more world names _ at so_far.names (omega (arith, c.loop-at-test.true, c.len-at-end.ensures.count));
-      offsets = each_and_next (λ (shape : Shape). StandAtWords shape.classes) world at so_far.offsets
-          (λ shape there. c.in_ok-put_package.ensures.offsets shape (ap (slice_get world) c.new.ensures ∙ there));
-    }
+loop-at-preserved c = grind (arith, drop, slice_get, package_more, each_and_next)
 
 pub returns : goal.returns
 returns c =

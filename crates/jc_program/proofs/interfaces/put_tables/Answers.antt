@@ -1,6 +1,6 @@
 use Rattle.std.proofs.Common.{sym, subst, arith}
-use Rattle.jc_program.specs.PrivateCalled.{HasInterfaces, table_for}
-use Rattle.jc_program.proofs.Interfacing.{all_listed}
+use Rattle.jc_program.specs.PrivateCalled.{HasListed, table_for}
+use Rattle.jc_program.proofs.Interfacing.{rows_listed}
 use Rattle.jc_program.proofs.Naming.{all_named}
 use Rattle.jc_program.proofs.interfaces.put_tables.Goals as goal
 
@@ -10,7 +10,7 @@ returns-clause-last c =
     let methods = c.args.methods.now in
     let names = c.args.classes.now in
     let rows = c.listed_by-rows.result.now in
-    subst (HasInterfaces world methods names c.args.class)
+    subst (HasListed world methods names c.args.class)
     (sym (all_named (table_for world methods names c.args.class) rows c.loop-row.lists.last _ c.loop-row.row-index
     c.loop-row.invariant.last (omega (arith, c.loop-row-test.false))))
-    (all_listed world methods names c.args.class rows c.listed_by-rows.ensures)
+    (rows_listed world methods names c.args.class rows c.listed_by-rows.ensures)

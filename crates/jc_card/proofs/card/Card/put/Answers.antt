@@ -25,9 +25,9 @@ invariant_of-self-2 c =
       card = with_package card c.args.linked;
       holds = holds_behind c.loads_stay_typed.ensures c.loads_stay_in_agreement.ensures c.loads_keep_fitting.ensures k
           card h c.args.linked bound accepted room c.is_word.ensures
-          (length c.bodies.result.now + 1) number c.grow.new.world c.in_ok-self-inside.ensures.world
-          c.in_ok-self-inside.field-0 c.in_ok-self-inside.ensures.program c.grow.new.machine
-          c.in_ok-self-inside.ensures.machine;
+          (length c.bodies.result.now + 1) number c.grow.new.world c.in_ok-grow.ensures.world
+          c.grow.new.program c.in_ok-grow.ensures.program c.grow.new.machine
+          c.in_ok-grow.ensures.machine;
     }
 
 pub returns-clause-done : goal.returns-clause-done
@@ -43,7 +43,7 @@ returns-clause-done c card holds =
       number,
       holds_behind c.loads_stay_typed.ensures c.loads_stay_in_agreement.ensures c.loads_keep_fitting.ensures k
           card h c.args.linked bound accepted room c.is_word.ensures
-          (length c.bodies.result.now + 1) number c.grow.new.world c.in_ok-self-inside.ensures.world
-          c.in_ok-self-inside.field-0 c.in_ok-self-inside.ensures.program c.grow.new.machine
-          c.in_ok-self-inside.ensures.machine,
+          (length c.bodies.result.now + 1) number c.grow.new.world c.in_ok-grow.ensures.world
+          c.grow.new.program c.in_ok-grow.ensures.program c.grow.new.machine
+          c.in_ok-grow.ensures.machine,
     )

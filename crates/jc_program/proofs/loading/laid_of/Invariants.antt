@@ -1,7 +1,0 @@
-use Rattle.std.proofs.Common.{◌≡◌, suc, ◌++◌, drop, map, Some}
-use Rattle.jc_program.specs.Methods.{methods_from}
-use Rattle.jc_program.proofs.loading.laid_of.Given as goal
-
-abbrev pub invariant-loop-at : goal.invariant-loop-at
-invariant-loop-at l =
-    map Some l.laid ++ methods_from l.table (suc l.at) (drop l.at l.bodies) ≡ methods_from l.table 1 l.bodies

@@ -1,4 +1,4 @@
-use Rattle.std.proofs.Common.{rules, ◌≡◌, ◌≢◌, ◌≤◌, [], length}
+use Rattle.std.proofs.Common.{rules, ◌≡◌, ◌≢◌, ◌≤◌, [], length, arith}
 use Rattle.std.proofs.lemmas.Result.{IfErr-weaker, err_from_is_err_and}
 use Rattle.jc_verify.proofs.Lists.{none_left}
 use Rattle.jc_verify.proofs.Refusing.{never_refused, never_stopped}
@@ -22,13 +22,7 @@ returns-clause-refused c =
     never_refused rules m states k c.listing_laws.ensures.all decodes found.0 c.in_ok-starts.starts c.requires.short found.1 fault off pc reason is) c.follow_all.ensures.refused
 
 pub returns-clause-found : goal.returns-clause-found
-returns-clause-found c =
-    let m = c.args.method.now in
-    let found = rw c.code-code.ensures at c.in_ok-starts.ensures.ok in
-    let stand = rw c.handlers.ensures at c.in_ok-stand_handlers.ensures.ok in
-    let some : m.code ≢ [] = search rules in
-    let ground : IsGround m found.0 c.in_ok-starts.starts = record { laws = c.listing_laws.ensures.all; short = c.requires.short; decoded = found.1; handlers = stand m.code found.0 found.1 } in
-    if_ok c.follow_all.result _ _ c.follow_all.ensures.found (λ entries of. record { listing = found.0; whole = found.1.whole; some = some; handlers = ground.handlers; found = of found.0 ground })
+returns-clause-found c = grind (arith, rules, if_ok)
 
 pub returns-in_err-starts-clause-told : goal.returns-in_err-starts-clause-told
 returns-in_err-starts-clause-told c =

@@ -1,13 +1,10 @@
-use Rattle.std.proofs.Common.{◌≡◌, true, false, sym, ◌∙◌}
-use Rattle.jc_code.specs.Targets.{falls_of}
+use Rattle.std.proofs.Common.{sym, ◌∙◌, arith}
 use Rattle.jc_verify.proofs.Passing.{led_as, led_none}
 use Rattle.jc_verify.proofs.Visiting.{if_ok}
 use Rattle.jc_verify.proofs.entries.fall.Goals as goal
 
 pub returns-then-not-falls_through-clause-led : goal.returns-then-not-falls_through-clause-led
-returns-then-not-falls_through-clause-led c =
-    let stops : falls_of c.args.instr.now.operation ≡ false = sym c.falls_through.ensures ∙ c.if-not-falls_through.true in
-    led_none c.args.followed.now (λ falls. let e : true ≡ false = sym falls ∙ stops in absurd cc)
+returns-then-not-falls_through-clause-led c = grind (arith, led_none)
 
 pub returns-clause-led : goal.returns-clause-led
 returns-clause-led c =

@@ -1,13 +1,10 @@
-use Rattle.std.proofs.Common.{◌≡◌, true, false, sym, ◌∙◌}
-use Rattle.jc_check.specs.Method.{covers}
+use Rattle.std.proofs.Common.{sym, ◌∙◌, arith}
 use Rattle.jc_verify.proofs.Passing.{led_as, led_none}
 use Rattle.jc_verify.proofs.Visiting.{if_ok}
 use Rattle.jc_verify.proofs.entries.handle.Goals as goal
 
 pub returns-then-not-covers-clause-led : goal.returns-then-not-covers-clause-led
-returns-then-not-covers-clause-led c =
-    let off : covers c.args.handler.now c.args.pc ≡ false = sym c.covers.ensures ∙ c.if-not-covers.true in
-    led_none c.args.followed.now (λ on. let e : true ≡ false = sym on ∙ off in absurd cc)
+returns-then-not-covers-clause-led c = grind (arith, led_none)
 
 pub returns-clause-led : goal.returns-clause-led
 returns-clause-led c =

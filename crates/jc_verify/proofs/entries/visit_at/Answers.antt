@@ -1,4 +1,4 @@
-use Rattle.std.proofs.Common.{sym, ◌∙◌}
+use Rattle.std.proofs.Common.{sym, ◌∙◌, arith}
 use Rattle.jc_verify.proofs.Entering.{if_err_refused, never_stops, reached_now}
 use Rattle.jc_verify.proofs.Starting.{placed_here}
 use Rattle.jc_verify.proofs.Visiting.{if_ok}
@@ -12,11 +12,7 @@ returns-in-Ok-clause-followed c =
     on listing ground (placed_here ground.laws m.code listing c.args.pc c.in-Ok.instr ground.decoded.whole (reached_now m listing c.args.pc c.args.followed.now h).begin decoded) h)
 
 pub returns-in-Ok-clause-refused : goal.returns-in-Ok-clause-refused
-returns-in-Ok-clause-refused c =
-    let m = c.args.method.now in
-    let decoded = rw (c.code.ensures, c.from.ensures) at (sym c.in-Ok.ensures.instr) in
-    if_err_refused c.visit.result _ _ c.visit.ensures.refused (λ pc reason off listing ground h.
-    off listing ground (placed_here ground.laws m.code listing c.args.pc c.in-Ok.instr ground.decoded.whole (reached_now m listing c.args.pc c.args.followed.now h).begin decoded) h)
+returns-in-Ok-clause-refused c = grind (arith, if_err_refused, placed_here, reached_now)
 
 pub returns-in-Err-clause-refused : goal.returns-in-Err-clause-refused
 returns-in-Err-clause-refused c =

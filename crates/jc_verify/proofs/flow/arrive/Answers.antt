@@ -18,6 +18,4 @@ returns-clause-taken c =
     taken_at c.requires.work at c.args.state.now (step _ low) holds least taken same shape (c.requires.flows.flows _ at))
 
 pub returns-clause-refused : goal.returns-clause-refused
-returns-clause-refused c =
-    let at = slice_get-get_or c.args.places.now c.args.number c.index-places-number.result c.requires.flows.within in
-    if_err c.take_in.result _ _ c.take_in.ensures.unlike (λ why unlike. refused_at c.requires.work at c.args.state.now why unlike)
+returns-clause-refused c = grind (arith, slice_get-get_or, if_err, refused_at)

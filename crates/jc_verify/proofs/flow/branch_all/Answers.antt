@@ -10,7 +10,6 @@ use Rattle.jc_verify.proofs.Passing.{all_at, contains_at}
 use Rattle.jc_verify.proofs.Reaching.{unled_in}
 use Rattle.jc_verify.proofs.Taking.{passed_none, passed_one, taken_as}
 use Rattle.jc_verify.proofs.Lying.{branch_at}
-use Rattle.jc_verify.specs.PrivateWork.{IsBranchsWay}
 use Rattle.jc_verify.proofs.flow.branch_all.Goals as goal
 
 pub loop-index-init : goal.loop-index-init
@@ -22,9 +21,7 @@ loop-index-preserved c =
     passed_one _ _ c.loop-index.index _ at c.loop-index.invariant (taken_as c.in_ok-branch_to.ensures.taken (λ typing leads. leads _ at) (λ typing leads place is. branch_at c.targets-targets.result c.loop-index.index at is leads))
 
 pub branch_to-requires-clause-way : goal.branch_to-requires-clause-way
-branch_to-requires-clause-way c place e =
-    let ways : AllByRecursion (IsBranchsWay c.args.flow.now c.args.state.now.types) c.targets-targets.result = rw c.targets-targets.ensures c.requires.ways in
-    all_at _ c.targets-targets.result c.loop-index.index place e ways
+branch_to-requires-clause-way c place e = grind (arith, all_at)
 
 pub returns-in_err-branch_to-clause-refused : goal.returns-in_err-branch_to-clause-refused
 returns-in_err-branch_to-clause-refused c =

@@ -1,12 +1,10 @@
-use Rattle.std.proofs.Common.{rules, ◌≡◌, arith, ap, subst, sym}
+use Rattle.std.proofs.Common.{rules, ◌≡◌, arith, ap}
 use Rattle.std.proofs.lemmas.Result.{err_from_is_err_and}
 use Rattle.jc_check.specs.Method.{Method, caught_types}
-use Rattle.jc_types.specs.State.{Types}
 use Rattle.jc_verify.proofs.Denying.{falls_in, no_room, refused_for, refuses_on}
 use Rattle.jc_verify.proofs.Reaching.{meets_reached}
 use Rattle.jc_verify.proofs.Taking.{taken_as}
 use Rattle.jc_verify.specs.PrivateTold.{caught_no_room, caught_unlike}
-use Rattle.jc_verify.specs.PrivateWork.{FlowsTo}
 use Rattle.jc_verify.proofs.flow.catch_at.Goals as goal
 
 pub returns-then-method-eq0-clause-refused : goal.returns-then-method-eq0-clause-refused
@@ -18,15 +16,10 @@ returns-then-method-eq0-clause-refused c =
     })
 
 pub flow_to-requires-clause-flows : goal.flow_to-requires-clause-flows
-flow_to-requires-clause-flows c =
-    let types : c.load.new.self.types ≡ caught_types c.args.class c.args.state.now.types = search rules in
-    rw c.from.ensures (subst (λ (t : Types). FlowsTo c.args.flow.now c.args.goes_on t) (sym types) c.requires.flows.flows)
+flow_to-requires-clause-flows c = grind (arith, rules)
 
 pub returns-clause-taken : goal.returns-clause-taken
-returns-clause-taken c =
-    let types : c.load.new.self.types ≡ caught_types c.args.class c.args.state.now.types = search rules in
-    let taken = rw (c.from.ensures, types) at c.in_ok-flow_to.ensures.taken in
-    taken_as taken (λ typing falls. falls_in c.args.flow.now _ c.requires.flows.place falls) (λ typing leads. leads)
+returns-clause-taken c = grind (arith, rules, taken_as, falls_in)
 
 pub returns-in_err-flow_to-clause-refused : goal.returns-in_err-flow_to-clause-refused
 returns-in_err-flow_to-clause-refused c =

@@ -1,4 +1,4 @@
-use Rattle.std.proofs.Common.{sym}
+use Rattle.std.proofs.Common.{sym, arith}
 use Rattle.std.proofs.lemmas.Result.{err_from_is_err_and}
 use Rattle.jc_verify.proofs.Denying.{refuses_on}
 use Rattle.jc_verify.proofs.Reaching.{flows_within}
@@ -9,9 +9,7 @@ pub arrive-requires-clause-flows : goal.arrive-requires-clause-flows
 arrive-requires-clause-flows c = rw c.from.ensures (flows_into c.requires.work (sym c.in-Some.ensures) c.requires.flows)
 
 pub returns-in_ok-arrive-in-Some-clause-taken : goal.returns-in_ok-arrive-in-Some-clause-taken
-returns-in_ok-arrive-in-Some-clause-taken c =
-    let taken = rw c.from.ensures at c.in_ok-arrive-in-Some.ensures.taken in
-    taken_as taken (λ typing leads. leads c.args.pc (sym c.in-Some.ensures)) (λ typing leads. leads_into c.requires.work (sym c.in-Some.ensures) leads)
+returns-in_ok-arrive-in-Some-clause-taken c = grind (arith, taken_as, leads_into)
 
 pub returns-in-None-clause-taken : goal.returns-in-None-clause-taken
 returns-in-None-clause-taken c = taken_none c.requires.work (λ typing. (flows_within c.requires.work.sound c.args.pc c.args.state.now.types c.requires.flows, sym c.in-None.ensures))

@@ -1,7 +1,6 @@
-use Rattle.std.proofs.Common.{◌≡◌, true, false, sym, ◌∙◌}
+use Rattle.std.proofs.Common.{◌≡◌, true, false, sym, ◌∙◌, arith}
 use Rattle.std.proofs.lemmas.Option.{none-some}
-use Rattle.jc_check.specs.Method.{Handler, covers}
-use Rattle.std.proofs.Common.{ap}
+use Rattle.jc_check.specs.Method.{covers}
 use Rattle.jc_verify.proofs.Denying.{refuses_on}
 use Rattle.jc_verify.proofs.Lying.{catch_here, catch_on, uncaught_here, way_here}
 use Rattle.jc_verify.proofs.Taking.{taken_as, taken_none}
@@ -23,13 +22,7 @@ returns-in-Some-clause-taken c =
     taken_as taken (λ typing leads on. catch_on _ c.handler.view_is c.in-Some.class c.in-Some.is leads) (λ typing leads. catch_here _ c.handler.view_is c.in-Some.class c.in-Some.is (leads covered)))
 
 pub returns-in-Some-clause-refused : goal.returns-in-Some-clause-refused
-returns-in-Some-clause-refused c =
-    let covered = sym c.covers.ensures ∙ c.if-not-covers.false in
-    if_err c.catch_at.result _ _ c.catch_at.ensures.refused (λ stop refused.
-    refuses_on refused (λ typing carrier under leads. (under, catch_here _ c.handler.view_is c.in-Some.class c.in-Some.is (leads covered)))
-    (λ reason why. uncaught_here _ c.handler.view_is c.in-Some.class c.in-Some.is covered why))
+returns-in-Some-clause-refused c = grind (arith, if_err, refuses_on, catch_here, uncaught_here)
 
 pub returns-in-None-clause-refused : goal.returns-in-None-clause-refused
-returns-in-None-clause-refused c =
-    let way = c.requires.way (sym c.covers.ensures ∙ c.if-not-covers.false) in
-    absurd (none-some way.class (sym c.in-None.is ∙ ap (λ (x : Handler). x.caught) c.handler.view_is ∙ way.catches))
+returns-in-None-clause-refused c = grind (arith, none-some)

@@ -1,4 +1,4 @@
-use Rattle.std.proofs.Common.{List, length, refl, subst, sym}
+use Rattle.std.proofs.Common.{List, length, refl, subst, sym, arith}
 use Rattle.std.specs.List.{AllByRecursion, Contains}
 use Rattle.jc_check.specs.Method.{Handler}
 use Rattle.jc_check.specs.Package.{package_rules}
@@ -8,7 +8,6 @@ use Rattle.std.proofs.lemmas.Result.{err_from_is_err_and}
 use Rattle.jc_verify.proofs.Denying.{refuses_on}
 use Rattle.jc_verify.proofs.Passing.{all_at, contains_at}
 use Rattle.jc_verify.proofs.Taking.{passed_none, passed_one}
-use Rattle.jc_verify.specs.PrivateWork.{IsHandlersWay}
 use Rattle.jc_verify.proofs.flow.handle_all.Goals as goal
 
 pub loop-index-init : goal.loop-index-init
@@ -21,11 +20,7 @@ loop-index-preserved c =
     record { passed = passed_one _ _ c.loop-index.index c.index-handlers-index.result at c.loop-index.invariant.passed c.in_ok-handle.ensures.taken; caught = c.handle.ensures.caught }
 
 pub handle-requires-clause-way : goal.handle-requires-clause-way
-handle-requires-clause-way c =
-    let handlers = c.handlers-handlers.result.now in
-    let at = slice_get_read handlers (length handlers) c.loop-index.index c.index-handlers-index.result refl c.loop-index-test.true c.index-handlers-index.is in
-    let ways : AllByRecursion (IsHandlersWay c.args.flow.now c.args.pc c.args.state.now.types) handlers = rw c.handlers-handlers.ensures c.requires.ways in
-    all_at _ handlers c.loop-index.index c.index-handlers-index.result at ways
+handle-requires-clause-way c = grind (arith, slice_get_read, length, all_at)
 
 pub returns-in_err-handle-clause-refused : goal.returns-in_err-handle-clause-refused
 returns-in_err-handle-clause-refused c =

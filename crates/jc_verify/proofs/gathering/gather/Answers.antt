@@ -24,10 +24,7 @@ returns-in-Ok-clause-gathered c =
     c.in-Ok.ensures.inferred (subst (λ o. IsPut o states before (rows c.put_states.new.gathered.rows.items)) (sym same) is_put)))
 
 pub returns-then-is_passed_over-clause-gathered : goal.returns-then-is_passed_over-clause-gathered
-returns-then-is_passed_over-clause-gathered c n at so_far =
-    let same = ap (λ (b : MethodBody). b.offset) c.body.view_is in
-    let t = is_passed c.args.gathered.now.told _ (sym c.is_passed_over.ensures ∙ c.if-is_passed_over.true) in
-    passed_over c.args.linked.now n c.args.body.now at c.args.gathered.now so_far t.0 t.1 (omega (arith, t.2, same))
+returns-then-is_passed_over-clause-gathered c n at so_far = grind (arith, is_passed, passed_over)
 
 pub returns-in-Err-Refused-clause-gathered : goal.returns-in-Err-Refused-clause-gathered
 returns-in-Err-Refused-clause-gathered c n at so_far =

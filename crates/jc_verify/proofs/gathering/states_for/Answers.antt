@@ -1,8 +1,5 @@
-use Rattle.std.proofs.Common.{subst}
-use Rattle.jc_check.specs.Package.{package_rules}
+use Rattle.std.proofs.Common.{subst, arith}
 use Rattle.jc_verify.specs.PrivateGathered.{IsDenied}
-use Rattle.jc_verify.specs.PrivateNames.{KeepsNames}
-use Rattle.jc_verify.specs.PrivateTold.{Tells}
 use Rattle.jc_verify.proofs.Visiting.{if_err}
 use Rattle.jc_verify.proofs.gathering.states_for.Goals as goal
 
@@ -11,6 +8,4 @@ returns-clause-refused c =
     if_err c.states_of.result _ _ c.states_of.ensures.refused (λ fault refused pc reason is. subst (IsDenied c.args.linked.now) c.in_ok-method.ensures.method (refused pc reason is))
 
 pub returns-clause-told : goal.returns-clause-told
-returns-clause-told c =
-    if_err c.states_of.result _ _ c.states_of.ensures.told (λ fault told.
-    subst (λ m. KeepsNames c.args.linked.now m → Tells (package_rules c.args.linked.now) m fault) c.in_ok-method.ensures.method told)
+returns-clause-told c = grind (arith, if_err)

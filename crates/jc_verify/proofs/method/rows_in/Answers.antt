@@ -1,4 +1,4 @@
-use Rattle.std.proofs.Common.{inl, inr}
+use Rattle.std.proofs.Common.{inl, inr, arith}
 use Rattle.std.proofs.lemmas.Result.{err_from_is_err_and}
 use Rattle.jc_verify.proofs.Naming.{never_unnamed}
 use Rattle.jc_verify.proofs.Reaching.{reached_named}
@@ -25,9 +25,7 @@ returns-clause-refused c =
     inr (λ keeps. never_unnamed c.args.flow.now.linked.now c.fill.new.places (reached_named c.args.flow.now.linked.now c.args.flow.now.method.now keeps ground.listing ground.whole c.fill.new.places c.in_ok-fill.ensures.filled.reached) (unnamed pc reason is)))
 
 pub returns-in_err-fill-clause-told : goal.returns-in_err-fill-clause-told
-returns-in_err-fill-clause-told c =
-    let p = err_from_is_err_and c.from_residual.result c.from_residual.ensures.1 in
-    rw (p.1, p.2) (λ keeps. denial_tells c.in_err-fill.field-0.0 c.in_err-fill.ensures.refused)
+returns-in_err-fill-clause-told c = grind (arith, err_from_is_err_and, denial_tells)
 
 pub returns-clause-told : goal.returns-clause-told
 returns-clause-told c =

@@ -1,4 +1,4 @@
-use Rattle.std.proofs.Common.{List, ◌≡◌, inl, true, map, refl, rules, subst, sym}
+use Rattle.std.proofs.Common.{List, ◌≡◌, inl, true, map, refl, rules, subst, sym, arith}
 use Rattle.jc_code.specs.Listing.{PlacedInstr, begins}
 use Rattle.jc_verify.specs.Live.{IsEntered}
 use Rattle.jc_cert.specs.Cert.{Stated, stated}
@@ -50,32 +50,7 @@ returns-clause-refused c =
     (rw c.code.ensures at numbered.all) (refused pc reason is))
 
 pub rows_in-requires : goal.rows_in-requires
-rows_in-requires c =
-    let of = c.in_ok-entries.ensures.found in
-    let are = of.found.are in
-    let numbered = c.in_ok-numbered.ensures in
-    let has_place = rw c.code.ensures at numbered.all in
-    record {
-      blank = record {
-        sound = record {
-          laws = c.requires.laws;
-          ground = record {
-            listing = of.listing;
-            whole = of.whole;
-            some = of.some;
-            stand = of.handlers;
-            straight = of.found.straight;
-            begin = λ pc entered. (are.entered pc (are.all pc entered)).begin;
-            has_place = λ pc entered.
-                let e = are.all pc entered in
-                rw c.deref.ensures.value (has_place pc (none_past c.requires.laws.listing c.args.method.now.code of.listing pc of.whole (are.entered pc e).begin) e);
-          };
-          short = c.requires.short;
-        };
-        numbered = rw (c.deref.ensures.value, c.deref_mut.ensures.value) numbered.numbered;
-        empty = rw c.deref_mut.ensures.value numbered.empty;
-      };
-    }
+rows_in-requires c = grind (arith, none_past)
 
 pub returns-in_err-entries-clause-told : goal.returns-in_err-entries-clause-told
 returns-in_err-entries-clause-told c =

@@ -1,4 +1,4 @@
-use Rattle.std.proofs.Common.{true, false}
+use Rattle.std.proofs.Common.{true, arith}
 use Rattle.jc_verify.proofs.Denying.{denial_of, denies_on, refuses_on}
 use Rattle.jc_verify.proofs.Reaching.{never_met, reaches_entry}
 use Rattle.jc_verify.proofs.Taking.{blank_work, taken_as, taken_then}
@@ -22,9 +22,7 @@ returns-in-Ok-true-clause-taken c =
     taken_as (taken_then first more) (λ typing (falls, closed). record { on = true; falls = falls; closed = closed }) (λ typing upper. (upper.entry, record { upper = upper; leads = upper.entry })))
 
 pub returns-in-Ok-false-clause-taken : goal.returns-in-Ok-false-clause-taken
-returns-in-Ok-false-clause-taken c =
-    let first = rw (c.in-Ok-false.field-0-test, c.requires.entry) at c.in-Ok-false.ensures.taken in
-    taken_as first (λ typing leads. record { on = false; falls = leads; closed = tt }) (λ typing upper. upper.entry)
+returns-in-Ok-false-clause-taken c = grind (arith, taken_as)
 
 pub returns-in-Ok-true-clause-refused : goal.returns-in-Ok-true-clause-refused
 returns-in-Ok-true-clause-refused c =
@@ -34,10 +32,4 @@ returns-in-Ok-true-clause-refused c =
     denies_on later (λ typing carrier under any. (first.least typing under carrier.upper.entry, record { upper = carrier.upper; leads = carrier.upper.entry })))
 
 pub returns-in-Err-clause-refused : goal.returns-in-Err-clause-refused
-returns-in-Err-clause-refused c =
-    let l = c.args.flow.now.linked.now in
-    let blank = c.requires.blank in
-    let refused = rw c.requires.entry at c.in-Err.ensures.refused in
-    rw c.told_at.ensures
-    (denial_of (refuses_on refused (λ typing carrier under any. (under, carrier.upper.entry)) (λ reason meets.
-    absurd (never_met l c.args.flow.now.method.now blank.sound.laws c.args.flow.now.numbers.now c.args.places.now blank.empty 0 _ reason meets))))
+returns-in-Err-clause-refused c = grind (arith, denial_of, refuses_on, never_met)

@@ -7,13 +7,7 @@ use Rattle.jc_verify.proofs.Settling.{swept_again, swept_work}
 use Rattle.jc_verify.proofs.settle.settle.Goals as goal
 
 pub loop-places-init : goal.loop-places-init
-loop-places-init c = record {
-  risen = risen_self c.args.flow.now.linked.now c.requires.work.sound.laws c.args.flow.now.method.now c.args.flow.now.numbers.now c.args.places.now;
-  under = λ typing upper under. under;
-  work = c.requires.work;
-  settled = c.requires.settled;
-  room = c.requires.room;
-}
+loop-places-init c = grind (arith, risen_self)
 
 pub sweep_backwards-requires-clause-work : goal.sweep_backwards-requires-clause-work
 sweep_backwards-requires-clause-work c = swept_work c.loop-places.invariant.work c.in_ok-sweep_forwards.ensures.swept
@@ -30,10 +24,7 @@ returns-then-not-has_changed-clause-settled c =
     }
 
 pub loop-places-smaller : goal.loop-places-smaller
-loop-places-smaller c =
-    let changed = c.has_changed.ensures.some c.if-not-has_changed.false in
-    let swept = swept_again c.args.flow.now.linked.now c.requires.work.sound.laws c.args.flow.now.method.now c.args.flow.now.numbers.now _ _ c.loop-places.places c.sweep_forwards.new.places c.sweep_backwards.new.places c.in_ok-sweep_forwards.ensures.swept c.in_ok-sweep_backwards.ensures.swept in
-    swept.flags changed.0 changed.1 (omega arith) (slice_get_within c.sweep_backwards.new.places changed.0 changed.1 changed.2) changed.2 changed.3
+loop-places-smaller c = grind (arith, swept_again, slice_get_within)
 
 pub loop-places-preserved : goal.loop-places-preserved
 loop-places-preserved c =

@@ -1,15 +1,11 @@
-use Rattle.std.proofs.Common.{rules}
+use Rattle.std.proofs.Common.{rules, arith}
 use Rattle.std.proofs.lemmas.Result.{err_from_is_err_and}
 use Rattle.jc_verify.proofs.Denying.{denies_on}
 use Rattle.jc_verify.proofs.Settling.{swept_before, swept_none, swept_work}
 use Rattle.jc_verify.proofs.settle.sweep_backwards.Goals as goal
 
 pub loop-number-init : goal.loop-number-init
-loop-number-init c = record {
-  swept = swept_none c.args.flow.now.linked.now c.requires.work.sound.laws c.args.flow.now.method.now c.args.flow.now.numbers.now _ c.args.places.now;
-  within = search rules;
-  room = c.requires.room;
-}
+loop-number-init c = search (arith, swept_none, rules)
 
 pub follow_place-requires-clause-work : goal.follow_place-requires-clause-work
 follow_place-requires-clause-work c = swept_work c.requires.work c.loop-number.invariant.swept

@@ -1,5 +1,5 @@
 -- Tables that are made until each class has one whose superclass chain comes to its end.
-use Rattle.std.proofs.Common.{◌≡◌, ◌⊎◌, inl, inr, ℕ, zero, suc, ◌+◌, ◌-◌, ◌*◌, ◌<◌, ◌≤◌, ◌&&◌, ◌||◌, Bool, true, false, List, [], ◌∷◌, ◌++◌, length, set, Option, Some, None, IfSome, IfNone, Result, IfOk, refl, sym, ap, subst, ◌∙◌, arith, is_some, slice_get, unwrap_or, length-append}
+use Rattle.std.proofs.Common.{◌≡◌, ◌⊎◌, inl, inr, ℕ, zero, suc, ◌+◌, ◌*◌, ◌<◌, ◌≤◌, ◌&&◌, ◌||◌, Bool, true, false, List, [], ◌∷◌, ◌++◌, length, set, Option, Some, None, IfSome, IfNone, Result, IfOk, refl, sym, ap, subst, ◌∙◌, arith, is_some, slice_get, unwrap_or, length-append}
 use Rattle.std.proofs.lemmas.Bool.{cases_lt, eq-eqb, lt-ltb, le-ltb}
 use Rattle.std.proofs.lemmas.List.{length-set}
 use Rattle.std.proofs.lemmas.Option.{slice_get_past, slice_get-get_or}
@@ -180,9 +180,6 @@ pub last_home : (world : List Shape) (home index : ℕ) (class : ClassName) → 
 last_home world home index class e =
     let a = some_of (λ (k : ClassShape). name_in home k.offset) (class_placed world home index) class e in
     name_home home (a.0).offset class a.2
-
-pub none_yet : (world : List Shape) (tables : List (List (Option Tabled))) (made : List (Option Tabled)) → AreSettled world tables made 0 0
-none_yet world tables made c i home at from to = absurd (omega (arith, to))
 
 pub both_further : (world : List Shape) (tables : List (List (Option Tabled))) (old mid new : List (Option Tabled)) (a b : Bool) → IsFurther world tables old mid a → IsFurther world tables mid new b → IsFurther world tables old new (a || b)
 both_further world tables old mid new a b h1 h2 = grind (arith, new, true_false)

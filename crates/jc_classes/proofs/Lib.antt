@@ -10,6 +10,7 @@ mod Walking
 mod Standing
 mod Below
 mod Rounds
+mod Asking
 mod Superclasses
 mod Meeting
 mod Ways

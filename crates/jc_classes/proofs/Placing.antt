@@ -11,7 +11,6 @@ use Rattle.jc_classes.proofs.Standing.{position_is}
 use Rattle.jc_classes.specs.Members.{DeclaredMethod, declared_in, name_of}
 use Rattle.jc_classes.specs.Methods.{method_of_class}
 use Rattle.jc_classes.specs.PrivatePlaces.{place_at, PlacedMethod, placed, first_method, led_to, place_or, position_in}
-use Rattle.jc_names.specs.declared.name.ClassName.{ClassName}
 use Rattle.jc_classes.specs.declared.shape.MethodPlace.{MethodPlace}
 
 -- ---- what a table leads to
@@ -73,9 +72,6 @@ has_first offset (k ∷ classes) = grind (arith, has_first offset classes)
 -- a method with its class's name
 abbrev declared : ℕ → PlacedMethod → Option DeclaredMethod
 declared home p = option_map (λ class. record { class = class; method = p.method }) (name_of home p.class)
-
-abbrev with_class : MethodShape → ClassName → DeclaredMethod
-with_class m class = record { class = class; method = m }
 
 -- the method of a class at an offset, with the class's name
 abbrev declared_of : ℕ → ℕ → ClassShape → Option DeclaredMethod

@@ -6,6 +6,7 @@ pub mod Subtype
 pub mod Growth
 pub mod PrivateShape
 pub mod PrivateWalk
+pub mod PrivateWalked
 pub mod PrivateSearch
 pub mod Limits
 pub mod Api

@@ -1,6 +1,6 @@
 -- Look-ups of methods (Java Card Virtual Machine Specification, Linking; invokevirtual, invokeinterface).
-use Rattle.std.specs.Prelude.{ℕ, ◌-◌, ◌==◌, Bool, false, ◌||◌, List, length, Option, Some, None, slice_get, nat_lt}
-use Rattle.std.specs.Prelude.{is_some, if◌then◌else◌}
+use Rattle.std.specs.Prelude.{◌≡◌, ℕ, ◌-◌, ◌==◌, ◌<◌, Bool, false, ◌||◌, List, length, Option, Some, None, slice_get, nat_lt}
+use Rattle.std.specs.Prelude.{is_some, slice_index_or, if◌then◌else◌}
 use Rattle.std.specs.List.{find, list_any}
 use Rattle.std.specs.Option.{option_and_then, option_map_or}
 use Rattle.jc_cap.specs.ClassComponent.{is_class}
@@ -96,6 +96,16 @@ interface_visit world interface c k = listing_visit world interface (home_of c) 
 -- a public virtual token leads to its method, and a package-visible one to nothing
 abbrev pub public_method_of : List Shape → ClassName → ℕ → Option MethodName
 public_method_of world c token = if nat_lt token package_visible then virtual_method_of world c token 0 else None
+
+-- what a list of methods has at a token
+abbrev pub found_at : List (Option MethodName) → ℕ → Option MethodName
+found_at methods token = slice_index_or methods token None
+
+-- a list has what a class finds at each token, asked for the package that stands there; a public method is found
+-- whichever package asks
+pub record AreMethodsOf (world : List Shape) (c : ClassName) (asker : ℕ) (methods : List (Option MethodName)) : Type 0 where
+  pub all : (token : ℕ) → token < 256 → found_at methods token ≡ virtual_method_of world c token asker
+  pub public : (token : ℕ) → token < package_visible → found_at methods token ≡ virtual_method_of world c token 0
 
 -- the method of an object's class that an interface's token leads to: the nearest class that lists the interface says
 -- under which virtual token, and that is looked up from the object's class

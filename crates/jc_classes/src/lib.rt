@@ -6,6 +6,7 @@ mod api;
 mod copies;
 mod copying;
 mod extent;
+mod found;
 mod growth;
 mod interfaces;
 mod lent;
@@ -20,6 +21,7 @@ mod table;
 mod tables;
 mod walk;
 
+pub use found::FoundMethods;
 pub use growth::{adding_keeps_lookups, growing_keeps_lookups};
 pub use members::DeclaredMethod;
 pub use methods::method_name;

@@ -4,7 +4,6 @@ use Rattle.std.proofs.lemmas.Bool.{eq-eqb, ne_eqb}
 use Rattle.std.specs.List.{list_any}
 use Rattle.std.specs.Option.{option_and_then, option_map, option_map_or}
 use Rattle.jc_cap.specs.ClassComponent.{is_class}
-use Rattle.jc_cap.specs.Interfaces.{Implemented}
 use Rattle.jc_cap.specs.declared.record.RecordBody.{RecordBody}
 use Rattle.jc_cap.specs.declared.record.RecordBody.TheVariants.{Interface, Class}
 use Rattle.jc_cap_desc.specs.Shape.{ClassShape, Shape}
@@ -39,7 +38,7 @@ use Rattle.jc_link.proofs.GrownParts.{none_some, the_some}
 use Rattle.jc_link.proofs.Nones.{neither, true_false}
 use Rattle.jc_link.proofs.Superclasses.{most_is}
 use Rattle.jc_link.specs.Classes.{has_bad_entry, is_bad_entry, is_inherited, lacks_superclass, leads_round}
-use Rattle.jc_link.specs.Inherited.{ListedRow, is_abstract_at, is_other_type, is_same_method, is_unfinished, leaves_at, loses_at, retypes_at, rows_along, virtual_tokens}
+use Rattle.jc_link.specs.Inherited.{is_abstract_at, is_other_type, is_same_method, is_unfinished, leaves_at, loses_at, retypes_at, rows_along, virtual_tokens}
 use Rattle.jc_link.specs.PrivateFit.{AreAllFit, IsFit, IsFitThere, IsRoot}
 
 -- ---- what a record of the API says
@@ -93,9 +92,6 @@ false_right b = grind arith
 
 unfinished_not : (a b c : Bool) → (b ≡ false → c ≡ false) → ((a && not b) && c) ≡ false
 unfinished_not a b c h1 = grind arith
-
-abbrev in_home : ApiClass → Implemented → ListedRow
-in_home c row = record { home = api_home (package_of c); row = row }
 
 module _ (bound : Bound) (clear : HasNoClash bound) where
   abbrev world : List Shape

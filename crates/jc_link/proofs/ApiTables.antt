@@ -17,7 +17,6 @@ use Rattle.jc_api.specs.declared.class.ApiPackage.{ApiPackage}
 use Rattle.jc_classes.specs.Api.{api_shape, api_world, class_in_api, each_below, last_member, member_token, no_table, number_to, public_table, room_to, spelled_in}
 use Rattle.jc_classes.specs.Methods.{declared_above, entry_visit, has_method, method_there, record_visit, table_visit, virtual_method_of, virtual_visit}
 use Rattle.jc_classes.specs.Walk.{found_from, most_classes, walk}
-use Rattle.jc_classes.specs.World as World
 use Rattle.jc_names.specs.Names.{api_home}
 use Rattle.jc_names.specs.declared.name.ClassName.{ClassName}
 use Rattle.jc_names.specs.declared.name.ClassName.TheVariants as Names

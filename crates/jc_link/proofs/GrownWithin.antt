@@ -22,7 +22,7 @@ use Rattle.jc_classes.specs.Walk.{found_from, walk, most_classes}
 use Rattle.jc_names.specs.Names.{api_home, api_name, home_of, name_in}
 use Rattle.jc_classes.specs.World.{class_at, import_of, exported_class, class_spelled, if_there, class_named, superclass_of}
 use Rattle.jc_names.specs.declared.name.ClassName.{ClassName}
-use Rattle.jc_names.specs.declared.name.ClassName.TheVariants.{Api, Loaded}
+use Rattle.jc_names.specs.declared.name.ClassName.TheVariants.{Api}
 use Rattle.jc_names.specs.declared.name.MethodName.{MethodName}
 use Rattle.jc_names.specs.declared.name.MethodName.TheVariants as Method
 use Rattle.jc_link.proofs.GrownParts.{the_some, none_some, some_of, mapped, chosen_of, position_below}

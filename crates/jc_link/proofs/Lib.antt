@@ -39,3 +39,4 @@ pub mod Naming
 pub mod Names
 pub mod Later
 pub mod ApiThere
+mod Looking

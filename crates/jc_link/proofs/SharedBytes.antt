@@ -11,7 +11,6 @@ use Rattle.std.specs.List.{count_by, filter_map, flat_map}
 use Rattle.std.specs.Option.{option_map_or}
 use Rattle.jc_base.specs.declared.class_ref.ClassRef.{ClassRef}
 use Rattle.jc_base.specs.declared.declared_type.DeclaredType.{DeclaredType}
-use Rattle.jc_base.specs.declared.declared_type.DeclaredType.TheVariants as Declared
 use Rattle.jc_base.specs.NumberSet.{has_number}
 use Rattle.jc_cap_desc.specs.Shape.{ClassShape, FieldShape}
 use Rattle.jc_link.proofs.StaticOffsets.{next_of}

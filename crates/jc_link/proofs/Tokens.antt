@@ -4,7 +4,7 @@ use Rattle.std.specs.List.{list_any, range_with_len}
 use Rattle.jc_cap_desc.specs.Shape.{Shape}
 use Rattle.jc_classes.specs.Methods.{virtual_method_of}
 use Rattle.jc_names.specs.declared.name.ClassName.{ClassName}
-use Rattle.jc_link.specs.Inherited.{leaves_at, package_tokens, virtual_tokens}
+use Rattle.jc_link.specs.Inherited.{leaves_at, package_tokens, public_tokens, virtual_tokens}
 
 -- the tokens from one on up to an end
 module _ (test : ℕ → Bool) (total : Bool) (token end : ℕ)
@@ -49,6 +49,10 @@ leaves_none world c asker count none m least less =
 pub all_virtual : range_with_len 0 (256 - 0) ≡ virtual_tokens
 unfolding virtual_tokens
 all_virtual = refl
+
+pub all_public : range_with_len 0 (128 - 0) ≡ public_tokens
+unfolding public_tokens
+all_public = refl
 
 pub all_package : range_with_len 128 (256 - 128) ≡ package_tokens
 unfolding package_tokens

@@ -8,6 +8,7 @@ pub mod Pool
 pub mod Classes
 pub mod Inherited
 pub mod PrivateRows
+pub mod PrivateMethods
 pub mod Statics
 pub mod WellFormed
 pub mod Kept

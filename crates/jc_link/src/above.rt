@@ -1,16 +1,19 @@
 //! Rows that a class keeps, since the class above it keeps them and finds the same methods.
 
-ghost use Rattle.std.specs.Prelude.{◌≡◌, ◌&&◌, true, false};
+ghost use Rattle.std.specs.Prelude.{◌≡◌, ◌&&◌, true, false, Some};
 ghost use Rattle.std.specs.List.{list_any};
 ghost use Rattle.std.specs.Option.{option_map_or};
 ghost use Rattle.jc_classes.specs.Members.{name_of};
+ghost use Rattle.jc_classes.specs.World.{superclass_of};
 ghost use Rattle.jc_names.specs.Names.{is_same_name};
+ghost use Rattle.jc_names.specs.declared.name.ClassName.{ClassName};
 ghost use Rattle.jc_link.specs.Inherited.{breaks_interface, breaks_row, rows_of};
 ghost use Rattle.jc_link.specs.PrivateRows.{is_finished_as, FindSame};
 ghost use Rattle.jc_link.specs.WellFormed.{is_bad_class};
 
-use crate::inherited::{is_same_method, public_method};
-use jc_classes::{Class, ClassTable};
+use crate::inherited::is_same_method;
+use crate::methods::ClassMethods;
+use jc_classes::Class;
 use jc_names::{ClassName, MethodName, PackagePlace};
 
 /// How many tokens there are for public methods.
@@ -55,15 +58,14 @@ fn is_same_found(one: Option<MethodName>, other: Option<MethodName>) -> bool
     }
 }
 
-/// Whether two classes find the same public methods.
+/// Whether a class and the one above it find the same public methods.
 #[tactic(auto, using(crate::proofs::RowsAbove::same_so_far, crate::proofs::RowsAbove::same_all))]
-fn find_same(table: &ClassTable, class: ClassName, other: ClassName) -> bool
-    ensures { result ≡ true → FindSame table.now class other }
+fn find_same(class: &ClassMethods<'_>) -> bool
+    ensures { result ≡ true → (above : ClassName) → superclass_of class.now.world class.now.class ≡ Some above
+        → FindSame class.now.world class.now.class above }
 {
     for token in 0..PUBLIC_TOKENS {
-        let one = public_method(table, class, token);
-        let two = public_method(table, other, token);
-        if !is_same_found(one, two) {
+        if !is_same_found(class.public(token), class.public_above(token)) {
             return false;
         }
     }
@@ -71,19 +73,15 @@ fn find_same(table: &ClassTable, class: ClassName, other: ClassName) -> bool
 }
 
 /// Whether a class keeps the rows of its superclasses, as far as it is known from the class above: that is one of these
-/// classes of the package that stands there, which are well-formed, and both find the same public methods.
-pub(crate) fn keeps_rows_above(
-    table: &ClassTable,
-    home: PackagePlace,
-    before: &[Class],
-    class: ClassName,
-) -> bool
-    requires { list_any (is_bad_class table.now home) before.now ≡ false }
+/// classes of its package, which are well-formed, and both find the same public methods.
+pub(crate) fn keeps_rows_above(class: &ClassMethods<'_>, before: &[Class]) -> bool
+    requires { list_any (is_bad_class class.now.world class.now.home) before.now ≡ false }
     ensures { result ≡ true
-        → list_any (breaks_row table.now class) (rows_of table.now class) ≡ breaks_interface table.now class }
+        → list_any (breaks_row class.now.world class.now.class) (rows_of class.now.world class.now.class)
+        ≡ breaks_interface class.now.world class.now.class }
 {
-    match table.superclass_of(class) {
-        Some(above) => is_one_of(home, above, before) && find_same(table, class, above),
+    match class.table().superclass_of(class.name()) {
+        Some(above) => is_one_of(class.home(), above, before) && find_same(class),
         None => false,
     }
 }

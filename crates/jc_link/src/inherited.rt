@@ -2,7 +2,7 @@
 
 ghost use Rattle.std.specs.Prelude.{◌≡◌, ◌≤◌, false};
 ghost use Rattle.std.specs.List.{list_any, range_with_len};
-ghost use Rattle.jc_classes.specs.Methods.{public_method_of};
+ghost use Rattle.std.specs.Option.{option_map_or};
 ghost use Rattle.jc_link.specs.Inherited.{loses_at, loses_method, is_same_method, is_other_type, retypes_at};
 ghost use Rattle.jc_link.specs.Inherited.{overrides_with_another_type, is_abstract_at, leaves_at};
 ghost use Rattle.jc_link.specs.Inherited.{leaves_package_abstract, leaves_abstract, public_tokens, rows_of, misses};
@@ -12,7 +12,8 @@ ghost use Rattle.jc_link.specs.WellFormed.{is_bad_class};
 
 use crate::above::keeps_rows_above;
 use crate::classes::MOST_CLASSES;
-use crate::pool::{is_abstract_method, is_concrete, method_above};
+use crate::methods::ClassMethods;
+use crate::pool::{is_abstract_method, is_concrete};
 use crate::types::{implements_type, is_known_method, same_method_type};
 use jc_classes::{Class, ClassTable, ImplementedInterface, Method, anchor_behind};
 use jc_names::{ClassName, MethodName, PackagePlace};
@@ -21,21 +22,18 @@ use jc_names::{ClassName, MethodName, PackagePlace};
 const PACKAGE_VISIBLE: u8 = 128;
 
 /// Whether the superclass finds a method at a token, and the class none.
-fn loses_at(table: &ClassTable, home: PackagePlace, class: ClassName, token: u8) -> bool
-    ensures { result ≡ loses_at table.now home class token }
+fn loses_at(class: &ClassMethods<'_>, token: u8) -> bool
+    ensures { result ≡ loses_at class.now.world class.now.home class.now.class token }
 {
-    method_above(table, home, class, token).is_some()
-        && table
-            .virtual_method_for(class, token, home.index())
-            .is_none()
+    class.above(token).is_some() && class.own(token).is_none()
 }
 
 /// Whether the superclass finds a method at some token, and the class none.
-pub(crate) fn loses_method(table: &ClassTable, home: PackagePlace, class: ClassName) -> bool
-    ensures { result ≡ loses_method table.now home class }
+pub(crate) fn loses_method(class: &ClassMethods<'_>) -> bool
+    ensures { result ≡ loses_method class.now.world class.now.home class.now.class }
 {
     for token in 0..256u16 {
-        if loses_at(table, home, class, token as u8) {
+        if loses_at(class, token as u8) {
             return true;
         }
     }
@@ -68,28 +66,24 @@ fn is_other_type(table: &ClassTable, method: MethodName, above: MethodName) -> b
 }
 
 /// Whether the class and its superclass find methods of different types at a token.
-fn retypes_at(table: &ClassTable, home: PackagePlace, class: ClassName, token: u8) -> bool
-    ensures { result ≡ retypes_at table.now home class token }
+fn retypes_at(class: &ClassMethods<'_>, token: u8) -> bool
+    ensures { result ≡ retypes_at class.now.world class.now.home class.now.class token }
 {
-    let Some(method) = table.virtual_method_for(class, token, home.index()) else {
+    let Some(method) = class.own(token) else {
         return false;
     };
-    match method_above(table, home, class, token) {
-        Some(above) => is_other_type(table, method, above),
+    match class.above(token) {
+        Some(above) => is_other_type(class.table(), method, above),
         None => false,
     }
 }
 
 /// Whether the class and its superclass find methods of different types at some token.
-pub(crate) fn overrides_with_another_type(
-    table: &ClassTable,
-    home: PackagePlace,
-    class: ClassName,
-) -> bool
-    ensures { result ≡ overrides_with_another_type table.now home class }
+pub(crate) fn overrides_with_another_type(class: &ClassMethods<'_>) -> bool
+    ensures { result ≡ overrides_with_another_type class.now.world class.now.home class.now.class }
 {
     for token in 0..256u16 {
-        if retypes_at(table, home, class, token as u8) {
+        if retypes_at(class, token as u8) {
             return true;
         }
     }
@@ -106,22 +100,26 @@ fn is_abstract_at(table: &ClassTable, method: MethodName) -> bool
     }
 }
 
-/// Whether a class leaves the method at a token abstract, looked up for the package that stands there.
-fn leaves_at(table: &ClassTable, class: ClassName, asker: usize, token: u8) -> bool
-    ensures { result ≡ leaves_at table.now class asker token }
+/// Whether a method was found that is abstract.
+fn is_left(table: &ClassTable, found: Option<MethodName>) -> bool
+    ensures { result ≡ option_map_or (is_abstract_at table.now) found false }
 {
-    match table.virtual_method_for(class, token, asker) {
+    match found {
         Some(method) => is_abstract_at(table, method),
         None => false,
     }
 }
 
 /// Whether a class leaves a public method abstract.
-#[tactic(auto, unfolding(crate::specs::Inherited::public_tokens))]
-fn leaves_public_abstract(table: &ClassTable, class: ClassName) -> bool
-    ensures { result ≡ list_any (leaves_at table.now class 0) public_tokens }
+fn leaves_public_abstract(class: &ClassMethods<'_>) -> bool
+    ensures { result ≡ list_any (leaves_at class.now.world class.now.class 0) public_tokens }
 {
-    (0..128u8).any(|token| leaves_at(table, class, 0, token))
+    for token in 0..PACKAGE_VISIBLE {
+        if is_left(class.table(), class.public(token)) {
+            return true;
+        }
+    }
+    false
 }
 
 /// Whether a class leaves a package-visible method abstract of the package that stands there. Most have no token there.
@@ -129,8 +127,12 @@ fn leaves_package_abstract(table: &ClassTable, class: ClassName, asker: usize) -
     ensures { result ≡ leaves_package_abstract table.now class asker }
 {
     let end = 128 + u16::from(table.visible_tokens(class, asker));
+    if end == 128 {
+        return false;
+    }
+    let methods = table.virtual_methods(class, asker);
     for token in 128..end {
-        if leaves_at(table, class, asker, token as u8) {
+        if is_left(table, methods.at(token as u8)) {
             return true;
         }
     }
@@ -145,146 +147,127 @@ fn leaves_any_package_abstract(table: &ClassTable, class: ClassName, count: usiz
 }
 
 /// Whether a class leaves a method abstract: a public one, or a package-visible one of any package.
-fn leaves_abstract(table: &ClassTable, class: ClassName) -> bool
-    ensures { result ≡ leaves_abstract table.now class }
+fn leaves_abstract(class: &ClassMethods<'_>) -> bool
+    ensures { result ≡ leaves_abstract class.now.world class.now.class }
 {
-    leaves_public_abstract(table, class) || leaves_any_package_abstract(table, class, table.len())
-}
-
-/// The public virtual method of a class at a token.
-pub(crate) fn public_method(table: &ClassTable, class: ClassName, token: u8) -> Option<MethodName>
-    ensures { result ≡ public_method_of table.now class token }
-{
-    if token < PACKAGE_VISIBLE {
-        table.virtual_method_for(class, token, 0)
-    } else {
-        None
-    }
+    let table = class.table();
+    leaves_public_abstract(class) || leaves_any_package_abstract(table, class.name(), table.len())
 }
 
 /// Whether an index of a row leads to no method, or to an abstract one.
-fn misses(table: &ClassTable, class: ClassName, index: u8) -> bool
-    ensures { result ≡ misses table.now class index }
+fn misses(class: &ClassMethods<'_>, index: u8) -> bool
+    ensures { result ≡ misses class.now.world class.now.class index }
 {
-    match public_method(table, class, index) {
-        Some(method) => !is_concrete(table, method),
+    match class.public(index) {
+        Some(method) => !is_concrete(class.table(), method),
         None => true,
     }
 }
 
 /// The method that a row's indexes have for a token.
-fn method_for(table: &ClassTable, class: ClassName, indexes: &[u8], token: u8) -> Option<MethodName>
-    ensures { result ≡ method_for table.now class indexes.now token }
+fn method_for(class: &ClassMethods<'_>, indexes: &[u8], token: u8) -> Option<MethodName>
+    ensures { result ≡ method_for class.now.world class.now.class indexes.now token }
 {
     let index = indexes.get(usize::from(token)).copied()?;
-    public_method(table, class, index)
+    class.public(index)
 }
 
 /// Whether a method of an interface has a type, and the class has none for it, or one of another type.
 fn is_unimplemented(
-    table: &ClassTable,
-    class: ClassName,
+    class: &ClassMethods<'_>,
     indexes: &[u8],
     home: PackagePlace,
     method: &Method,
 ) -> bool
-    ensures { result ≡ is_unimplemented table.now class indexes.now home method.now }
+    ensures { result ≡ is_unimplemented class.now.world class.now.class indexes.now home method.now }
 {
+    let table = class.table();
     if !is_known_method(table, home, method) {
         return false;
     }
-    let found = method_for(table, class, indexes, method.token());
+    let found = method_for(class, indexes, method.token());
     !implements_type(table, home, method, found)
 }
 
 /// Whether one of the methods of an interface is such a method.
 fn lacks_one_of(
-    table: &ClassTable,
-    class: ClassName,
+    class: &ClassMethods<'_>,
     indexes: &[u8],
     home: PackagePlace,
     methods: &[Method],
 ) -> bool
-    ensures { result ≡ list_any (is_unimplemented table.now class indexes.now home) methods.now }
+    ensures { result ≡ list_any (is_unimplemented class.now.world class.now.class indexes.now home) methods.now }
 {
-    methods.iter().any(|method| is_unimplemented(table, class, indexes, home, method))
+    methods
+        .iter()
+        .any(|method| is_unimplemented(class, indexes, home, method))
 }
 
 /// Whether an interface has such a method.
-fn lacks_methods_of(
-    table: &ClassTable,
-    class: ClassName,
-    indexes: &[u8],
-    interface: ClassName,
-) -> bool
-    ensures { result ≡ lacks_methods_of table.now class indexes.now interface }
+fn lacks_methods_of(class: &ClassMethods<'_>, indexes: &[u8], interface: ClassName) -> bool
+    ensures { result ≡ lacks_methods_of class.now.world class.now.class indexes.now interface }
 {
-    match table.class_at(interface) {
-        Some(found) => lacks_one_of(table, class, indexes, interface.home(), found.methods()),
+    match class.table().class_at(interface) {
+        Some(found) => lacks_one_of(class, indexes, interface.home(), found.methods()),
         None => false,
     }
 }
 
 /// Whether one of the indexes of a row leads to no method, or to an abstract one.
-fn misses_one(table: &ClassTable, class: ClassName, indexes: &[u8]) -> bool
-    ensures { result ≡ list_any (misses table.now class) indexes.now }
+fn misses_one(class: &ClassMethods<'_>, indexes: &[u8]) -> bool
+    ensures { result ≡ list_any (misses class.now.world class.now.class) indexes.now }
 {
-    indexes.iter().any(|index| misses(table, class, *index))
+    indexes.iter().any(|index| misses(class, *index))
 }
 
 /// Whether a class doesn't keep a row of the package that stands there.
-fn breaks_row(
-    table: &ClassTable,
-    class: ClassName,
-    home: PackagePlace,
-    row: &ImplementedInterface,
-) -> bool
-    ensures { result ≡ breaks_row table.now class (record { home = home; row = row.now }) }
+fn breaks_row(class: &ClassMethods<'_>, home: PackagePlace, row: &ImplementedInterface) -> bool
+    ensures { result ≡ breaks_row class.now.world class.now.class (record { home = home; row = row.now }) }
 {
-    if misses_one(table, class, row.indexes()) {
+    if misses_one(class, row.indexes()) {
         return true;
     }
-    match table.class_named(home, row.interface()) {
-        Some(interface) => lacks_methods_of(table, class, row.indexes(), interface),
+    match class.table().class_named(home, row.interface()) {
+        Some(interface) => lacks_methods_of(class, row.indexes(), interface),
         None => false,
     }
 }
 
 /// Whether a class doesn't keep one of some rows of the package that stands there.
 fn breaks_one_of(
-    table: &ClassTable,
-    class: ClassName,
+    class: &ClassMethods<'_>,
     home: PackagePlace,
     rows: &[ImplementedInterface],
 ) -> bool
-    ensures { result ≡ list_any (λ row. breaks_row table.now class (record { home = home; row = row })) rows.now }
+    ensures { result
+        ≡ list_any (λ row. breaks_row class.now.world class.now.class (record { home = home; row = row })) rows.now }
 {
-    rows.iter().any(|row| breaks_row(table, class, home, row))
+    rows.iter().any(|row| breaks_row(class, home, row))
 }
 
 /// Whether a class doesn't keep one of the rows of a class.
 #[tactic(auto, using(crate::proofs::Rows::rows_of_class))]
-fn breaks_row_of(table: &ClassTable, class: ClassName, at: ClassName) -> bool
-    ensures { result ≡ list_any (breaks_row table.now class) (rows_of table.now at) }
+fn breaks_row_of(class: &ClassMethods<'_>, at: ClassName) -> bool
+    ensures { result ≡ list_any (breaks_row class.now.world class.now.class) (rows_of class.now.world at) }
 {
-    match table.class_at(at) {
-        Some(found) => breaks_one_of(table, class, at.home(), found.interface_rows()),
+    match class.table().class_at(at) {
+        Some(found) => breaks_one_of(class, at.home(), found.interface_rows()),
         None => false,
     }
 }
 
 /// Whether a class doesn't keep one of its own rows, or of those of its superclasses, by a walk along these. Their
 /// chain may have a cycle: where they come again to a class that is remembered, all of their rows were looked at.
-fn breaks_row_along(table: &ClassTable, class: ClassName) -> bool
-    ensures { result ≡ breaks_interface table.now class }
+fn breaks_row_along(class: &ClassMethods<'_>) -> bool
+    ensures { result ≡ breaks_interface class.now.world class.now.class }
 {
-    let mut at = class;
-    let mut anchor = class;
+    let mut at = class.name();
+    let mut anchor = at;
     for steps in 0..MOST_CLASSES {
-        if breaks_row_of(table, class, at) {
+        if breaks_row_of(class, at) {
             return true;
         }
-        match table.superclass_of(at) {
+        match class.table().superclass_of(at) {
             Some(above) => at = above,
             None => return false,
         }
@@ -298,38 +281,27 @@ fn breaks_row_along(table: &ClassTable, class: ClassName) -> bool
 
 /// Whether a class doesn't keep one of its own rows, or of those of its superclasses. Most have none to look at, and
 /// others only their own: the class above was looked at before, and finds the same methods.
-fn breaks_interface(
-    table: &ClassTable,
-    home: PackagePlace,
-    before: &[Class],
-    class: ClassName,
-) -> bool
-    requires { list_any (is_bad_class table.now home) before.now ≡ false }
-    ensures { result ≡ breaks_interface table.now class }
+fn breaks_interface(class: &ClassMethods<'_>, before: &[Class]) -> bool
+    requires { list_any (is_bad_class class.now.world class.now.home) before.now ≡ false }
+    ensures { result ≡ breaks_interface class.now.world class.now.class }
 {
-    if !table.may_list(class) {
+    if !class.table().may_list(class.name()) {
         return false;
     }
-    if keeps_rows_above(table, home, before, class) {
-        return breaks_row_of(table, class, class);
+    if keeps_rows_above(class, before) {
+        return breaks_row_of(class, class.name());
     }
-    breaks_row_along(table, class)
+    breaks_row_along(class)
 }
 
 /// Whether it is a class that isn't abstract, and leaves a method abstract or doesn't keep an interface's row. These
-/// classes of the package that stands there are well-formed.
-pub(crate) fn is_unfinished(
-    table: &ClassTable,
-    home: PackagePlace,
-    before: &[Class],
-    class: ClassName,
-    found: &Class,
-) -> bool
-    requires { list_any (is_bad_class table.now home) before.now ≡ false }
-    ensures { result ≡ is_unfinished table.now class found.now }
+/// classes of its package are well-formed.
+pub(crate) fn is_unfinished(class: &ClassMethods<'_>, before: &[Class], found: &Class) -> bool
+    requires { list_any (is_bad_class class.now.world class.now.home) before.now ≡ false }
+    ensures { result ≡ is_unfinished class.now.world class.now.class found.now }
 {
     if !found.is_class() || found.is_abstract() {
         return false;
     }
-    leaves_abstract(table, class) || breaks_interface(table, home, before, class)
+    leaves_abstract(class) || breaks_interface(class, before)
 }

@@ -9,6 +9,7 @@ mod growth;
 mod imports;
 mod inherited;
 mod linking;
+mod methods;
 mod named;
 mod pool;
 mod stated;

@@ -10,6 +10,7 @@ use crate::classes::{
     lacks_superclass, leads_round, lists_no_interface,
 };
 use crate::inherited::{is_unfinished, loses_method, overrides_with_another_type};
+use crate::methods::ClassMethods;
 use jc_classes::{Class, ClassTable, PackageShape};
 use jc_names::{ClassName, PackagePlace};
 
@@ -38,9 +39,10 @@ fn is_bad_heir(
     requires { list_any (is_bad_class table.now home) before.now ≡ false }
     ensures { result ≡ is_bad_heir table.now home class found.now }
 {
-    loses_method(table, home, class)
-        || overrides_with_another_type(table, home, class)
-        || is_unfinished(table, home, before, class, found)
+    let class = ClassMethods::new(table, home, class);
+    loses_method(&class)
+        || overrides_with_another_type(&class)
+        || is_unfinished(&class, before, found)
 }
 
 /// Whether a class of the package that stands there isn't well-formed, where these are. One that has no name isn't.

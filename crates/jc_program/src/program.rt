@@ -36,9 +36,9 @@ pub struct Program {
 /// How many methods, pools of constants and classes a program has.
 #[derive(Clone, Copy, Debug)]
 pub struct ProgramSize {
-    methods: usize,
-    pools: usize,
-    classes: usize,
+    pub methods: usize,
+    pub pools: usize,
+    pub classes: usize,
 }
 
 impl Program {

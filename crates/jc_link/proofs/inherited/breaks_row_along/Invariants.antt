@@ -6,5 +6,5 @@ use Rattle.jc_link.proofs.inherited.breaks_row_along.Given as goal
 
 abbrev pub invariant-loop-steps : goal.invariant-loop-steps
 invariant-loop-steps l =
-    IsOnRows (breaks_row l.table l.class) l.table l.anchor l.at (most_classes - l.steps)
-    (breaks_interface l.table l.class)
+    IsOnRows (breaks_row l.class.world l.class.class) l.class.world l.anchor l.at (most_classes - l.steps)
+    (breaks_interface l.class.world l.class.class)

@@ -4,4 +4,6 @@ use Rattle.jc_link.specs.Inherited.{leaves_at, leaves_package_abstract}
 use Rattle.jc_link.proofs.inherited.leaves_package_abstract.Given as goal
 
 abbrev pub invariant-loop-token : goal.invariant-loop-token
-invariant-loop-token l = list_any (leaves_at l.table l.class l.asker) (range_with_len l.token (256 - l.token)) ≡ leaves_package_abstract l.table l.class l.asker
+invariant-loop-token l =
+    list_any (leaves_at l.table l.fn.class l.asker) (range_with_len l.token (256 - l.token))
+    ≡ leaves_package_abstract l.table l.fn.class l.asker

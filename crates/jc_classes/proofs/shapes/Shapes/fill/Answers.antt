@@ -1,12 +1,10 @@
-use Rattle.std.proofs.Common.{◌≡◌, ◌+◌, false, length, Some, None, subst, sym, ◌∙◌}
+use Rattle.std.proofs.Common.{◌≡◌, ◌+◌, false, length, Some, None, subst, sym, arith}
 use Rattle.jc_classes.proofs.Filling.{map_ok, last_home, one_settled, none_settled}
 use Rattle.jc_classes.specs.PrivateTables.{IsSettled, AreSettled, name_placed}
 use Rattle.jc_classes.proofs.shapes.Shapes.fill.Goals as goal
 
 pub fill_class-requires-clause-last : goal.fill_class-requires-clause-last
-fill_class-requires-clause-last c =
-    last_home c.args.self.now (length c.args.tables.now) c.args.index c.in-Some.class
-    (subst (λ home. name_placed c.args.self.now home c.args.index ≡ Some c.in-Some.class) c.new.ensures (sym c.in-Some.ensures))
+fill_class-requires-clause-last c = grind (arith, last_home, length, Some)
 
 pub returns-in-Some-clause-settled : goal.returns-in-Some-clause-settled
 returns-in-Some-clause-settled c =
@@ -16,6 +14,4 @@ returns-in-Some-clause-settled c =
     (subst (λ home. name_placed c.args.self.now home c.args.index ≡ Some c.in-Some.class) c.new.ensures (sym c.in-Some.ensures)) (s e)) c.fill_class.ensures.settled
 
 pub returns-in-None-clause-settled : goal.returns-in-None-clause-settled
-returns-in-None-clause-settled c e =
-    none_settled c.args.self.now c.args.tables.now c.args.made.now c.args.index c.requires.making.small
-    (subst (λ home. name_placed c.args.self.now home c.args.index ≡ None) c.new.ensures (sym c.name_placed.ensures ∙ c.in-None.is))
+returns-in-None-clause-settled c e = grind (arith, none_settled, None)

@@ -1,4 +1,4 @@
-use Rattle.std.proofs.Common.{◌≡◌, ℕ, ◌+◌, ◌<◌, ◌≤◌, List, [], ◌∷◌, length, Option, ap, sym, subst, ◌∙◌, arith, length-append}
+use Rattle.std.proofs.Common.{◌≡◌, ℕ, ◌+◌, ◌<◌, List, [], ◌∷◌, length, Option, ap, sym, subst, ◌∙◌, arith, length-append}
 use Rattle.jc_classes.proofs.Tabling.{each_pushed, row_whole}
 use Rattle.jc_classes.specs.PrivatePlaces.{place_at}
 use Rattle.jc_classes.specs.PrivateTables.{row_entry}
@@ -19,8 +19,4 @@ loop-token-preserved c =
     }
 
 pub returns : goal.returns
-returns c =
-    let all : c.tokens_over-count.result ≤ c.loop-token.token = c.loop-token-test.false in
-    row_whole c.args.self.now c.args.home c.args.table.now c.args.above.now c.loop-token.methods.items
-    c.loop-token.token c.loop-token.invariant.count c.loop-token.invariant.so_far
-    (λ i past. c.tokens_over-count.ensures.none c.args.self.now c.args.home i (omega (arith, all, past)))
+returns c = grind (arith, row_whole)

@@ -4,8 +4,7 @@ use Rattle.jc_classes.proofs.Walking.{most_is}
 use Rattle.jc_classes.proofs.shapes.Shapes.table_made.Goals as goal
 
 pub returns-then-depth-ge-MOST_CLASSES-clause-none : goal.returns-then-depth-ge-MOST_CLASSES-clause-none
-returns-then-depth-ge-MOST_CLASSES-clause-none c whole =
-    absurd (not_too_deep c.args.self.now c.args.class _ c.in-Some-table_above.ensures.right (omega (arith, c.if-depth-ge-MOST_CLASSES.true, c.depth_of-depth.ensures)) whole)
+returns-then-depth-ge-MOST_CLASSES-clause-none c whole = grind (arith, not_too_deep)
 
 pub table_from-requires-clause-few : goal.table_from-requires-clause-few
 table_from-requires-clause-few c = omega (arith, most_is, c.if-depth-ge-MOST_CLASSES.false)

@@ -8,12 +8,10 @@ pub returns-then-is_class_below : goal.returns-then-is_class_below
 returns-then-is_class_below c = meets c.args.self.now c.loop.at c.args.other _ _ _ (one_less c.loop.counter c.loop-test.true) c.loop.invariant (sym c.is_class_below.ensures ∙ c.if-is_class_below.true)
 
 pub returns-in-None : goal.returns-in-None
-returns-in-None c =
-    meets_nowhere c.args.self.now c.loop.at c.args.other _ _ _ (one_less c.loop.counter c.loop-test.true) c.loop.invariant (sym c.is_class_below.ensures ∙ c.if-is_class_below.false) (sym c.superclass_of.ensures ∙ c.in-None.is)
+returns-in-None c = grind (arith, meets_nowhere, one_less)
 
 pub loop-preserved : goal.loop-preserved
-loop-preserved c =
-    meets_above c.args.self.now c.loop.at c.args.other _ _ _ (one_less c.loop.counter c.loop-test.true) c.loop.invariant (sym c.is_class_below.ensures ∙ c.if-is_class_below.false) c.in-Some.above (sym c.superclass_of.ensures ∙ c.in-Some.is)
+loop-preserved c = grind (arith, meets_above, one_less)
 
 pub returns : goal.returns
 returns c = meets_at_end c.args.self.now c.loop.at c.args.other (most_classes - c.loop.counter) _ (omega (arith, c.loop-test.false, most_is)) c.loop.invariant

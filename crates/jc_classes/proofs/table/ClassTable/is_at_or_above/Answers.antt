@@ -4,8 +4,7 @@ use Rattle.jc_classes.proofs.Walking.{one_left}
 use Rattle.jc_classes.proofs.table.ClassTable.is_at_or_above.Goals as goal
 
 pub returns-then-is : goal.returns-then-is
-returns-then-is c =
-    is_here c.args.self.now c.args.above c.loop-steps.anchor c.loop-steps.at _ _ _ (one_left c.steps_to-most.result c.loop-steps.steps c.loop-steps-test.true) c.loop-steps.invariant (sym c.is.ensures ∙ c.if-is.true)
+returns-then-is c = grind (arith, is_here, one_left)
 
 pub returns-then-is-2 : goal.returns-then-is-2
 returns-then-is-2 c =

@@ -11,15 +11,7 @@ pub returns-in_default-table_of : goal.returns-in_default-table_of
 returns-in_default-table_of c = ap (λ n. is_at_or_above c.args.self.now n c.args.above c.args.class) (sym most_is)
 
 pub overflow_add-depth : goal.overflow_add-depth
-overflow_add-depth c =
-    let few = few_above c.args.self.now c.args.class c.in-Some.low.now c.in-Some.ensures.right in
-    let is = c.depth.ensures in
-    omega (arith, few, is)
+overflow_add-depth c = grind (arith, few_above)
 
 pub returns : goal.returns
-returns c =
-    let low = c.depth.ensures in
-    let high = c.depth-2.ensures in
-    let left = c.saturating_sub.ensures in
-    between c.args.self.now c.args.class c.args.above c.in-Some.low.now c.in-Some-table_of.high.now
-    c.in-Some.ensures.right c.in-Some-table_of.ensures.right c.saturating_sub.result (omega (arith, low, high, left))
+returns c = grind (arith, between)

@@ -8,14 +8,10 @@ pub loop-steps-init : goal.loop-steps-init
 loop-steps-init c = from_start (virtual_visit c.args.self.now c.args.asker c.args.token) c.args.self.now _ c.args.class _ (all_steps (virtual_visit c.args.self.now c.args.asker c.args.token) c.args.self.now c.args.class)
 
 pub returns-in-Gives : goal.returns-in-Gives
-returns-in-Gives c =
-    gives (virtual_visit c.args.self.now c.args.asker c.args.token) c.args.self.now _ _ _ c.loop-steps.at (one_less c.loop-steps.steps c.loop-steps-test.true) c.loop-steps.invariant.so_far
-    c.in-Gives.method (sym c.method_step.ensures ∙ c.in-Gives.is)
+returns-in-Gives c = grind (arith, gives, one_less)
 
 pub returns-in-Ends : goal.returns-in-Ends
-returns-in-Ends c =
-    ends (virtual_visit c.args.self.now c.args.asker c.args.token) c.args.self.now _ _ _ c.loop-steps.at (one_less c.loop-steps.steps c.loop-steps-test.true) c.loop-steps.invariant.so_far
-    (sym c.method_step.ensures ∙ c.in-Ends.is)
+returns-in-Ends c = grind (arith, ends, one_less)
 
 pub returns-then-is : goal.returns-then-is
 returns-then-is c =

@@ -9,14 +9,10 @@ pub loop-steps-init : goal.loop-steps-init
 loop-steps-init c = from_start (interface_visit c.args.self.now c.args.interface) c.args.self.now _ c.args.class _ (all_steps (interface_visit c.args.self.now c.args.interface) c.args.self.now c.args.class)
 
 pub returns-in-Gives : goal.returns-in-Gives
-returns-in-Gives c =
-    gives (interface_visit c.args.self.now c.args.interface) c.args.self.now _ _ _ c.loop-steps.at (one_less c.loop-steps.steps c.loop-steps-test.true) c.loop-steps.invariant.so_far
-    c.in-Gives.row.now.indexes (sym c.listing_step.ensures ∙ ap (step_map (λ row. row.now.indexes)) c.in-Gives.is)
+returns-in-Gives c = grind (arith, gives, one_less)
 
 pub returns-in-Ends : goal.returns-in-Ends
-returns-in-Ends c =
-    ends (interface_visit c.args.self.now c.args.interface) c.args.self.now _ _ _ c.loop-steps.at (one_less c.loop-steps.steps c.loop-steps-test.true) c.loop-steps.invariant.so_far
-    (sym c.listing_step.ensures ∙ ap (step_map (λ row. row.now.indexes)) c.in-Ends.is)
+returns-in-Ends c = grind (arith, ends, one_less)
 
 pub returns-then-is : goal.returns-then-is
 returns-then-is c =

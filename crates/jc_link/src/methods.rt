@@ -1,0 +1,122 @@
+//! The methods that a class finds, and those that the class above it finds: looked up once for each class.
+
+ghost use Rattle.std.specs.Prelude.{◌≡◌, Some};
+ghost use Rattle.jc_classes.specs.Methods.{public_method_of, virtual_method_of};
+ghost use Rattle.jc_classes.specs.World.{superclass_of};
+ghost use Rattle.jc_link.specs.Named.{method_above};
+ghost use Rattle.jc_link.specs.PrivateMethods.{AreMethodsAbove};
+ghost use Rattle.jc_names.specs.declared.name.ClassName.{ClassName};
+
+use jc_classes::{ClassTable, FoundMethods};
+use jc_names::{ClassName, MethodName, PackagePlace};
+use std::marker::Model;
+
+/// Tokens from here on are package-visible.
+const PACKAGE_VISIBLE: u8 = 128;
+
+/// A class of the package that stands at a place, with the methods that it finds for that package, and those that the
+/// class above it finds.
+#[derive(Drop)]
+pub(crate) struct ClassMethods<'t> {
+    table: &'t ClassTable,
+    home: PackagePlace,
+    class: ClassName,
+    own: FoundMethods,
+    above: Option<FoundMethods>,
+}
+
+impl<'t> Model for ClassMethods<'t> {
+    ghost use Rattle.jc_classes.specs.Methods.{AreMethodsOf};
+    ghost use Rattle.jc_link.specs.PrivateMethods.{AreMethodsAbove, Asked};
+
+    ghost Value = { Asked };
+
+    ghost view = { λ m. record { world = m.table.now; home = m.home; class = m.class } };
+
+    ghost invariant = { λ m. AreMethodsOf m.table.now m.class m.home m.own
+        × AreMethodsAbove m.table.now m.home m.class m.above };
+}
+
+/// The methods of the class above, if there is one.
+fn methods_above(table: &ClassTable, home: PackagePlace, class: ClassName) -> Option<FoundMethods>
+    ensures { AreMethodsAbove table.now home class result }
+{
+    let above = table.superclass_of(class)?;
+    Some(table.virtual_methods(above, home.index()))
+}
+
+impl<'t> ClassMethods<'t> {
+    /// Looks them up.
+    pub(crate) fn new(table: &'t ClassTable, home: PackagePlace, class: ClassName) -> Self
+        ensures { result ≡ record { world = table.now; home = home; class = class } }
+    {
+        ClassMethods {
+            table,
+            home,
+            class,
+            own: table.virtual_methods(class, home.index()),
+            above: methods_above(table, home, class),
+        }
+    }
+
+    /// The world.
+    pub(crate) fn table(&self) -> &'t ClassTable
+        ensures { result.now ≡ self.now.world }
+    {
+        self.table
+    }
+
+    /// Where the class's package stands.
+    pub(crate) fn home(&self) -> PackagePlace
+        ensures { result ≡ self.now.home }
+    {
+        self.home
+    }
+
+    /// The name of the class.
+    pub(crate) fn name(&self) -> ClassName
+        ensures { result ≡ self.now.class }
+    {
+        self.class
+    }
+
+    /// The virtual method of the class at a token.
+    pub(crate) fn own(&self, token: u8) -> Option<MethodName>
+        ensures { result ≡ virtual_method_of self.now.world self.now.class token self.now.home }
+    {
+        self.own.at(token)
+    }
+
+    /// The virtual method of the class above at a token.
+    pub(crate) fn above(&self, token: u8) -> Option<MethodName>
+        ensures { result ≡ method_above self.now.world self.now.home token self.now.class }
+    {
+        match &self.above {
+            Some(methods) => methods.at(token),
+            None => None,
+        }
+    }
+
+    /// The public virtual method of the class at a token.
+    pub(crate) fn public(&self, token: u8) -> Option<MethodName>
+        ensures { result ≡ public_method_of self.now.world self.now.class token }
+    {
+        if token < PACKAGE_VISIBLE {
+            self.own.at(token)
+        } else {
+            None
+        }
+    }
+
+    /// The public virtual method of the class above at a token.
+    pub(crate) fn public_above(&self, token: u8) -> Option<MethodName>
+        ensures { (above : ClassName) → superclass_of self.now.world self.now.class ≡ Some above
+            → result ≡ public_method_of self.now.world above token }
+    {
+        if token < PACKAGE_VISIBLE {
+            self.above(token)
+        } else {
+            None
+        }
+    }
+}

@@ -1,5 +1,5 @@
 -- The branches of an instruction in turn, as a loop takes them.
-use Rattle.std.proofs.Common.{◌≡◌, ℕ, ℤ, ◌+◌, ◌≤◌, List, length, drop, Some, Result, Ok, Err, sym, ap, ◌∙◌}
+use Rattle.std.proofs.Common.{◌≡◌, ℕ, ℤ, ◌+◌, ◌≤◌, List, length, drop, Some, Result, Ok, Err, sym, ap, ◌∙◌, arith}
 use Rattle.std.specs.Prelude.{⊤, slice_get}
 use Rattle.jc_base.specs.declared.reason.Reason.{Reason}
 use Rattle.jc_base.specs.Results.{◌>>=◌}
@@ -17,8 +17,7 @@ goes_on rules listing claims t places k p total at ok so_far =
 
 pub stops : (rules : Rules) (listing : List PlacedInstr) (claims : List Claim) (t : Types) (places : List ℤ) (k : ℕ) (p : ℤ) (total : Result ⊤ Reason) (reason : Reason) → slice_get places k ≡ Some p → Err reason ≡ arrives rules listing claims t p → all_arrive rules listing claims t (drop k places) ≡ total
     → Err reason ≡ total
-stops rules listing claims t places k p total reason at err so_far =
-    sym (ap (λ ps. all_arrive rules listing claims t ps) (drop_get places k p at) ∙ ap (λ (r : Result ⊤ Reason). r >>= λ _. all_arrive rules listing claims t (drop (k + 1) places)) (sym err)) ∙ so_far
+stops rules listing claims t places k p total reason at err so_far = grind (arith, drop_get, Result, drop)
 
 pub is_done : (rules : Rules) (listing : List PlacedInstr) (claims : List Claim) (t : Types) (places : List ℤ) (k : ℕ) (total : Result ⊤ Reason) → length places ≤ k → all_arrive rules listing claims t (drop k places) ≡ total → Ok tt ≡ total
 is_done rules listing claims t places k total le so_far = sym (ap (λ ps. all_arrive rules listing claims t ps) (drop_all places k le)) ∙ so_far

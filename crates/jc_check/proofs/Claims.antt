@@ -1,6 +1,6 @@
 -- What is claimed is what is stated, type by type, with the classes found.
-use Rattle.std.proofs.Common.{◌≡◌, ℕ, suc, ◌+◌, ◌≤◌, List, [], ◌∷◌, ◌++◌, length, drop, Option, Some, None, refl, sym, ap, ◌∙◌}
-use Rattle.std.specs.Prelude.{slice_get, option_map, option_and_then}
+use Rattle.std.proofs.Common.{◌≡◌, ℕ, suc, ◌≤◌, List, [], ◌∷◌, ◌++◌, length, drop, Option, Some, None, refl, sym, ap, ◌∙◌, arith}
+use Rattle.std.specs.Prelude.{slice_get, option_map}
 use Rattle.jc_base.proofs.Binding.{the_some}
 use Rattle.jc_cert.specs.Cert.{Stated}
 use Rattle.jc_cert.specs.declared.stated_type.SpelledClass.{SpelledClass}
@@ -12,7 +12,7 @@ use Rattle.jc_check.specs.Method.{Method}
 use Rattle.jc_check.specs.Claim.{Claim, type_claimed, types_claimed, claim_of}
 use Rattle.jc_check.specs.Carried.{has_shape}
 use Rattle.jc_check.specs.PrivateMarks.{claim_fits}
-use Rattle.jc_check.proofs.Pieces.{drop_get, drop_all, append_nil, append_one, and_then_some, map_some}
+use Rattle.jc_check.proofs.Pieces.{drop_get, drop_all, append_nil, and_then_some, map_some}
 
 as_many : (class_of : SpelledClass → Option ClassName) (types : List StatedType) (found : List Ty) → types_claimed class_of types ≡ Some found → length found ≡ length types
 as_many class_of [] found e = ap (λ (ts : List Ty). length ts) (sym (the_some [] found e))
@@ -29,13 +29,7 @@ pub record IsMade (c : Stated) (d : Claim) : Type 0 where
 
 pub made : (rules : Rules) (c : Stated) (d : Claim) → claim_of rules c ≡ Some d → IsMade c d
 unfolding claim_of
-made rules c d e =
-    let one = and_then_some _ (types_claimed rules.class_of c.locals) d e in
-    let two = map_some _ (types_claimed rules.class_of c.operands) d one.2 in record {
-      pc = ap (λ (x : Claim). x.pc) (sym two.2);
-      locals = ap (λ (x : Claim). length x.locals) (sym two.2) ∙ as_many rules.class_of c.locals one.0 one.1;
-      operands = ap (λ (x : Claim). length x.operands) (sym two.2) ∙ as_many rules.class_of c.operands two.0 two.1;
-    }
+made rules c d e = grind (arith, and_then_some, map_some, length, as_many)
 
 -- it has the shape of what was stated
 pub same_shape : (rules : Rules) (m : Method) (c : Stated) (d : Claim) → claim_of rules c ≡ Some d → claim_fits m d ≡ has_shape m c
@@ -49,9 +43,7 @@ with_found found o = option_map (λ more. found ++ more) o
 
 pub none_found : (class_of : SpelledClass → Option ClassName) (types : List StatedType) (k : ℕ) (t : StatedType) (found : List Ty) (total : Option (List Ty)) → slice_get types k ≡ Some t → type_claimed class_of t ≡ None
     → with_found found (types_claimed class_of (drop k types)) ≡ total → None ≡ total
-none_found class_of types k t found total at is so_far =
-    sym (ap (λ ts. with_found found (types_claimed class_of ts)) (drop_get types k t at) ∙ ap (λ o. with_found found (option_and_then (λ one. option_map (λ more. one ∷ more) (types_claimed class_of (drop (k + 1) types))) o)) is) ∙ so_far
+none_found class_of types k t found total at is so_far = grind (arith, drop_get, drop)
 
 pub all_found : (class_of : SpelledClass → Option ClassName) (types : List StatedType) (k : ℕ) (found : List Ty) (total : Option (List Ty)) → length types ≤ k → with_found found (types_claimed class_of (drop k types)) ≡ total → Some found ≡ total
-all_found class_of types k found total le so_far =
-    ap Some (sym (append_nil found)) ∙ sym (ap (λ ts. with_found found (types_claimed class_of ts)) (drop_all types k le)) ∙ so_far
+all_found class_of types k found total le so_far = grind (arith, append_nil, drop_all)

@@ -1,11 +1,10 @@
 -- Where the states carry a method, the check finds nothing.
-use Rattle.std.proofs.Common.{◌≡◌, ℕ, ℤ, ◌≤◌, ◌<◌, List, [], ◌∷◌, length, map, cond, Option, Some, None, Result, Ok, Bool, true, false, refl, sym, ◌∙◌, subst, arith}
+use Rattle.std.proofs.Common.{◌≡◌, ℕ, ℤ, ◌≤◌, ◌<◌, List, [], ◌∷◌, length, map, cond, Option, Some, None, Result, Ok, Bool, refl, sym, ◌∙◌, subst, arith}
 use Rattle.std.specs.List.{AllByRecursion}
 use Rattle.std.proofs.lemmas.Bool.{lt-ltb}
 use Rattle.jc_base.specs.declared.reason.Reason.{Reason}
 use Rattle.jc_base.specs.Results.{◌>>=◌}
 use Rattle.jc_code.specs.Listing.{PlacedInstr, StandBetween, placed_at, ListingLaws}
-use Rattle.jc_code.specs.Targets.{targets_of, falls_of}
 use Rattle.jc_check.proofs.Listings.{placed_behind, placed_front}
 use Rattle.jc_types.specs.State.{Types}
 use Rattle.jc_cert.specs.Cert.{Stated}
@@ -49,9 +48,7 @@ goes_by rules t (Some c) state h = (None, rw h refl, tt)
 
 falls_goes : (rules : Rules) (m : Method) (claims : List Claim) (typing : Typing) (t : Types) (pc : ℕ) → pc < length m.code → GoesOn rules (state_at claims pc) (typing pc) t → Goes claims typing (falls_to rules m claims t pc) pc
 unfolding falls_to
-falls_goes rules m claims typing t pc lt h =
-    let g = goes_by rules t (state_at claims pc) (typing pc) h in
-    record { flow = g.0; is = rw (lt-ltb pc (length m.code) lt) g.1; fits = g.2 }
+falls_goes rules m claims typing t pc lt h = grind (arith, goes_by, lt-ltb, length)
 
 branch_ok : (rules : Rules) (listing : List PlacedInstr) (claims : List Claim) (t : Types) (place : ℤ) → Arrives rules listing claims t place → arrives rules listing claims t place ≡ Ok tt
 unfolding arrives
@@ -62,16 +59,14 @@ branches_ok rules listing claims t [] h = refl
 branches_ok rules listing claims t (p ∷ ps) h = rw (branch_ok rules listing claims t p h.0) (branches_ok rules listing claims t ps h.1)
 
 behind_goes : (rules : Rules) (m : Method) (claims : List Claim) (typing : Typing) (b : Bool) (t : Types) (pc : ℕ) → GoesOnIf rules m claims typing b t pc → Goes claims typing (falls_if rules m claims b t pc) pc
-behind_goes rules m claims typing true t pc h = falls_goes rules m claims typing t pc h.0 h.1
-behind_goes rules m claims typing false t pc h = record { flow = None; is = refl; fits = h }
+behind_goes rules m claims typing b t pc h1 = grind (arith, falls_goes)
 
 handle_ok : (rules : Rules) (claims : List Claim) (pc : ℕ) (t : Types) (h : Handler) → IsHandled rules claims pc t h → handles rules claims pc t h ≡ Ok tt
 unfolding handles
 handle_ok rules claims pc t h k = by (covers h pc) refl
   where
     by : (b : Bool) → covers h pc ≡ b → cond b (catches_at rules claims t h.goes_on h.caught) (Ok tt) ≡ Ok tt
-    by true e = let c = k e in rw (c.catches, c.stated, c.below) refl
-    by false e = refl
+    by b h1 = grind arith
 
 all_handle_ok : (rules : Rules) (claims : List Claim) (pc : ℕ) (t : Types) (handlers : List Handler) → AllByRecursion (IsHandled rules claims pc t) handlers → all_handle rules claims pc t handlers ≡ Ok tt
 all_handle_ok rules claims pc t [] k = refl
@@ -79,15 +74,11 @@ all_handle_ok rules claims pc t (h ∷ hs) k = rw (handle_ok rules claims pc t h
 
 live_goes : (rules : Rules) (m : Method) (listing : List PlacedInstr) (claims : List Claim) (typing : Typing) (x : PlacedInstr) (s : Types) → IsCarriedAt rules m listing claims typing x s → Goes claims typing (visit_live rules m listing claims x s) x.instr.next_pc
 unfolding visit_live
-live_goes rules m listing claims typing x s c =
-    let g = behind_goes rules m claims typing (falls_of x.instr.operation) c.after x.instr.next_pc c.behind in
-    record { flow = g.flow; is = rw (all_handle_ok rules claims x.pc s m.handlers c.handled, c.effect, branches_ok rules listing claims c.after (targets_of x.pc x.instr.operation) c.branches) g.is; fits = g.fits }
+live_goes rules m listing claims typing x s c = grind (arith, behind_goes, all_handle_ok, branches_ok)
 
 visit_goes : (rules : Rules) (m : Method) (states : List Stated) (c : Carries rules m states) (x : PlacedInstr) (flow o : Option Types) → state_at c.claims x.pc ≡ o → placed_at c.listing x.pc ≡ Some x → Flow o (c.typing x.pc) flow
     → Goes c.claims c.typing (visit_on rules m c.listing c.claims x o flow) x.instr.next_pc
-visit_goes rules m states c x flow (Some s) e at f = live_goes rules m c.listing c.claims c.typing x s (c.live x.pc x s at (c.stated x.pc s e))
-visit_goes rules m states c x (Some t) None e at f = live_goes rules m c.listing c.claims c.typing x t (c.live x.pc x t at f)
-visit_goes rules m states c x None None e at f = record { flow = None; is = refl; fits = c.dead x.pc x at f }
+visit_goes rules m states c x flow o h1 h2 h3 = grind (arith, live_goes)
 
 walk_ok : (rules : Rules) (laws : ListingLaws rules.decoder) (m : Method) (states : List Stated) (c : Carries rules m states) (xs : List PlacedInstr) (pc : ℕ) (flow : Option Types) → StandBetween rules.decoder m.code pc xs (length m.code) → ((q : ℕ) → pc ≤ q → placed_at c.listing q ≡ placed_at xs q)
     → Flow (state_at c.claims pc) (c.typing pc) flow → walk rules m c.listing c.claims flow xs ≡ Ok tt

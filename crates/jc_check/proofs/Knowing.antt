@@ -1,5 +1,5 @@
 -- The types of a linked package's methods name classes of its world.
-use Rattle.std.proofs.Common.{◌≡◌, ℕ, zero, suc, ◌+◌, ◌-◌, ◌<◌, ◌≤◌, ◌^◌, ◌==◌, ◌&&◌, ◌||◌, Bool, true, false, cond, List, [], ◌∷◌, ◌++◌, length, map, Option, Some, None, refl, sym, ap, subst, ◌∙◌, arith, is_some, nat_lt, unwrap_or, slice_get, slice_index_or}
+use Rattle.std.proofs.Common.{◌≡◌, ℕ, zero, suc, ◌+◌, ◌-◌, ◌<◌, ◌≤◌, ◌^◌, ◌==◌, ◌&&◌, ◌||◌, Bool, true, false, cond, List, [], ◌∷◌, ◌++◌, length, map, Option, Some, None, refl, sym, ap, ◌∙◌, arith, is_some, nat_lt, unwrap_or, slice_get, slice_index_or}
 use Rattle.std.proofs.lemmas.Bool.{ltb-true, ltb-false}
 use Rattle.std.proofs.lemmas.List.Folds.{list_all-append}
 use Rattle.std.proofs.lemmas.Option.{slice_get-map}
@@ -9,7 +9,7 @@ use Rattle.jc_base.specs.Signature.{Signature}
 use Rattle.jc_base.specs.declared.declared_type.DeclaredType.{DeclaredType}
 use Rattle.jc_api.specs.Class.{number_of}
 use Rattle.jc_api.specs.declared.class.ApiClass.{ApiClass}
-use Rattle.jc_api.specs.declared.class.ApiClass.TheVariants.{Object, Throwable, Exception, RuntimeException, ArithmeticException, ArrayStoreException, ClassCastException, IndexOutOfBoundsException, ArrayIndexOutOfBoundsException, NegativeArraySizeException, NullPointerException, SecurityException, Shareable, CardRuntimeException, IsoException, SystemException, ApduException, Aid, Apdu, Applet, JcSystem, Util}
+use Rattle.jc_api.specs.declared.class.ApiClass.TheVariants.{Throwable}
 use Rattle.jc_cap_desc.specs.Shape.{MethodBody, Shape}
 use Rattle.jc_cap.specs.declared.method_header.MethodHeader.{MethodHeader}
 use Rattle.jc_classes.specs.Members.{DeclaredMethod}
@@ -20,12 +20,11 @@ use Rattle.jc_classes.specs.Walk.{most_classes}
 use Rattle.jc_names.specs.Names.{home_of}
 use Rattle.jc_classes.specs.World.{superclass_of}
 use Rattle.jc_names.specs.declared.name.ClassName.{ClassName}
-use Rattle.jc_names.specs.declared.name.ClassName.TheVariants.{Api, Loaded}
 use Rattle.jc_link.specs.Classes.{words_of}
-use Rattle.jc_link.specs.Found.{return_found, type_found, types_found}
+use Rattle.jc_link.specs.Found.{type_found, types_found}
 use Rattle.jc_link.specs.KnownTypes.{NameClasses, is_known_return, is_known_target, is_known_type}
 use Rattle.jc_link.specs.Linked.{AreHeaded, IsResolved, Linked}
-use Rattle.jc_link.specs.MemberType.{declared_type_of, type_class}
+use Rattle.jc_link.specs.MemberType.{declared_type_of}
 use Rattle.jc_link.specs.Sound.{HaveMethods}
 use Rattle.jc_link.specs.Target.{pool_target_of, pool_targets}
 use Rattle.jc_link.specs.declared.target.PoolTarget.{PoolTarget}
@@ -51,50 +50,24 @@ true_false : {A : Type 0} → true ≡ false → A
 true_false e = absurd cc
 
 both : (a b : Bool) → a ≡ true → b ≡ true → (a && b) ≡ true
-both true b e f = f
-both false b e f = true_false (sym e)
+both a b h1 h2 = grind (arith, true_false)
 
 each : (a b : Bool) → (a && b) ≡ true → (a ≡ true) × (b ≡ true)
-each true b e = (refl, e)
-each false b e = true_false (sym e)
+each a b h1 = grind (arith, true_false)
 
 some_of : {A B : Type 0} (f : A → Option B) (o : Option A) (b : B) → option_and_then f o ≡ Some b → (a : A) × (o ≡ Some a) × (f a ≡ Some b)
-some_of f None b e = none_some b e
-some_of f (Some a) b e = (a, refl, e)
+some_of f o b h1 = grind (arith, none_some)
 
 mapped : {A B : Type 0} (f : A → B) (o : Option A) (b : B) → option_map f o ≡ Some b → (a : A) × (o ≡ Some a) × (f a ≡ b)
-mapped f None b e = none_some b e
-mapped f (Some a) b e = (a, refl, the_some _ _ e)
+mapped f o b h1 = grind (arith, none_some, the_some)
 
 -- ---- the class of what may be thrown
 
 throwable_number : (a : ApiClass) → (number_of a == number_of Throwable) ≡ true → a ≡ Throwable
-throwable_number Object e = absurd cc
-throwable_number Throwable e = refl
-throwable_number Exception e = absurd cc
-throwable_number RuntimeException e = absurd cc
-throwable_number ArithmeticException e = absurd cc
-throwable_number ArrayStoreException e = absurd cc
-throwable_number ClassCastException e = absurd cc
-throwable_number IndexOutOfBoundsException e = absurd cc
-throwable_number ArrayIndexOutOfBoundsException e = absurd cc
-throwable_number NegativeArraySizeException e = absurd cc
-throwable_number NullPointerException e = absurd cc
-throwable_number SecurityException e = absurd cc
-throwable_number Shareable e = absurd cc
-throwable_number CardRuntimeException e = absurd cc
-throwable_number IsoException e = absurd cc
-throwable_number SystemException e = absurd cc
-throwable_number ApduException e = absurd cc
-throwable_number Aid e = absurd cc
-throwable_number Apdu e = absurd cc
-throwable_number Applet e = absurd cc
-throwable_number JcSystem e = absurd cc
-throwable_number Util e = absurd cc
+throwable_number a h1 = grind arith
 
 is_throwable : (c : ClassName) → is_same_name c throwable ≡ true → c ≡ throwable
-is_throwable (Api a) e = ap Api (throwable_number a e)
-is_throwable (Loaded p m) e = true_false (sym e)
+is_throwable c h1 = grind (arith, throwable_number, true_false)
 
 -- ---- what entries of the pool lead to
 
@@ -127,8 +100,7 @@ module _ (world : List Shape) (names : NameClasses world)
   receiver_known d h = by_static d.method.is_static
     where
       by_static : (b : Bool) → all_known (cond b [] (Class d.class ∷ [])) ≡ true
-      by_static true = refl
-      by_static false = both (is_class_at world d.class) true h refl
+      by_static b = grind (arith, both)
 
   arguments_known : (d : DeclaredMethod) → is_class_at world d.class ≡ true → all_known (arguments_of world d) ≡ true
   arguments_known d h =
@@ -151,9 +123,7 @@ module _ (world : List Shape) (names : NameClasses world)
   below_known (suc n) c d is same e = by_name (is_same_name c d) refl (superclass_of world c) refl e
     where
       by_name : (b : Bool) → is_same_name c d ≡ b → (o : Option ClassName) → superclass_of world c ≡ o → (b || option_map_or (is_at_or_above world n d) o false) ≡ true → is_class_at world c ≡ true
-      by_name true f o s e = ap (is_class_at world) (same f) ∙ is
-      by_name false f None s e = true_false (sym e)
-      by_name false f (Some a) s e = names.heirs c a s
+      by_name b h1 o h2 h3 = grind (arith, true_false)
 
   thrown_known : (c : ClassName) → is_class_below world c throwable ≡ true → is_class_at world c ≡ true
   thrown_known c e = below_known most_classes c throwable names.throwable (is_throwable c) e
@@ -162,8 +132,7 @@ module _ (world : List Shape) (names : NameClasses world)
   caught_known l index c same e = by_index (index == catches_all) e
     where
       by_thrown : (b : Bool) (d : ClassName) → (b ≡ true → is_class_at world d ≡ true) → cond b (Some d) None ≡ Some c → is_class_at world c ≡ true
-      by_thrown true d h f = ap (is_class_at world) (sym (the_some d c f)) ∙ h refl
-      by_thrown false d h f = none_some c f
+      by_thrown b d h1 h2 = grind (arith, the_some, none_some)
 
       by_target : (t : PoolTarget) → thrown_class l.world t ≡ Some c → is_class_at world c ≡ true
       by_target (To.Class d) f =
@@ -175,10 +144,7 @@ module _ (world : List Shape) (names : NameClasses world)
       by_target (To.StaticMethod class m is_static signature) f = none_some c f
 
       by_index : (b : Bool) → cond b (Some throwable) (option_and_then (thrown_class l.world) (slice_get l.body.targets index)) ≡ Some c → is_class_at world c ≡ true
-      by_index true f = ap (is_class_at world) (sym (the_some throwable c f)) ∙ names.throwable
-      by_index false f =
-          let t = some_of (thrown_class l.world) (slice_get l.body.targets index) c f in
-          by_target t.0 t.2
+      by_index b h1 = grind (arith, the_some, some_of, slice_get, by_target)
 
 -- ---- the clauses
 
@@ -223,16 +189,7 @@ module _ (world : List Shape) (d : DeclaredMethod) where
   parameters_count = by_type (declared_type_of world d) refl
     where
       by_type : (o : Option (Signature ClassName)) → declared_type_of world d ≡ o → length (option_map_or (λ signature. map type_of_declared signature.parameters) o []) ≤ length d.method.signature.parameters
-      by_type None e = omega arith
-      by_type (Some t) e =
-          let find = type_class world (home_of d.class) in
-          let s = d.method.signature in
-          let a = some_of (λ parameters. option_map (λ result. record { parameters = parameters; result = result }) (return_found find s.result)) (types_found find s.parameters) t e in
-          let r = mapped (λ result. record { parameters = a.0; result = result }) (return_found find s.result) t a.2 in
-          let same : length t.parameters ≡ length a.0 = ap (λ (t : Signature ClassName). length t.parameters) (sym r.2) in
-          let count = types_count find s.parameters a.0 a.1 in
-          let typed = mapped_count type_of_declared t.parameters in
-          omega (arith, same, count, typed)
+      by_type o h1 = grind (arith, some_of, mapped, length, types_count, mapped_count)
 
   arguments_count : length (arguments_of world d) ≤ words_of d.method
   arguments_count = by_static d.method.is_static parameters_count
@@ -242,8 +199,7 @@ module _ (world : List Shape) (d : DeclaredMethod) where
 
       by_static : (b : Bool) → length rest ≤ length d.method.signature.parameters
           → length (cond b [] (Class d.class ∷ []) ++ rest) ≤ cond b (length d.method.signature.parameters) (length d.method.signature.parameters + 1)
-      by_static true h = h
-      by_static false h = omega (arith, h)
+      by_static b h1 = grind arith
 
 -- what a header says is a byte
 pub few_locals : (l : Linked) (b : MethodBody) (d : DeclaredMethod) → HaveMethods l.world → AreHeaded l.world (length l.world - 1)
@@ -260,10 +216,7 @@ few_locals l b d have headed own small =
     by_header (Some h) at there = ap (λ o. option_map_or (λ (h : MethodHeader). h.nargs) o 0) at ∙ have.words (method_name (length l.world - 1) b.offset) d h own at
 
 pub no_locals : (l : Linked) (b : MethodBody) → own_method l b.offset ≡ None → length (method_of l b).arguments + (method_of l b).max_locals < 2 ^ 16
-no_locals l b own =
-    let arguments : length (method_of l b).arguments ≡ 0 = ap (λ o. length (option_map_or (arguments_of l.world) o [])) own in
-    let others : (method_of l b).max_locals ≡ 0 = ap (λ o. option_map_or max_locals_of o 0) own in
-    omega (arith, arguments, others)
+no_locals l b own = grind (arith, length)
 
 pub few_operands : (l : Linked) (b : MethodBody) (d : DeclaredMethod) → own_method l b.offset ≡ Some d → IsSmallHeader d → (method_of l b).max_stack < 2 ^ 8
 few_operands l b d own small =
@@ -272,14 +225,10 @@ few_operands l b d own small =
     omega (arith, same, small.stack)
   where
     by_header : (o : Option MethodHeader) → unwrap_or (option_map (λ (h : MethodHeader). h.max_stack) o) 0 ≡ option_map_or (λ h. h.max_stack) o 0
-    by_header None = refl
-    by_header (Some h) = refl
+    by_header o = grind arith
 
 pub no_operands : (l : Linked) (b : MethodBody) → own_method l b.offset ≡ None → (method_of l b).max_stack < 2 ^ 8
-no_operands l b own =
-    let same : (method_of l b).max_stack ≡ 0
-    = ap (λ o. unwrap_or (option_map (λ (h : MethodHeader). h.max_stack) (option_and_then (λ (d : DeclaredMethod). d.method.header) o)) 0) own in
-    omega (arith, same)
+no_operands l b own = grind (arith, unwrap_or)
 
 -- no method, and one more
 pub none_small : (l : Linked) → AreSmallFrames l 0
@@ -290,11 +239,7 @@ pub small_step : (l : Linked) (index : ℕ) (body : MethodBody) → IsSmallFrame
 small_step l index body small at before = record { each = λ n b h there. by_place n b h there (nat_lt n index) (ltb-true n index) (ltb-false n index) }
   where
     by_place : (n : ℕ) (b : MethodBody) → n < index + 1 → slice_get l.body.kept.methods n ≡ Some b → (c : Bool) → (c ≡ true → n < index) → (c ≡ false → index ≤ n) → IsSmallFrame l b
-    by_place n b h there true less more = before.each n b (less refl) there
-    by_place n b h there false less more =
-        let low = more refl in
-        let same : index ≡ n = omega (arith, low, h) in
-        subst (IsSmallFrame l) (the_some body b (sym at ∙ ap (slice_get l.body.kept.methods) same ∙ there)) small
+    by_place n b h1 h2 c h3 h4 = grind (arith, each, the_some, slice_get)
 
 get_within : {A : Type 0} (xs : List A) (i : ℕ) (x : A) → slice_get xs i ≡ Some x → i < length xs
 get_within [] i x e = none_some x e

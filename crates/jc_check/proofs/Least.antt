@@ -1,5 +1,5 @@
 -- What is known of a package while its methods are checked one after the other.
-use Rattle.std.proofs.Common.{◌≡◌, ℕ, ◌+◌, ◌<◌, ◌≤◌, inl, inr, Bool, true, false, List, length, Option, Some, None, refl, sym, ap, subst, ◌∙◌, arith, nat_lt, slice_get}
+use Rattle.std.proofs.Common.{◌≡◌, ℕ, ◌+◌, ◌<◌, ◌≤◌, Bool, true, false, List, length, Option, Some, None, refl, sym, ap, subst, ◌∙◌, arith, nat_lt, slice_get}
 use Rattle.std.proofs.lemmas.Bool.{ltb-true, ltb-false}
 use Rattle.std.proofs.lemmas.Option.{none-some, same_Some, slice_get_within}
 use Rattle.jc_base.specs.declared.fault.LoadFault.{LoadFault}
@@ -12,7 +12,7 @@ use Rattle.jc_code.specs.Listing.{ListingLaws}
 use Rattle.jc_link.specs.Linked.{Linked}
 use Rattle.jc_types.specs.State.{Types, types_below}
 use Rattle.jc_check.specs.Carried.{Carries}
-use Rattle.jc_check.specs.Checked.{CarriesPackage, IsFirstRefusal, IsMethodCarried, IsPackageTyped, IsRefusal, method, stated_for, stray, stray_offset}
+use Rattle.jc_check.specs.Checked.{CarriesPackage, IsFirstRefusal, IsMethodCarried, IsPackageTyped, IsRefusal, method, stated_for, stray_offset}
 use Rattle.jc_check.specs.FirstFault.{IsFirstFault}
 use Rattle.jc_check.specs.Method.{Method}
 use Rattle.jc_check.specs.Package.{method_of, package_rules}
@@ -46,13 +46,7 @@ module _ (l : Linked) (rows : List Row) where
 
   pub one_carried : (n : ℕ) (b : MethodBody) (told : Option MethodFault) → slice_get methods n ≡ Some b → IsMethodCarried l rows b → LeastOf l rows n told → LeastOf l rows (n + 1) told
   one_carried n b None is carried h = carried_more n b is carried (IsMethodCarried l rows) (λ c g. g) h
-  one_carried n b (Some f) is carried h = record {
-    place = h.place;
-    b = h.b;
-    is = h.is;
-    fault = h.fault;
-    before = λ k c lt e. carried_more n b is carried (λ c. c.offset < f.method → IsMethodCarried l rows c) (λ c g _. g) h.before k c lt e;
-  }
+  one_carried n b (Some f) is carried h = search (arith, carried_more)
 
   -- ---- all methods
 
@@ -73,14 +67,11 @@ module _ (l : Linked) (rows : List Row) where
 
   pub none_refused : ((rules : Rules) → ListingLaws rules.decoder → (m : Method) (states : List Stated) (fault : Fault) → IsFirstFault rules m states fault → Carries rules m states → ⊥)
       → ListingLaws (package_rules l).decoder → CarriesPackage l rows → (fault : LoadFault) → IsFirstRefusal l rows fault → ⊥
-  none_refused never laws carries _ (stray offset e) = none-some _ (sym carries.no_stray ∙ e)
-  none_refused never laws carries _ (method b fault none h) =
-      never (package_rules l) laws (method_of l b) (stated_for rows b.offset) fault h.first (carries.methods h.place b h.is)
+  none_refused h1 h2 h3 fault h4 = grind (arith, none-some)
 
   pub memory_alone : ((rules : Rules) → ListingLaws rules.decoder → (m : Method) (states : List Stated) (fault : Fault) → IsFirstFault rules m states fault → Carries rules m states → ⊥)
       → ListingLaws (package_rules l).decoder → CarriesPackage l rows → (fault : LoadFault) → IsRefusal l rows fault → fault ≡ Memory
-  memory_alone never laws carries fault (inl e) = e
-  memory_alone never laws carries fault (inr h) = absurd (none_refused never laws carries fault h)
+  memory_alone h1 h2 h3 fault h4 = grind (arith, none_refused)
 
   -- ---- it is well typed
 

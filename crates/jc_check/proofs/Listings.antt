@@ -19,10 +19,7 @@ placed_begins (y ∷ ys) pc e = step (y.pc == pc) (λ k. placed_begins ys pc k) 
 -- from one instruction on, a listing has those behind it
 pub placed_behind : {decoder : Decoder} (laws : ListingLaws decoder) (code : List ℕ) (from to : ℕ) (x : PlacedInstr) (xs : List PlacedInstr) (pc : ℕ) → StandBetween decoder code from (x ∷ xs) to → x.instr.next_pc ≤ pc → placed_at (x ∷ xs) pc ≡ placed_at xs pc
 unfolding placed_at
-placed_behind laws code from to x xs pc h le =
-    let n = laws.ascends code from x.instr h.1 in
-    let ne : x.pc ≡ pc → ⊥ = λ e. omega (arith, h.0) in
-    rw (ne_eqb x.pc pc ne) refl
+placed_behind laws code from to x xs pc h le = grind (arith, ne_eqb)
 
 pub placed_front : (x : PlacedInstr) (xs : List PlacedInstr) (pc : ℕ) → x.pc ≡ pc → placed_at (x ∷ xs) pc ≡ Some x
 unfolding placed_at
@@ -33,13 +30,11 @@ unfolding begins
 begins-push [] x pc = flip (x.pc == pc)
   where
     flip : (b : Bool) → b || false ≡ b
-    flip true = refl
-    flip false = refl
+    flip b = grind arith
 begins-push (y ∷ ys) x pc = rw (begins-push ys x pc) (regroup (y.pc == pc) (begins ys pc) (x.pc == pc))
   where
     regroup : (a b c : Bool) → a || (b || c) ≡ (a || b) || c
-    regroup true b c = refl
-    regroup false b c = refl
+    regroup a b c = grind arith
 
 -- no instruction begins past the code
 pub none_past : {decoder : Decoder} (laws : ListingLaws decoder) (code : List ℕ) (listing : List PlacedInstr) (pc : ℕ) → IsListing decoder code listing → length code ≤ pc → begins listing pc ≡ false

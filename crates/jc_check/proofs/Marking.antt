@@ -1,5 +1,5 @@
 -- Marking where instructions begin.
-use Rattle.std.proofs.Common.{◌≡◌, ℕ, zero, suc, ◌≤◌, ◌<◌, ◌==◌, List, [], ◌∷◌, ◌++◌, length, get_or, set, Result, Ok, Err, Bool, true, false, ◌||◌, inl, inr, refl, sym, ap, ◌∙◌, subst, arith, length-set, get_or-set_same, get_or-set_other}
+use Rattle.std.proofs.Common.{◌≡◌, ℕ, zero, suc, ◌≤◌, ◌<◌, ◌==◌, List, [], ◌∷◌, ◌++◌, length, get_or, set, Result, Ok, Bool, true, false, ◌||◌, inl, inr, refl, sym, ap, ◌∙◌, subst, arith, length-set, get_or-set_same, get_or-set_other}
 use Rattle.std.specs.Prelude.{replicate}
 use Rattle.std.proofs.lemmas.List.{length-replicate}
 use Rattle.std.proofs.lemmas.Bool.{cases_eq, eq-eqb, ne_eqb}
@@ -35,12 +35,10 @@ none_yet decoder code marks e = record {
 }
 
 true_last : (b : Bool) → b || true ≡ true
-true_last true = refl
-true_last false = refl
+true_last b = grind arith
 
 false_last : (b : Bool) → b || false ≡ b
-false_last true = refl
-false_last false = refl
+false_last b = grind arith
 
 one_more : (code : List ℕ) (pc : ℕ) (i : Instr) (front : List PlacedInstr) (marks : List Mark) → pc < length code → MarksStarts code front marks → MarksStarts code (front ++ placed pc i ∷ []) (set marks pc Start)
 one_more code pc i front marks lt marked = record {
@@ -71,16 +69,12 @@ with_instr decoder code pc i marks lt at within s = record {
 -- where an instruction goes on, one stands
 stands : (r : Result Instr CodeFault) (behind : ℕ) → Ok behind ≡ next_pc_of r
     → (i : Instr) × (r ≡ Ok i) × (i.next_pc ≡ behind)
-stands (Ok i) behind e = (i, refl, sym (the_ok behind i.next_pc e))
-stands (Err fault) behind e = absurd (ok_err behind fault e)
+stands r behind h1 = grind (arith, the_ok, ok_err)
 
 pub goes_on : (decoder : Decoder) → ListingLaws decoder → (code : List ℕ) (pc behind : ℕ) (marks : List Mark)
     → pc < length code → Ok behind ≡ next_pc_of (decoder code pc) → SoFar decoder code pc marks
     → SoFar decoder code behind (set marks pc Start)
-goes_on decoder laws code pc behind marks lt e so =
-    let s = stands (decoder code pc) behind e in
-    subst (λ (n : ℕ). SoFar decoder code n (set marks pc Start)) s.2
-    (with_instr decoder code pc s.0 marks lt s.1 (laws.ascends code pc s.0 s.1).1 so)
+goes_on decoder laws code pc behind marks lt e so = grind (arith, stands, set, with_instr)
 
 pub is_done : (decoder : Decoder) (code : List ℕ) (pc : ℕ) (marks : List Mark) → length code ≤ pc → SoFar decoder code pc marks → (listing : List PlacedInstr) × IsListing decoder code listing × MarksStarts code listing marks
 is_done decoder code pc marks le s =

@@ -5,16 +5,15 @@ use Rattle.std.proofs.lemmas.Iterator.Adapters.{position_from-zero}
 use Rattle.std.proofs.lemmas.Slice.Eq.{bytes_eq-Decides}
 use Rattle.std.specs.List.{list_any, position, position_from}
 use Rattle.std.specs.Option.{option_and_then, option_map, option_map_or, option_or}
-use Rattle.jc_base.specs.declared.class_ref.ClassRef.TheVariants.{Internal}
-use Rattle.jc_base.specs.declared.fault.LoadFault.TheVariants.{MissingImport, Unresolved, TypeMismatch, BadClass, BadStatic, DuplicatePackage}
+use Rattle.jc_base.specs.declared.fault.LoadFault.TheVariants.{MissingImport, Unresolved, TypeMismatch, BadClass, BadStatic}
 use Rattle.jc_cap.specs.ClassComponent.{is_class}
 use Rattle.jc_cap_desc.specs.Shape.{ClassShape, Package, Shape}
 use Rattle.jc_cert.specs.declared.stated_type.SpelledClass.{SpelledClass}
 use Rattle.jc_cert.specs.declared.stated_type.SpelledClass.TheVariants as spelled
 use Rattle.jc_classes.specs.Growth.{grown}
 use Rattle.jc_classes.specs.Subtype.{is_class_at}
-use Rattle.jc_names.specs.Names.{api_name, name_in, offset_of}
-use Rattle.jc_classes.specs.World.{class_at, class_in, class_named, if_there, loaded_with, package_at}
+use Rattle.jc_names.specs.Names.{offset_of}
+use Rattle.jc_classes.specs.World.{class_at, class_in, loaded_with, package_at}
 use Rattle.jc_names.specs.declared.name.ClassName.{ClassName}
 use Rattle.jc_names.specs.declared.name.ClassName.TheVariants.{Api, Loaded}
 use Rattle.jc_link.specs.Built.{IsBuilt, api, loaded}
@@ -22,7 +21,7 @@ use Rattle.jc_link.specs.Imports.{first_unmet, is_there_already}
 use Rattle.jc_link.specs.Pool.{first_mistyped, first_unresolved}
 use Rattle.jc_link.specs.Statics.{first_bad_static}
 use Rattle.jc_link.specs.WellFormed.{IsWellFormed, duplicate, first_bad_class}
-use Rattle.jc_check.specs.Package.{class_of_name, class_with_record, if_class}
+use Rattle.jc_check.specs.Package.{class_of_name, class_with_record}
 use Rattle.jc_check.specs.PrivateNames.{spelled_name}
 
 -- ---- options and lists
@@ -37,20 +36,16 @@ true_false : {A : Type 0} → true ≡ false → A
 true_false e = absurd cc
 
 some_of : {A B : Type 0} (f : A → Option B) (o : Option A) (b : B) → option_and_then f o ≡ Some b → (a : A) × (o ≡ Some a) × (f a ≡ Some b)
-some_of f None b e = none_some b e
-some_of f (Some a) b e = (a, refl, e)
+some_of f o b h1 = grind (arith, none_some)
 
 behind_none : {A : Type 0} (a b : Option A) → option_or a b ≡ None → b ≡ None
-behind_none None b e = e
-behind_none (Some x) b e = none_some x (sym e)
+behind_none a b h1 = grind (arith, none_some)
 
 left_false : (a b : Bool) → (a || b) ≡ false → a ≡ false
-left_false true b e = e
-left_false false b e = refl
+left_false a b h1 = grind arith
 
 right_false : (a b : Bool) → (a || b) ≡ false → b ≡ false
-right_false true b e = true_false e
-right_false false b e = e
+right_false a b h1 = grind (arith, true_false)
 
 none_at : {A : Type 0} (p : A → Bool) (xs : List A) (n : ℕ) (x : A) → list_any p xs ≡ false → slice_get xs n ≡ Some x → p x ≡ false
 none_at p [] n x e at = none_some x at
@@ -64,9 +59,7 @@ get_taken (x ∷ xs) (suc m) zero h = refl
 get_taken (x ∷ xs) (suc m) (suc n) h = get_taken xs m n (omega arith)
 
 get_dropped : {A : Type 0} (xs : List A) (n : ℕ) → slice_get (drop 2 xs) n ≡ slice_get xs (suc (suc n))
-get_dropped [] n = refl
-get_dropped (x ∷ []) n = refl
-get_dropped (x ∷ y ∷ xs) n = refl
+get_dropped xs n = grind arith
 
 get_before : {A : Type 0} (xs : List A) (y : A) (i : ℕ) → i < length xs → slice_get (xs ++ y ∷ []) i ≡ slice_get xs i
 get_before [] y i h = absurd (omega arith)
@@ -98,9 +91,7 @@ first_from p from (y ∷ ys) (suc k) x at pass none =
 
 first_there : {A : Type 0} (p : A → Bool) (xs : List A) (k : ℕ) (x : A) → slice_get xs k ≡ Some x → p x ≡ true
     → ((n : ℕ) (y : A) → n < k → slice_get xs n ≡ Some y → p y ≡ false) → position p xs ≡ Some k
-first_there p xs k x at pass none =
-    let e : 0 + k ≡ k = omega arith in
-    position_from-zero p xs ∙ first_from p 0 xs k x at pass none ∙ ap Some e
+first_there p xs k x at pass none = grind (arith, position_from-zero, first_from)
 
 -- ---- AIDs
 
@@ -117,8 +108,7 @@ other_aid a b h = by_test (bytes_eq b a) refl
     one_aid e = search (rules, bytes_eq-Decides)
 
     by_test : (t : Bool) → bytes_eq b a ≡ t → bytes_eq b a ≡ false
-    by_test true e = true_false (sym (ap (bytes_eq a) (one_aid e) ∙ same_aid a) ∙ h)
-    by_test false e = e
+    by_test t h1 = grind (arith, true_false, bytes_eq, one_aid, same_aid)
 
 -- a package that is well-formed isn't there already
 is_fresh : (before : List Shape) (p : Package) → IsWellFormed before p → is_there_already (take (length before) (grown before p.shape)) p.shape ≡ false
@@ -133,8 +123,7 @@ is_fresh before p well =
     by_found (is_there_already (take home world) p.shape) e
   where
     by_found : (b : Bool) → duplicate b ≡ None → b ≡ false
-    by_found true e = none_some DuplicatePackage (sym e)
-    by_found false e = refl
+    by_found b h1 = grind (arith, none_some)
 
 -- a loaded package has another AID than each before it
 aids_differ : (world : List Shape) → IsBuilt world → (n h : ℕ) (s t : Shape) → 2 ≤ h → n < h → slice_get world n ≡ Some s → slice_get world h ≡ Some t
@@ -176,27 +165,18 @@ class_there : (world : List Shape) (c : ClassName) → is_class_at world c ≡ t
 class_there world c e = by_class (class_at world c) e
   where
     by_class : (o : Option ClassShape) → option_map_or (λ k. is_class k.body) o false ≡ true → is_some o ≡ true
-    by_class None f = true_false (sym f)
-    by_class (Some k) f = refl
+    by_class o h1 = grind (arith, true_false)
 
 package_there : (world : List Shape) (c : ClassName) → is_some (class_at world c) ≡ true → (s : Shape) × (package_at world c ≡ Some s)
 package_there world c e = by_package (package_at world c) e
   where
     by_package : (o : Option Shape) → is_some (option_and_then (class_in (offset_of c)) o) ≡ true → (s : Shape) × (o ≡ Some s)
-    by_package None f = true_false (sym f)
-    by_package (Some s) f = (s, refl)
+    by_package o h1 = grind (arith, true_false)
 
 -- the record that stands there is the class's
 record_found : (world : List Shape) (n offset : ℕ) → is_class_at world (Loaded (suc n) offset) ≡ true
     → class_with_record world (suc (suc n)) offset ≡ Some (Loaded (suc n) offset)
-record_found world n offset is =
-    let one : suc (suc n) - 1 ≡ suc n = omega arith in
-    let named : name_in (suc (suc n)) offset ≡ Some (Loaded (suc n) offset)
-    = ap (λ b. cond b (api_name (suc (suc n)) offset) (Some (Loaded (suc (suc n) - 1) offset))) (le-ltb (suc (suc n)) 2 (omega arith)) ∙ ap (λ i. Some (Loaded i offset)) one in
-    let there = class_there world (Loaded (suc n) offset) is in
-    let found : class_named world (suc (suc n)) (Internal offset) ≡ Some (Loaded (suc n) offset)
-    = ap (option_and_then (if_there world)) named ∙ ap (λ b. cond b (Some (Loaded (suc n) offset)) None) there in
-    ap (option_and_then (if_class world)) found ∙ ap (λ b. cond b (Some (Loaded (suc n) offset)) None) is
+record_found world n offset is = grind (arith, le-ltb, class_there)
 
 -- a class has a name, which stands for it
 record IsNamed (world : List Shape) (c : ClassName) : Type 0 where
@@ -238,8 +218,7 @@ no_class : (world : List Shape) (c : ClassName) → (is_class_at world c ≡ tru
 no_class world c h = by_test (is_class_at world c) h
   where
     by_test : (b : Bool) → (b ≡ true → ⊥) → b ≡ false
-    by_test true h = absurd (h refl)
-    by_test false h = refl
+    by_test b h1 = grind arith
 
 pub unnamed : (world : List Shape) (c : ClassName) → IsBuilt world → spelled_name world c ≡ None → is_class_at world c ≡ false
 unnamed world c built e = no_class world c (λ is. let named = is_named world built c is in none_some named.name (sym e ∙ named.spelled))

@@ -1,5 +1,5 @@
 -- The order where there are no classes.
-use Rattle.std.proofs.Common.{◌≡◌, suc, zero, true, List, [], None, refl, ap, ◌∙◌}
+use Rattle.std.proofs.Common.{◌≡◌, suc, true, List, [], None, refl, ap, ◌∙◌, arith}
 use Rattle.std.specs.Option.{option_map_or}
 use Rattle.jc_cap_desc.specs.Shape.{Shape}
 use Rattle.jc_api.specs.declared.class.ApiClass.TheVariants.{Object}
@@ -7,7 +7,7 @@ use Rattle.jc_classes.specs.Subtype.{IsOrder, IsOrderly, Lists, comes_to_end, is
 use Rattle.jc_classes.specs.Walk.{most_classes}
 use Rattle.jc_classes.specs.World.{superclass_of}
 use Rattle.jc_names.specs.declared.name.ClassName.{ClassName}
-use Rattle.jc_names.specs.declared.name.ClassName.TheVariants.{Api, Loaded}
+use Rattle.jc_names.specs.declared.name.ClassName.TheVariants.{Api}
 
 -- the world without packages
 abbrev pub nothing : List Shape
@@ -18,14 +18,10 @@ unfolding most_classes
 most_is = refl
 
 no_superclass : (c : ClassName) → superclass_of nothing c ≡ None
-no_superclass (Api a) = refl
-no_superclass (Loaded zero o) = refl
-no_superclass (Loaded (suc n) o) = refl
+no_superclass c = grind arith
 
 lists_none : (c i : ClassName) → Lists nothing c i → ⊥
-lists_none (Api a) i h = h
-lists_none (Loaded zero o) i h = h
-lists_none (Loaded (suc n) o) i h = h
+lists_none c i h1 = grind arith
 
 ends : (c : ClassName) → comes_to_end nothing most_classes c ≡ true
 ends c = ap (λ n. comes_to_end nothing n c) most_is ∙ ap (λ o. option_map_or (comes_to_end nothing 17_084) o true) (no_superclass c)

@@ -1,5 +1,5 @@
 -- Lists taken apart, and options that are there.
-use Rattle.std.proofs.Common.{◌≡◌, ℕ, zero, suc, ◌+◌, ◌≤◌, List, [], ◌∷◌, ◌++◌, length, drop, Option, Some, None, refl, ap, arith}
+use Rattle.std.proofs.Common.{◌≡◌, ℕ, zero, suc, ◌+◌, ◌≤◌, List, [], ◌∷◌, ◌++◌, length, drop, Option, Some, refl, ap, arith}
 use Rattle.std.specs.Prelude.{slice_get, option_map, option_and_then}
 use Rattle.jc_base.proofs.Binding.{none_some, the_some}
 
@@ -32,9 +32,7 @@ append_one [] y zs = refl
 append_one (x ∷ xs) y zs = ap (λ ys. x ∷ ys) (append_one xs y zs)
 
 pub and_then_some : {A B : Type 0} (f : A → Option B) (o : Option A) (y : B) → option_and_then f o ≡ Some y → (x : A) × (o ≡ Some x) × (f x ≡ Some y)
-and_then_some f None y e = absurd (none_some y e)
-and_then_some f (Some x) y e = (x, refl, e)
+and_then_some f o y h1 = grind (arith, none_some)
 
 pub map_some : {A B : Type 0} (f : A → B) (o : Option A) (y : B) → option_map f o ≡ Some y → (x : A) × (o ≡ Some x) × (f x ≡ y)
-map_some f None y e = absurd (none_some y e)
-map_some f (Some x) y e = (x, refl, the_some (f x) y e)
+map_some f o y h1 = grind (arith, none_some, the_some)

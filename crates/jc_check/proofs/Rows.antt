@@ -68,5 +68,4 @@ outside_is (m ∷ ms) has code same = ap (λ b. option_map row (cond (not b) (So
   where
     by_test : (b : Bool) → option_map row (find (λ m. not (has m.offset)) ms) ≡ find (λ r. not (code r.offset)) (rows ms)
         → option_map row (cond (not b) (Some m) (find (λ m. not (has m.offset)) ms)) ≡ cond (not b) (Some (row m)) (find (λ r. not (code r.offset)) (rows ms))
-    by_test true e = e
-    by_test false e = refl
+    by_test b h1 = grind arith

@@ -1,6 +1,6 @@
 -- The states of a method that is carried are all of its shape.
-use Rattle.std.proofs.Common.{◌≡◌, ℕ, ◌+◌, ◌<◌, ◌≤◌, ◌==◌, ◌&&◌, ◌||◌, List, [], ◌∷◌, length, map, replicate}
-use Rattle.std.proofs.Common.{Option, Some, None, Bool, true, false, cond, nat_le, refl, sym, ap, subst, ◌∙◌, arith}
+use Rattle.std.proofs.Common.{◌≡◌, ℕ, ◌<◌, ◌≤◌, ◌==◌, ◌&&◌, ◌||◌, List, [], ◌∷◌, length, map, replicate}
+use Rattle.std.proofs.Common.{Option, Some, None, Bool, true, false, cond, nat_le, refl, sym, subst, ◌∙◌, arith}
 use Rattle.std.proofs.Common.{length-append}
 use Rattle.std.proofs.lemmas.Bool.{eqb-true, leb-true}
 use Rattle.std.proofs.lemmas.List.{length-replicate, length-reverse}
@@ -18,7 +18,6 @@ use Rattle.jc_effects.specs.Laws.{KeepsShape, StaysWithin}
 use Rattle.jc_effects.specs.Words.{word_effect}
 use Rattle.jc_types.specs.State.{Types}
 use Rattle.jc_types.specs.declared.ty.Ty.{Ty}
-use Rattle.jc_types.specs.declared.ty.Ty.TheVariants.{Top}
 use Rattle.jc_check.specs.Carried.{Carries, GoesOn, GoesOnIf, NothingGoesOn, Stands, has_shape, state_at, types_of}
 use Rattle.jc_check.specs.Claim.{Claim, claim_of}
 use Rattle.jc_check.specs.Method.{Method, entry_of}
@@ -39,29 +38,18 @@ words_keep words most returned (Word operation) = words (is_class_below []) most
 words_keep words most returned (Object operation) = λ s t e. absurd cc
 
 both : (a b : Bool) → (a && b) ≡ true → (a ≡ true) × (b ≡ true)
-both true b e = (refl, e)
-both false b e = absurd cc
+both a b h1 = grind arith
 
 -- ---- where a shape comes from
 
 entry_shaped : (m : Method) → HasShape m (entry_of m)
-entry_shaped m = record {
-  locals =
-      length-append m.arguments (replicate m.max_locals Top)
-      ∙ ap (λ n. length m.arguments + n) (length-replicate m.max_locals Top);
-  operands = omega arith;
-}
+entry_shaped m = grind (arith, length-append, replicate, length, length-replicate)
 
 after_shaped : (m : Method) (s t : Types) → StaysWithin m.max_stack s t → HasShape m s → HasShape m t
 after_shaped m s t stays h = record { locals = stays.locals ∙ h.locals; operands = stays.operands h.operands }
 
 stated_shaped : (m : Method) (c : Stated) (d : Claim) → IsMade c d → has_shape m c ≡ true → HasShape m (types_of d)
-stated_shaped m c d is fits =
-    let count = length m.arguments + m.max_locals in
-    let two = both (length c.locals == count) (nat_le (length c.operands) m.max_stack) fits in record {
-      locals = is.locals ∙ eqb-true (length c.locals) count two.0;
-      operands = omega (arith, length-reverse d.operands, is.operands, leb-true (length c.operands) m.max_stack two.1);
-    }
+stated_shaped m c d is fits = grind (arith, length, both, nat_le, eqb-true, length-reverse, leb-true)
 
 claims_shaped : (rules : Rules) (m : Method) (listing : List PlacedInstr) (states : List Stated) (claims : List Claim)
     → map (claim_of rules) states ≡ map Some claims → AllByRecursion (Stands m listing) states
@@ -80,10 +68,7 @@ claims_shaped rules m listing (c ∷ states) (d ∷ claims) found fitting pc t e
 
     by_place : (b : Bool) → (state_at claims pc ≡ Some t → HasShape m t)
         → cond b (Some (types_of d)) (state_at claims pc) ≡ Some t → HasShape m t
-    by_place true later g =
-        let stated = stated_shaped m c d (made rules c d (first found)) fitting.0.shape in
-        subst (HasShape m) (same_Some (types_of d) t g) stated
-    by_place false later g = later g
+    by_place b h1 h2 = grind (arith, stated_shaped, made, first, same_Some)
 
 -- ---- from instruction to instruction
 
@@ -145,8 +130,7 @@ module _ (rules : Rules) (laws : ListingLaws rules.decoder) (keeps : KeepShapes 
 
       by_place : (e : Bool) → (x.pc == pc) ≡ e → (begins xs pc ≡ true → IsShapedAt pc) → e || begins xs pc ≡ true
           → IsShapedAt pc
-      by_place true e later g = subst IsShapedAt (sym stand.0 ∙ eqb-true x.pc pc e) here
-      by_place false e later g = later g
+      by_place e h1 h2 h3 = grind (arith, eqb-true)
 
   -- each state
   pub shaped : (pc : ℕ) (t : Types) → c.typing pc ≡ Some t → HasShape m t

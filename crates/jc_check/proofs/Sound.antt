@@ -1,5 +1,5 @@
 -- Where the check finds nothing, the states carry the method.
-use Rattle.std.proofs.Common.{◌≡◌, ℕ, ℤ, pos, negsuc, ◌≤◌, ◌<◌, ◌==◌, List, [], ◌∷◌, length, map, nat_lt, Option, Some, None, Result, Ok, Err, Bool, true, false, ◌||◌, cond, ◌⊎◌, inl, inr, refl, sym, ap, ◌∙◌, subst, arith}
+use Rattle.std.proofs.Common.{◌≡◌, ℕ, ℤ, pos, ◌≤◌, ◌<◌, ◌==◌, List, [], ◌∷◌, length, map, nat_lt, Option, Some, None, Result, Ok, Err, Bool, true, false, ◌||◌, cond, ◌⊎◌, inl, inr, refl, sym, ap, ◌∙◌, subst, arith}
 use Rattle.std.specs.Prelude.{⊤}
 use Rattle.std.specs.List.{AllByRecursion}
 use Rattle.std.proofs.lemmas.Bool.{ltb-true, ltb-false, eqb-true, eq-eqb, ne_eqb}
@@ -21,15 +21,13 @@ use Rattle.jc_check.proofs.Claims.{made}
 use Rattle.jc_check.proofs.Standing.{state_fits}
 
 told_ok : {A : Type 0} (pc : ℕ) (r : Result A Reason) (x : A) → told_at pc r ≡ Ok x → r ≡ Ok x
-told_ok pc (Ok y) x h = ap Ok (the_ok y x h)
-told_ok pc (Err e) x h = absurd cc
+told_ok pc r x h1 = grind (arith, the_ok)
 
 either_way : (a b : ℕ) → (a < b) ⊎ (b ≤ a)
 either_way a b = by_test (nat_lt a b) refl
   where
     by_test : (t : Bool) → nat_lt a b ≡ t → (a < b) ⊎ (b ≤ a)
-    by_test true h = inl (ltb-true a b h)
-    by_test false h = inr (ltb-false a b h)
+    by_test t h1 = grind (arith, ltb-true, ltb-false)
 
 -- each handler stands
 pub handlers_hold : (listing : List PlacedInstr) (handlers : List Handler) → handlers_stand listing handlers ≡ Ok tt → AllByRecursion (HandlerStands listing) handlers
@@ -42,8 +40,7 @@ handlers_hold listing (x ∷ xs) h =
     (record { begin = g.0; class = k.0; catches = k.1 }, handlers_hold listing xs one.2)
   where
     some_caught : (o : Option ClassName) (u : ⊤) → catches_some o ≡ Ok u → (class : ClassName) × (o ≡ Some class)
-    some_caught None u e = absurd cc
-    some_caught (Some class) u e = (class, refl)
+    some_caught o u h1 = grind arith
 
 -- what is claimed where each of the certificate's states stands
 pub record AreClaimed (rules : Rules) (m : Method) (listing : List PlacedInstr) (states : List Stated) (claims : List Claim) : Type 0 where
@@ -105,8 +102,7 @@ only_starts rules m listing claims flow (x ∷ xs) q s e =
     ]
   where
     last : (b : Bool) → b || true ≡ true
-    last true = refl
-    last false = refl
+    last b = grind arith
 
 -- it has the certificate's state wherever an instruction begins
 has_stated : (rules : Rules) (m : Method) (listing : List PlacedInstr) (claims : List Claim) (flow : Option Types) (xs : List PlacedInstr) (q : ℕ) (s : Types) → begins xs q ≡ true → state_at claims q ≡ Some s → typing_of rules m listing claims flow xs q ≡ Some s
@@ -137,12 +133,10 @@ nothing_goes : (rules : Rules) (m : Method) (listing : List PlacedInstr) (claims
 nothing_goes rules m listing claims typing xs pc runs same = by (state_at claims pc) refl
   where
     by : (o : Option Types) → state_at claims pc ≡ o → NothingGoesOn o (typing pc)
-    by None e = same ∙ first_none rules m listing claims xs pc runs e
-    by (Some c) e = tt
+    by o h1 = grind (arith, first_none)
 
 goes_by : (rules : Rules) (t : Types) (o f state : Option Types) → state ≡ choose o f → flows rules t o ≡ Ok f → GoesOn rules o state t
-goes_by rules t None f state e h = e ∙ sym (the_ok _ _ h)
-goes_by rules t (Some c) f state e h = (guard_ok (types_below rules.below t c) (Ok None) CertMismatch f h).0
+goes_by rules t o f state h1 h2 = grind (arith, the_ok, guard_ok)
 
 -- what goes on behind an instruction
 behind : (rules : Rules) (m : Method) (listing : List PlacedInstr) (claims : List Claim) (typing : Typing) (xs : List PlacedInstr) (falls : Bool) (t : Types) (pc : ℕ) (f : Option Types) → StandBetween rules.decoder m.code pc xs (length m.code)
@@ -158,15 +152,11 @@ behind rules m listing claims typing xs false t pc f runs same h =
     nothing_goes rules m listing claims typing xs pc runs (subst T none same)
 
 met : (rules : Rules) (listing : List PlacedInstr) (claims : List Claim) (t : Types) (pc : ℕ) (o : Option Types) → begins listing pc ≡ true → state_at claims pc ≡ o → meets rules t o ≡ Ok tt → Arrives rules listing claims t (pos pc)
-met rules listing claims t pc None b e h = absurd cc
-met rules listing claims t pc (Some c) b e h = record { pc = pc; is = refl; begin = b; state = c; stated = e; below = (guard_ok (types_below rules.below t c) (Ok tt) CertMismatch tt h).0 }
+met rules listing claims t pc o h1 h2 h3 = grind (arith, guard_ok)
 
 arrived : (rules : Rules) (listing : List PlacedInstr) (claims : List Claim) (t : Types) (place : ℤ) → arrives rules listing claims t place ≡ Ok tt → Arrives rules listing claims t place
 unfolding arrives
-arrived rules listing claims t (pos pc) h =
-    let g = guard_ok (begins listing pc) (meets rules t (state_at claims pc)) NoTarget tt h in
-    met rules listing claims t pc (state_at claims pc) g.0 refl g.1
-arrived rules listing claims t (negsuc n) h = absurd cc
+arrived rules listing claims t place h1 = grind (arith, guard_ok, met)
 
 all_arrived : (rules : Rules) (listing : List PlacedInstr) (claims : List Claim) (t : Types) (places : List ℤ) → all_arrive rules listing claims t places ≡ Ok tt → AllByRecursion (Arrives rules listing claims t) places
 all_arrived rules listing claims t [] h = tt
@@ -179,8 +169,7 @@ caught rules claims t h class None c e k = absurd cc
 caught rules claims t h class (Some state) c e k = record { class = class; catches = c; state = state; stated = e; below = (guard_ok (types_below rules.below (caught_types class t) state) (Ok tt) CertMismatch tt k).0 }
 
 catches : (rules : Rules) (claims : List Claim) (t : Types) (h : Handler) (o : Option ClassName) → h.caught ≡ o → catches_at rules claims t h.goes_on o ≡ Ok tt → IsCaught rules claims t h
-catches rules claims t h None c k = absurd cc
-catches rules claims t h (Some class) c k = caught rules claims t h class (state_at claims h.goes_on) c refl k
+catches rules claims t h o h1 h2 = grind (arith, caught)
 
 handled : (rules : Rules) (claims : List Claim) (pc : ℕ) (t : Types) (h : Handler) → handles rules claims pc t h ≡ Ok tt → IsHandled rules claims pc t h
 unfolding handles

@@ -37,20 +37,16 @@ state_at-push [] c q = refl
 state_at-push (d ∷ ds) c q = step (d.pc == q) (state_at-push ds c q)
   where
     step : (b : Bool) → state_at (ds ++ c ∷ []) q ≡ first_some (state_at ds q) (cond (c.pc == q) (Some (types_of c)) None) → cond b (Some (types_of d)) (state_at (ds ++ c ∷ []) q) ≡ first_some (cond b (Some (types_of d)) (state_at ds q)) (cond (c.pc == q) (Some (types_of c)) None)
-    step true h = refl
-    step false h = h
+    step b h1 = grind arith
 
 keeps : {A : Type 0} (o : Option A) → first_some o None ≡ o
-keeps None = refl
-keeps (Some x) = refl
+keeps o = grind arith
 
 elsewhere : (cs : List Claim) (c : Claim) (q : ℕ) → (c.pc ≡ q → ⊥) → state_at (cs ++ c ∷ []) q ≡ state_at cs q
 elsewhere cs c q ne = state_at-push cs c q ∙ ap (λ (b : Bool). first_some (state_at cs q) (cond b (Some (types_of c)) None)) (ne_eqb c.pc q ne) ∙ keeps (state_at cs q)
 
 same_place : (m : Method) (listing : List PlacedInstr) (cs : List Claim) (c : Claim) (q : ℕ) (p : Mark) → state_at (cs ++ c ∷ []) q ≡ state_at cs q → IsMark m listing cs q p → IsMark m listing (cs ++ c ∷ []) q p
-same_place m listing cs c q Inside e h = (h.0, e ∙ h.1)
-same_place m listing cs c q Start e h = (h.0, e ∙ h.1)
-same_place m listing cs c q (Holds k) e h = record { begin = h.begin; claim = h.claim; numbered = get_kept cs c h.claim k h.numbered; state = e ∙ h.state; shape = h.shape }
+same_place m listing cs c q p h1 h2 = grind (arith, get_kept)
 
 -- a claim more, where none stood
 pub stands_new : (rules : Rules) (m : Method) (listing : List PlacedInstr) (cs : List Claim) (c : Claim) (marks : List Mark) → IsTable rules m listing cs marks → c.pc < length marks → claim_fits m c ≡ true → get_or marks c.pc Inside ≡ Start
@@ -101,9 +97,7 @@ held_new rules m listing cs c marks pc k t n p shape lt was =
 
 -- nothing stands within an instruction
 pub stands_inside : (rules : Rules) (m : Method) (listing : List PlacedInstr) (cs : List Claim) (marks : List Mark) (q : ℕ) → IsTable rules m listing cs marks → get_or marks q Inside ≡ Inside → begins listing q ≡ false
-stands_inside rules m listing cs marks q t was =
-    let P : Mark → Type 0 = λ p. IsMark m listing cs q p in
-    (subst P was (t.each q)).0
+stands_inside rules m listing cs marks q t was = grind arith
 
 pub held_again : (rules : Rules) (m : Method) (listing : List PlacedInstr) (cs : List Claim) (c : Claim) (marks : List Mark) (pc : ℕ) → IsTable rules m listing cs marks → c.pc ≡ pc → begins listing pc ≡ true
     → (get_or marks pc Inside ≡ Inside) ⊎ ((k : ℕ) × (get_or marks pc Inside ≡ Holds k)) → IsTable rules m listing (cs ++ c ∷ []) marks
@@ -125,8 +119,7 @@ no_claims rules laws m listing marks whole marked = record {
 }
   where
     unmarked : (q : ℕ) (b : Bool) → begins listing q ≡ b → IsMark m listing [] q (mark_of b)
-    unmarked q true e = (e, refl)
-    unmarked q false e = (e, refl)
+    unmarked q b h1 = grind arith
 
 -- ---- a state of the certificate
 
@@ -137,8 +130,7 @@ state_fits rules m listing c d e =
     (b.0, b.1, found (claim_of rules c) g.1)
   where
     found : (o : Option Claim) → claim_or_fault o ≡ Ok d → o ≡ Some d
-    found None h = absurd cc
-    found (Some x) h = ap Some (the_ok x d h)
+    found o h1 = grind (arith, the_ok)
 
 pub no_start : (rules : Rules) (m : Method) (listing : List PlacedInstr) (c : Stated) → begins listing c.pc ≡ false → told_at c.pc (state_stands rules m listing c) ≡ Err (fault_at c.pc CertMismatch)
 no_start rules m listing c e = rw e refl
@@ -178,8 +170,7 @@ state_more rules m listing states k claims marks new c d at stands table s = rec
 }
   where
     regroup : (r : Result (List Claim) Fault) → ((r >>= λ more. Ok (d ∷ more)) >>= λ more. Ok (claims ++ more)) ≡ (r >>= λ more. Ok ((claims ++ d ∷ []) ++ more))
-    regroup (Ok more) = ap Ok (sym (append_one claims d more))
-    regroup (Err fault) = refl
+    regroup r = grind (arith, append_one)
 
 -- the same of what a call tells, unless memory was wanting
 pub told_states : (rules : Rules) (m : Method) (states : List Stated) (k : ℕ) (claims : List Claim) (old marks : List Mark) (c : Stated) (fault : WordFault) → slice_get states k ≡ Some c
@@ -202,8 +193,7 @@ more_states rules m listing states k claims marks new c d at stands held s =
 pub all_states : (rules : Rules) (m : Method) (listing : List PlacedInstr) (states : List Stated) (k : ℕ) (claims : List Claim) (marks : List Mark) → length states ≤ k → StatesSoFar rules m listing states k claims marks
     → (states_stand rules m listing states ≡ Ok claims) × IsTable rules m listing claims marks
 unfolding states_stand
-all_states rules m listing states k claims marks le s =
-    (sym s.rest ∙ ap (λ cs. states_stand rules m listing cs >>= λ more. Ok (claims ++ more)) (drop_all states k le) ∙ ap Ok (append_nil claims), s.table)
+all_states rules m listing states k claims marks le s = grind (arith, drop_all, append_nil)
 
 -- the row that the code looks at
 pub row_there : (states : List StateRow) (k : ℕ) (row : StateRow) → k < length states → row ≡ get_or states k row → slice_get (map stated states) k ≡ Some (stated row)

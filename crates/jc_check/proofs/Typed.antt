@@ -1,5 +1,5 @@
 -- A method that is carried is well typed.
-use Rattle.std.proofs.Common.{◌≡◌, ℕ, ℤ, List, [], ◌∷◌, Option, Some, None, Bool, true, false, refl}
+use Rattle.std.proofs.Common.{◌≡◌, ℕ, ℤ, List, [], ◌∷◌, Option, Some, None, Bool, true, refl, arith}
 use Rattle.std.specs.List.{AllByRecursion}
 use Rattle.jc_code.specs.Listing.{ListingLaws, PlacedInstr}
 use Rattle.jc_code.specs.Targets.{targets_of, falls_of}
@@ -29,8 +29,7 @@ handlers_lead rules claims typing pc t (x ∷ xs) stated h =
     (λ e. let k = h.0 e in record { class = k.class; catches = k.catches; leads = record { state = k.state; typed = stated x.goes_on k.state k.stated; below = k.below } }, handlers_lead rules claims typing pc t xs stated h.1)
 
 behind_leads : (rules : Rules) (self : (s : Types) → types_below rules.below s s ≡ true) (m : Method) (claims : List Claim) (typing : Typing) (falls : Bool) (t : Types) (pc : ℕ) → ((q : ℕ) (s : Types) → state_at claims q ≡ Some s → typing q ≡ Some s) → GoesOnIf rules m claims typing falls t pc → falls ≡ true → Leads rules typing t pc
-behind_leads rules self m claims typing true t pc stated h e = leads rules self claims typing t pc (state_at claims pc) refl stated h.1
-behind_leads rules self m claims typing false t pc stated h e = absurd cc
+behind_leads rules self m claims typing falls t pc h1 h2 h3 = grind (arith, leads)
 
 pub typed : (rules : Rules) (self : (s : Types) → types_below rules.below s s ≡ true) (m : Method) (states : List Stated) (c : Carries rules m states) → IsTyping rules m c.typing
 typed rules self m states c = record {

@@ -1,24 +1,21 @@
 -- What is found decides whether the states carry the method.
-use Rattle.std.proofs.Common.{◌≡◌, ◌≢◌, ℕ, ◌+◌, ◌==◌, length-append, List, [], ◌∷◌, length, get_or, true, false, Some, Result, Ok, Err, ◌⊎◌, inl, inr, refl, sym, ap, ◌∙◌, subst, arith}
-use Rattle.std.proofs.lemmas.Bool.{eqb-true, eqb-false}
-use Rattle.std.specs.Prelude.{⊤, replicate}
-use Rattle.std.proofs.lemmas.List.{length-replicate}
-use Rattle.jc_types.specs.declared.ty.Ty.TheVariants.{Top}
+use Rattle.std.proofs.Common.{◌≡◌, ◌≢◌, ℕ, ◌+◌, ◌==◌, List, [], ◌∷◌, length, get_or, true, Result, Ok, Err, ◌⊎◌, inl, inr, refl, sym, ap, ◌∙◌, subst, arith}
+use Rattle.std.proofs.lemmas.Bool.{eqb-true}
+use Rattle.std.specs.Prelude.{⊤}
 use Rattle.jc_base.specs.declared.reason.Reason.{Reason}
 use Rattle.jc_base.specs.declared.reason.Reason.TheVariants.{FallsOff}
-use Rattle.jc_base.proofs.Binding.{ok_err, the_some}
+use Rattle.jc_base.proofs.Binding.{ok_err}
 use Rattle.jc_code.specs.declared.fault.CodeFault.{CodeFault}
 use Rattle.jc_code.specs.Listing.{Decoder, PlacedInstr, IsListing, StopsAt, ListingLaws}
-use Rattle.jc_types.specs.State.{Types, StateWithRoom}
-use Rattle.jc_cert.specs.Cert.{Stated, Row}
-use Rattle.jc_check.specs.Rules.{Rules, word_rules}
-use Rattle.jc_check.specs.Method.{Method, entry_of, word_method, states_of}
+use Rattle.jc_cert.specs.Cert.{Stated}
+use Rattle.jc_check.specs.Rules.{Rules}
+use Rattle.jc_check.specs.Method.{Method}
 use Rattle.jc_check.specs.Claim.{Claim}
-use Rattle.jc_check.specs.Carried.{Carries, CertCarriesCode}
+use Rattle.jc_check.specs.Carried.{Carries}
 use Rattle.jc_check.specs.FirstFault.{fault_at, reason_of, handlers_stand, states_stand, flow_findings_of, findings_of, IsFirstFault, empty, undecoded, found}
 use Rattle.jc_check.specs.declared.mark.Mark.{Mark}
-use Rattle.jc_check.specs.declared.mark.Mark.TheVariants.{Inside, Start, Holds}
-use Rattle.jc_check.specs.PrivateMarks.{IsMark, IsTable, IsSafe, AreSafe, HasRoom}
+use Rattle.jc_check.specs.declared.mark.Mark.TheVariants.{Inside}
+use Rattle.jc_check.specs.PrivateMarks.{IsMark, IsTable, IsSafe, AreSafe}
 use Rattle.jc_check.specs.Fault.{IfRefused}
 use Rattle.jc_check.specs.declared.fault.Fault.{Fault}
 use Rattle.jc_check.specs.declared.fault.WordFault.{WordFault}
@@ -31,9 +28,7 @@ pub safe : (rules : Rules) (m : Method) (listing : List PlacedInstr) (claims : L
 safe rules m listing claims marks t = record { len = t.len; each = λ pc. one pc (get_or marks pc Inside) (t.each pc) }
   where
     one : (pc : ℕ) (p : Mark) → IsMark m listing claims pc p → IsSafe m claims p
-    one pc Inside h = tt
-    one pc Start h = tt
-    one pc (Holds k) h = (h.claim, h.numbered, h.shape)
+    one pc p h1 = grind arith
 
 -- what is found, once the handlers and the states stand
 findings_are : (rules : Rules) (m : Method) (listing : List PlacedInstr) (states : List Stated) (claims : List Claim) → handlers_stand listing m.handlers ≡ Ok tt → states_stand rules m listing states ≡ Ok claims → findings_of rules m listing states ≡ flow_findings_of rules m listing claims

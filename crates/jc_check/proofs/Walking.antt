@@ -1,5 +1,5 @@
 -- The pass as a loop makes it.
-use Rattle.std.proofs.Common.{◌≡◌, ℕ, ◌≤◌, ◌<◌, List, [], ◌∷◌, length, Option, Result, Ok, Err, Bool, true, false, sym, ap, ◌∙◌, subst, arith}
+use Rattle.std.proofs.Common.{◌≡◌, ℕ, ◌≤◌, ◌<◌, List, [], ◌∷◌, length, Option, Result, Ok, Err, Bool, sym, ap, ◌∙◌, subst, arith}
 use Rattle.std.specs.Prelude.{⊤}
 use Rattle.jc_base.specs.declared.reason.Reason.{Reason}
 use Rattle.jc_base.specs.Results.{◌>>=◌}
@@ -28,16 +28,10 @@ one : (rules : Rules) (m : Method) (listing : List PlacedInstr) (claims : List C
     → (ys : List PlacedInstr) × StandBetween rules.decoder m.code i.next_pc ys (length m.code) × ((told_at pc (visit rules m listing claims (placed pc i) flow) >>= λ next. walk rules m listing claims next ys) ≡ total)
 unfolding walk
 one rules m listing claims flow pc i [] total lt at runs same = absurd (omega (arith, runs))
-one rules m listing claims flow pc i (x ∷ xs) total lt at runs same =
-    let e : x.instr ≡ i = the_ok x.instr i (sym runs.1 ∙ at) in
-    let R : Instr → Type 0 = λ k. StandBetween rules.decoder m.code k.next_pc xs (length m.code) in
-    let p : x ≡ placed pc i = same_placed x pc i runs.0 e in
-    let W : PlacedInstr → Type 0 = λ z. (told_at z.pc (visit rules m listing claims z flow) >>= λ next. walk rules m listing claims next xs) ≡ total in
-    (xs, subst R e runs.2, subst W p same)
+one rules m listing claims flow pc i (x ∷ xs) total lt at runs same = search (arith, the_ok, length, same_placed)
 
 flowed : (next : Bool) (t : Types) (r : Result (Option Types) Reason) → Flowed (Ok next) t r → r ≡ Ok (flowing next t)
-flowed true t r h = h
-flowed false t r h = h
+flowed next t r h1 = grind arith
 
 pub goes_on : (rules : Rules) (m : Method) (listing : List PlacedInstr) (claims : List Claim) (flow : Option Types) (pc : ℕ) (i : Instr) (next : Bool) (t : Types) (total : Result ⊤ Fault) → pc < length m.code → rules.decoder m.code pc ≡ Ok i → Flowed (Ok next) t (visit rules m listing claims (placed pc i) flow)
     → IsLeft rules m listing claims flow pc total → IsLeft rules m listing claims (flowing next t) i.next_pc total

@@ -1,5 +1,5 @@
 -- Packages behind the others change nothing of what instructions do in methods of those before them.
-use Rattle.std.proofs.Common.{◌≡◌, ℕ, ◌+◌, ◌-◌, ◌==◌, ◌&&◌, not, List, [], ◌∷◌, Bool, true, false, cond, refl, ap, ◌∙◌, arith, length, take, Option, Some, None, Result, Ok, Err, nat_lt, slice_get}
+use Rattle.std.proofs.Common.{◌≡◌, ℕ, ◌+◌, ◌-◌, ◌==◌, ◌&&◌, not, List, ◌∷◌, Bool, true, false, cond, refl, ap, ◌∙◌, arith, length, Option, Some, None, Result, Ok, Err, nat_lt, slice_get}
 use Rattle.std.proofs.Math.Path.{fun_ext}
 use Rattle.std.specs.List.{find, list_all}
 use Rattle.std.specs.Option.{option_and_then, option_map, option_map_or}
@@ -15,15 +15,11 @@ use Rattle.jc_api.specs.declared.class.ApiClass.TheVariants.{Object}
 use Rattle.jc_code.specs.declared.instr.Operation.{Operation}
 use Rattle.jc_code.specs.declared.instr.Operation.TheVariants as Operations
 use Rattle.jc_code.specs.declared.instr.WordOperation.{WordOperation}
-use Rattle.jc_code.specs.declared.instr.WordOperation.TheVariants as Words
 use Rattle.jc_code.specs.declared.object.Creation.{Creation}
-use Rattle.jc_code.specs.declared.object.Creation.TheVariants as Creations
 use Rattle.jc_code.specs.declared.object.Invocation.{Invocation}
 use Rattle.jc_code.specs.declared.object.Invocation.TheVariants.{Interface}
 use Rattle.jc_code.specs.declared.object.ObjectOperation.{ObjectOperation}
-use Rattle.jc_code.specs.declared.object.ObjectOperation.TheVariants.{Invoke, Create, CheckCast, InstanceOf}
 use Rattle.jc_code.specs.declared.object.TestedType.{TestedType}
-use Rattle.jc_code.specs.declared.object.TestedType.TheVariants as Tested
 use Rattle.jc_classes.specs.Growth.{IsWithin, KeepsAllLookups, StandWithin}
 use Rattle.jc_classes.specs.Members.{DeclaredMethod}
 use Rattle.jc_classes.specs.Methods.{method_name}
@@ -37,47 +33,39 @@ use Rattle.jc_link.specs.Growth.{HasApi, KeepsAllLinking}
 use Rattle.jc_link.specs.Linked.{Linked}
 use Rattle.jc_link.specs.MemberType.{counted, member_type_of}
 use Rattle.jc_link.specs.declared.target.PoolTarget.{PoolTarget}
-use Rattle.jc_link.specs.declared.target.PoolTarget.TheVariants as To
 use Rattle.jc_types.specs.Known.{AreKnown, is_known}
 use Rattle.jc_types.specs.State.{Types, all_below, types_below}
 use Rattle.jc_types.specs.Ty.{is_below}
 use Rattle.jc_types.specs.declared.ty.Ty.{Ty}
-use Rattle.jc_types.specs.declared.ty.Ty.TheVariants.{Top, Word, Null, Class, ReferenceArray}
+use Rattle.jc_types.specs.declared.ty.Ty.TheVariants.{Class, ReferenceArray}
 use Rattle.jc_effects.proofs.Knowing.{entry_class, local_known, reverse_known, take_known}
 use Rattle.jc_effects.proofs.Order.{and_true, both}
 use Rattle.jc_effects.specs.Effect.{effect_of}
 use Rattle.jc_effects.specs.Growth.{KeepsAllMembers, KeepsAllOrders, KeepsOwnMethods, in_world}
 use Rattle.jc_effects.specs.Laws.{NamesKnown}
-use Rattle.jc_effects.specs.Method.{own_method, result_of, returned_type}
-use Rattle.jc_effects.specs.Objects.{Setting, class_of_entry, class_target, creation_row, has_objects, if_form, interface_method_type, interface_row, interface_target_row, invocation_row, object_row, tested_type}
-use Rattle.jc_effects.specs.Row.{Row, after, all_meet, applied, count_of, has_local, is_met, local_meets, local_of, meets, taken_by}
-use Rattle.jc_effects.specs.Words.{takes, word, word_effect}
+use Rattle.jc_effects.specs.Method.{own_method, result_of}
+use Rattle.jc_effects.specs.Objects.{Setting, class_of_entry, creation_row, has_objects, interface_method_type, interface_target_row, invocation_row, object_row, tested_type}
+use Rattle.jc_effects.specs.Row.{Row, after, all_meet, applied, count_of, has_local, is_met, local_meets, meets}
+use Rattle.jc_effects.specs.Words.{word_effect}
 use Rattle.jc_effects.specs.declared.row.Demand.{Demand}
-use Rattle.jc_effects.specs.declared.row.Demand.TheVariants.{Below, Reference}
-use Rattle.jc_effects.specs.declared.row.Given.TheVariants.{Exactly}
 use Rattle.jc_effects.specs.declared.row.Place.{Place}
-use Rattle.jc_effects.specs.declared.row.Place.TheVariants.{Nowhere, At}
 
 -- ---- options
 
 then_same : {A B : Type 0} (f g : A → Option B) (o : Option A) → ((a : A) → o ≡ Some a → f a ≡ g a)
     → option_and_then f o ≡ option_and_then g o
-then_same f g None h = refl
-then_same f g (Some a) h = h a refl
+then_same f g o h1 = grind arith
 
 map_same : {A B : Type 0} (f g : A → B) (o : Option A) → ((a : A) → o ≡ Some a → f a ≡ g a)
     → option_map f o ≡ option_map g o
-map_same f g None h = refl
-map_same f g (Some a) h = ap Some (h a refl)
+map_same f g o h1 = grind arith
 
 -- ---- classes and methods of the earlier world
 
 module _ (before later : List Shape) (lookups : KeepsAllLookups before later)
     (linking : KeepsAllLinking before later) where
   objects_stay : (c : ClassName) → IsWithin before c → has_objects later c ≡ has_objects before c
-  objects_stay c w =
-      ap (λ (o : Option ClassShape). option_map_or (λ k. is_class k.body && not k.is_abstract) o false)
-      (lookups.classes c w)
+  objects_stay c w = grind (arith, not)
 
   interface_type_stays : (c : ClassName) (token : ℕ) → IsWithin before c
       → interface_method_type later c token ≡ interface_method_type before c token
@@ -93,8 +81,7 @@ module _ (before later : List Shape) (lookups : KeepsAllLookups before later)
           (option_and_then (λ (m : MethodShape). types m.signature) (find (λ m. m.token == token) k.methods))) o
 
   result_stays : (d : DeclaredMethod) → IsWithin before d.class → result_of later d ≡ result_of before d
-  result_stays d w =
-      ap (option_and_then (λ (s : Signature ClassName). returned_type s.result)) (linking.declared_types d w)
+  result_stays d w = grind arith
 
   pub members_stay : KeepsAllMembers before later
   members_stay = record { objects = objects_stay; interface_types = interface_type_stays; results = result_stays }
@@ -115,10 +102,7 @@ own_methods_stay l later lookups linking there has = record {
 
 pub api_objects : (world : List Shape) (c : ApiClass) → StandsThere world c
     → has_objects world (Api c) ≡ not (is_interface c) && not (is_abstract c)
-api_objects world c stands =
-    ap (λ (o : Option ClassShape). option_map_or (λ k. is_class k.body && not k.is_abstract) o false) stands.there
-    ∙ ap (λ b. b && not (stands.shape).is_abstract) stands.class_or_not
-    ∙ ap (λ b. not (is_interface c) && not b) stands.abstract_or_not
+api_objects world c stands = grind (arith, not)
 
 -- ---- orders that say the same of known classes
 
@@ -126,25 +110,17 @@ module _ (known : ClassName → Bool) (one other : ClassName → ClassName → B
     (same : (c d : ClassName) → known c ≡ true → one c d ≡ other c d) (object : known (Api Object) ≡ true) where
   class_same : (t : Ty) (d : ClassName) → is_known known t ≡ true
       → is_below one t (Class d) ≡ is_below other t (Class d)
-  class_same Top d h = refl
-  class_same Word d h = refl
-  class_same Null d h = refl
-  class_same (Class c) d h = same c d h
-  class_same t d h = same (Api Object) d object
+  class_same t d h1 = grind arith
 
   array_same : (t : Ty) (d : ClassName) → is_known known t ≡ true
       → is_below one t (ReferenceArray d) ≡ is_below other t (ReferenceArray d)
-  array_same (ReferenceArray c) d h = same c d h
-  array_same t d h = refl
+  array_same t d h1 = grind arith
 
   below_same : (t u : Ty) → is_known known t ≡ true → is_below one t u ≡ is_below other t u
-  below_same t (Class d) h = class_same t d h
-  below_same t (ReferenceArray d) h = array_same t d h
-  below_same t u h = refl
+  below_same t u h1 = grind (arith, class_same, array_same)
 
   meets_same : (demand : Demand) (t : Ty) → is_known known t ≡ true → meets one demand t ≡ meets other demand t
-  meets_same (Below wanted) t h = below_same t wanted h
-  meets_same u t h = refl
+  meets_same demand t h1 = grind (arith, below_same)
 
   all_meet_same : (demands : List Demand) (ts : List Ty) → list_all (is_known known) ts ≡ true
       → all_meet one demands ts ≡ all_meet other demands ts
@@ -155,17 +131,10 @@ module _ (known : ClassName → Bool) (one other : ClassName → ClassName → B
   all_meet_same t u h = refl
 
   local_same : (place : Place) (t : Ty) → is_known known t ≡ true → local_meets one place t ≡ local_meets other place t
-  local_same Nowhere t h = refl
-  local_same (At index demand) t h = meets_same demand t h
+  local_same place t h1 = grind (arith, meets_same)
 
   met_same : (row : Row) (s : Types) → AreKnown known s → is_met one row s ≡ is_met other row s
-  met_same row s have =
-      let n = length row.operands in
-      let taken = reverse_known known (take n s.operands) (take_known known n s.operands have.operands) in
-      ap (λ b. row.fits && b && all_meet one row.operands (taken_by row s))
-      (local_same row.local (local_of row.local s.locals) (local_known known row.local s.locals have.locals))
-      ∙ ap (λ b. row.fits && local_meets other row.local (local_of row.local s.locals) && b)
-      (all_meet_same row.operands (taken_by row s) taken)
+  met_same row s have = search (arith, length, reverse_known, take_known, local_same, local_known, all_meet_same)
 
   applied_same : (most : ℕ) (o : Option Row) (s : Types) → AreKnown known s
       → applied one most o s ≡ applied other most o s
@@ -184,28 +153,20 @@ module _ (known : ClassName → Bool) (one other : ClassName → ClassName → B
   word_same : (most : ℕ) (returned : Option Ty) (operation : WordOperation) (s : Types) → AreKnown known s
       → word_effect one most returned operation s ≡ word_effect other most returned operation s
   unfolding word_effect
-  word_same most returned (Words.Shuffle shuffle) s have = refl
-  word_same most returned t s have = applied_same most _ s have
+  word_same most returned operation s h1 = grind (arith, applied_same)
 
 -- ---- an order of classes with more below others
 
 module _ (one other : ClassName → ClassName → Bool) (more : (c d : ClassName) → one c d ≡ true → other c d ≡ true) where
   class_up : (t : Ty) (d : ClassName) → is_below one t (Class d) ≡ true → is_below other t (Class d) ≡ true
-  class_up Top d h = h
-  class_up Word d h = h
-  class_up Null d h = h
-  class_up (Class c) d h = more c d h
-  class_up t d h = more (Api Object) d h
+  class_up t d h1 = grind arith
 
   array_up : (t : Ty) (d : ClassName) → is_below one t (ReferenceArray d) ≡ true
       → is_below other t (ReferenceArray d) ≡ true
-  array_up (ReferenceArray c) d h = more c d h
-  array_up t d h = h
+  array_up t d h1 = grind arith
 
   type_up : (t u : Ty) → is_below one t u ≡ true → is_below other t u ≡ true
-  type_up t (Class d) h = class_up t d h
-  type_up t (ReferenceArray d) h = array_up t d h
-  type_up t u h = h
+  type_up t u h1 = grind (arith, class_up, array_up)
 
   all_up : (ts us : List Ty) → all_below one ts us ≡ true → all_below other ts us ≡ true
   all_up (t ∷ ts) (u ∷ us) h =
@@ -214,25 +175,18 @@ module _ (one other : ClassName → ClassName → Bool) (more : (c d : ClassName
   all_up t u h = h
 
   state_up : (s t : Types) → types_below one s t ≡ true → types_below other s t ≡ true
-  state_up s t h =
-      let two = both (all_below one s.locals t.locals) (all_below one s.operands t.operands) h in
-      and_true (all_below other s.locals t.locals) (all_below other s.operands t.operands)
-      (all_up s.locals t.locals two.0) (all_up s.operands t.operands two.1)
+  state_up s t h = grind (arith, both, and_true, all_up)
 
 pub orders_stay : (before later : List Shape)
     → ((c d : ClassName) → is_class_below before c d ≡ true → is_class_below later c d ≡ true)
     → KeepsAllOrders before later
-orders_stay before later more = record {
-  types = type_up (is_class_below before) (is_class_below later) more;
-  states = state_up (is_class_below before) (is_class_below later) more;
-}
+orders_stay before later more = grind (arith, type_up, state_up)
 
 -- ---- effects
 
 there_of : (test : ClassShape → Bool) (o : Option ClassShape) → option_map_or test o false ≡ true
     → (k : ClassShape) × (o ≡ Some k)
-there_of test None e = absurd cc
-there_of test (Some k) e = (k, refl)
+there_of test o h1 = grind arith
 
 module _ (set : Setting) (later : List Shape) (lookups : KeepsAllLookups set.world later)
     (linking : KeepsAllLinking set.world later) (there : StandWithin set.world) (names : NamesKnown set) where
@@ -240,16 +194,14 @@ module _ (set : Setting) (later : List Shape) (lookups : KeepsAllLookups set.wor
   class_within c e = let k = there_of (λ k. is_class k.body) (class_at set.world c) e in there.classes c k.0 k.1
 
   interface_within : (c : ClassName) → is_interface_at set.world c ≡ true → IsWithin set.world c
-  interface_within c e =
-      let k = there_of (λ k. not (is_class k.body)) (class_at set.world c) e in there.classes c k.0 k.1
+  interface_within c e = grind (arith, there_of, not)
 
   counted_within : (c : ClassName) → is_class_at set.world (counted set.world c) ≡ true → IsWithin set.world c
   counted_within c e = by_kind (is_interface_at set.world c) refl e
     where
       by_kind : (b : Bool) → is_interface_at set.world c ≡ b → is_class_at set.world (cond b (Api Object) c) ≡ true
           → IsWithin set.world c
-      by_kind true f e = interface_within c f
-      by_kind false f e = class_within c e
+      by_kind b h1 h2 = grind (arith, interface_within, class_within)
 
   entry_within : (index : ℕ) (c : ClassName) → class_of_entry set index ≡ Some c → IsWithin set.world c
   entry_within index c e = counted_within c (entry_class set names index c e)
@@ -257,11 +209,7 @@ module _ (set : Setting) (later : List Shape) (lookups : KeepsAllLookups set.wor
   interface_target_same : (arguments token index : ℕ) (o : Option PoolTarget) → slice_get set.targets index ≡ o
       → option_and_then (interface_target_row later arguments token) o
       ≡ option_and_then (interface_target_row set.world arguments token) o
-  interface_target_same arguments token index (Some (To.Class c)) e =
-      ap (option_and_then (interface_row arguments))
-      (interface_type_stays set.world later lookups linking c token
-      (entry_within index c (ap (option_and_then class_target) e)))
-  interface_target_same arguments token index t e = refl
+  interface_target_same arguments token index o h1 = grind (arith, interface_type_stays, entry_within)
 
   invocation_same : (invocation : Invocation)
       → invocation_row (in_world later set) invocation ≡ invocation_row set invocation
@@ -270,35 +218,14 @@ module _ (set : Setting) (later : List Shape) (lookups : KeepsAllLookups set.wor
   invocation_same t = refl
 
   creation_same : (creation : Creation) → creation_row (in_world later set) creation ≡ creation_row set creation
-  creation_same (Creations.Object index) =
-      map_same (λ c. if_form (has_objects later c) (takes [] (Exactly (Class c))))
-      (λ c. if_form (has_objects set.world c) (takes [] (Exactly (Class c)))) (class_of_entry set index)
-      (λ c e.
-      ap (λ b. if_form b (takes [] (Exactly (Class c))))
-      (objects_stay set.world later lookups linking c (entry_within index c e)))
-  creation_same (Creations.WordArray kind) = refl
-  creation_same (Creations.ReferenceArray index) =
-      map_same (λ c. takes (word ∷ []) (Exactly (ReferenceArray (counted later c))))
-      (λ c. takes (word ∷ []) (Exactly (ReferenceArray (counted set.world c)))) (class_of_entry set index)
-      (λ c e. ap (λ d. takes (word ∷ []) (Exactly (ReferenceArray d))) (linking.counts c (entry_within index c e)))
+  creation_same creation = grind (arith, map_same, objects_stay, entry_within)
 
   tested_same : (tested : TestedType) → tested_type (in_world later set) tested ≡ tested_type set tested
-  tested_same (Tested.Class index) =
-      map_same (λ c. Class (counted later c)) (λ c. Class (counted set.world c)) (class_of_entry set index)
-      (λ c e. ap Class (linking.counts c (entry_within index c e)))
-  tested_same (Tested.WordArray kind) = refl
-  tested_same (Tested.ReferenceArray index) =
-      map_same (λ c. ReferenceArray (counted later c)) (λ c. ReferenceArray (counted set.world c))
-      (class_of_entry set index)
-      (λ c e. ap ReferenceArray (linking.counts c (entry_within index c e)))
+  tested_same tested = grind (arith, map_same, entry_within)
 
   row_same : (operation : ObjectOperation) → object_row (in_world later set) operation ≡ object_row set operation
   unfolding object_row
-  row_same (Invoke invocation) = invocation_same invocation
-  row_same (Create creation) = creation_same creation
-  row_same (CheckCast tested) = ap (option_map (λ t. takes (Reference ∷ []) (Exactly t))) (tested_same tested)
-  row_same (InstanceOf tested) = ap (option_map (λ t. takes (Reference ∷ []) (Exactly Word))) (tested_same tested)
-  row_same t = refl
+  row_same operation = grind (arith, invocation_same, creation_same, tested_same)
 
   order_same : (c d : ClassName) → is_class_at set.world c ≡ true
       → is_class_below later c d ≡ is_class_below set.world c d

@@ -1,14 +1,12 @@
 -- What effects leave names known classes, where what was before does and what entries of the pool lead to does.
-use Rattle.std.proofs.Common.{◌≡◌, ℕ, zero, suc, ◌+◌, ◌-◌, ◌==◌, ◌&&◌, max, List, [], ◌∷◌, ◌++◌, Bool, true, false, cond, not, refl, ap, ◌∙◌, subst, length, take, drop, reverse, slice_get, slice_set, Option, Some, None, Ok, nat_lt, unwrap_or}
+use Rattle.std.proofs.Common.{◌≡◌, ℕ, zero, suc, ◌+◌, ◌-◌, ◌==◌, ◌&&◌, max, List, [], ◌∷◌, ◌++◌, Bool, true, false, cond, not, refl, ap, ◌∙◌, subst, length, take, drop, reverse, slice_get, slice_set, Option, Some, None, Ok, nat_lt, unwrap_or, arith}
 use Rattle.std.proofs.lemmas.List.Folds.{list_all-append}
 use Rattle.std.specs.List.{find, list_all}
 use Rattle.std.specs.Option.{option_and_then, option_map, option_map_or}
 use Rattle.jc_base.specs.Signature.{Signature}
 use Rattle.jc_base.specs.Stack.{duplicated, swapped}
 use Rattle.jc_base.specs.declared.declared_type.DeclaredType.{DeclaredType}
-use Rattle.jc_base.specs.declared.declared_type.DeclaredType.TheVariants as Declared
 use Rattle.jc_base.specs.declared.declared_type.ReturnType.{ReturnType}
-use Rattle.jc_base.specs.declared.declared_type.ReturnType.TheVariants.{Void, Value}
 use Rattle.jc_cap.specs.ClassComponent.{is_class}
 use Rattle.jc_cap_desc.specs.Shape.{ClassShape, MethodShape}
 use Rattle.jc_code.specs.declared.instr.Operation.{Operation}
@@ -21,11 +19,8 @@ use Rattle.jc_code.specs.declared.object.Creation.{Creation}
 use Rattle.jc_code.specs.declared.object.Creation.TheVariants as Creations
 use Rattle.jc_code.specs.declared.object.FieldAccess.{FieldAccess}
 use Rattle.jc_code.specs.declared.object.FieldAction.{FieldAction}
-use Rattle.jc_code.specs.declared.object.FieldAction.TheVariants.{Get, Put}
 use Rattle.jc_code.specs.declared.object.Form.{Form}
-use Rattle.jc_code.specs.declared.object.Form.TheVariants as Forms
 use Rattle.jc_code.specs.declared.object.Holder.{Holder}
-use Rattle.jc_code.specs.declared.object.Holder.TheVariants as Holders
 use Rattle.jc_code.specs.declared.object.Invocation.{Invocation}
 use Rattle.jc_code.specs.declared.object.Invocation.TheVariants.{Virtual, Special, Static, Interface}
 use Rattle.jc_code.specs.declared.object.ObjectOperation.{ObjectOperation}
@@ -33,7 +28,6 @@ use Rattle.jc_code.specs.declared.object.ObjectOperation.TheVariants.{LoadCompon
 use Rattle.jc_code.specs.declared.object.TestedType.{TestedType}
 use Rattle.jc_code.specs.declared.object.TestedType.TheVariants as Tested
 use Rattle.jc_code.specs.declared.object.WordKind.{WordKind}
-use Rattle.jc_code.specs.declared.object.WordKind.TheVariants as Kinds
 use Rattle.jc_classes.specs.Subtype.{is_class_at, is_class_below}
 use Rattle.jc_names.specs.Names.{home_of}
 use Rattle.jc_classes.specs.World.{class_at}
@@ -52,23 +46,20 @@ use Rattle.jc_effects.proofs.Lower.{reverse-cons}
 use Rattle.jc_effects.proofs.Monotone.{four, one, three, two}
 use Rattle.jc_effects.specs.Effect.{effect_of}
 use Rattle.jc_effects.specs.Laws.{NamesKnown}
-use Rattle.jc_effects.specs.Objects.{Setting, call, class_of_entry, class_target, component_loaded, creation_row, field_row, has_objects, if_form, interface_method_type, interface_row, interface_target_row, invocation_row, is_form_of, object_holder_row, object_row, return_row, special_row, static_call_row, static_holder_row, tested_type, virtual_row, word_array}
+use Rattle.jc_effects.specs.Objects.{Setting, call, class_of_entry, class_target, component_loaded, creation_row, field_row, has_objects, if_form, interface_method_type, interface_row, interface_target_row, invocation_row, object_holder_row, object_row, return_row, special_row, static_call_row, static_holder_row, tested_type, virtual_row, word_array}
 use Rattle.jc_effects.specs.Row.{Row, after, all_meet, applied, component_of, count_of, given_type, has_local, is_met, local_meets, local_of, put_in, taken_by}
 use Rattle.jc_effects.specs.Words.{shuffle_effect, takes, word, word_effect}
 use Rattle.jc_effects.specs.declared.row.Demand.{Demand}
-use Rattle.jc_effects.specs.declared.row.Demand.TheVariants.{Below, Reference}
+use Rattle.jc_effects.specs.declared.row.Demand.TheVariants.{Reference}
 use Rattle.jc_effects.specs.declared.row.Given.{Given}
-use Rattle.jc_effects.specs.declared.row.Given.TheVariants.{Nothing, Exactly, OfLocal, OfOperand, ComponentOf}
+use Rattle.jc_effects.specs.declared.row.Given.TheVariants.{Exactly}
 use Rattle.jc_effects.specs.declared.row.Place.{Place}
-use Rattle.jc_effects.specs.declared.row.Place.TheVariants.{Nowhere, At}
 
 both : (a b : Bool) → a ≡ true → b ≡ true → (a && b) ≡ true
-both true b e f = f
-both false b e f = absurd cc
+both a b h1 h2 = grind arith
 
 each : (a b : Bool) → (a && b) ≡ true → (a ≡ true) × (b ≡ true)
-each true b e = (refl, e)
-each false b e = absurd cc
+each a b h1 = grind arith
 
 none_some : {A : Type 0} {B : Type 0} (a : A) → ◌≡◌ {A = Option A} None (Some a) → B
 none_some a e = absurd cc
@@ -79,9 +70,7 @@ the_some x y h = cc
 -- ---- declared types
 
 pub declared_known : (known : ClassName → Bool) (t : DeclaredType ClassName) → is_known_type known t ≡ true → is_known known (type_of_declared t) ≡ true
-declared_known known (Declared.Reference c) h = h
-declared_known known (Declared.ReferenceArray c) h = h
-declared_known known t h = refl
+declared_known known t h1 = grind arith
 
 module _ (known : ClassName → Bool) where
   -- ---- lists of known types
@@ -122,8 +111,7 @@ module _ (known : ClassName → Bool) where
   -- ---- rows
 
   component_known : (t : Ty) → is_known known t ≡ true → is_known known (component_of t) ≡ true
-  component_known (ReferenceArray c) h = h
-  component_known t h = refl
+  component_known t h1 = grind arith
 
   -- what is given exactly is known
   abbrev is_known_given : Given → Bool
@@ -132,28 +120,20 @@ module _ (known : ClassName → Bool) where
 
   given_known : (g : Given) (local : Ty) (taken : List Ty) → is_known_given g ≡ true → is_known known local ≡ true → all_known taken ≡ true
       → is_known known (given_type g local taken) ≡ true
-  given_known Nothing local taken g l t = refl
-  given_known (Exactly u) local taken g l t = g
-  given_known OfLocal local taken g l t = l
-  given_known (OfOperand k) local taken g l t = at_known taken k t
-  given_known (ComponentOf k) local taken g l t = component_known (unwrap_or (slice_get taken k) Top) (at_known taken k t)
+  given_known g local taken h1 h2 h3 = grind (arith, at_known, component_known, unwrap_or, slice_get)
 
   pub local_known : (place : Place) (locals : List Ty) → all_known locals ≡ true
       → is_known known (local_of place locals) ≡ true
-  local_known Nowhere locals h = refl
-  local_known (At index demand) locals h = at_known locals index h
+  local_known place locals h1 = grind (arith, at_known)
 
   put_on_known : (b : Bool) (t : Ty) (operands : List Ty) → is_known known t ≡ true → all_known operands ≡ true → all_known (cond b (t ∷ operands) operands) ≡ true
-  put_on_known true t operands h k = both (is_known known t) (all_known operands) h k
-  put_on_known false t operands h k = k
+  put_on_known b t operands h1 h2 = grind (arith, both)
 
   put_at_known : (b : Bool) (index : ℕ) (t : Ty) (locals : List Ty) → is_known known t ≡ true → all_known locals ≡ true → all_known (cond b (slice_set locals index t) locals) ≡ true
-  put_at_known true index t locals h k = set_known locals index t k h
-  put_at_known false index t locals h k = k
+  put_at_known b index t locals h1 h2 = grind (arith, set_known)
 
   put_in_known : (place : Place) (g : Given) (t : Ty) (locals : List Ty) → is_known known t ≡ true → all_known locals ≡ true → all_known (put_in place g t locals) ≡ true
-  put_in_known Nowhere g t locals h k = k
-  put_in_known (At index demand) g t locals h k = put_at_known (nat_lt 0 (count_of g)) index t locals h k
+  put_in_known place g t locals h1 h2 = grind (arith, put_at_known, nat_lt)
 
   after_known : (row : Row) (s : Types) → AreKnown known s → is_known_given row.written ≡ true → is_known_given row.pushed ≡ true → AreKnown known (after row s)
   unfolding after
@@ -227,85 +207,64 @@ module _ (set : Setting) (names : NamesKnown set) where
   target_there index = by_target (slice_get set.targets index) refl
     where
       by_target : (o : Option PoolTarget) → slice_get set.targets index ≡ o → IsTarget o
-      by_target None e = tt
-      by_target (Some target) e = names.targets index target e
+      by_target o h1 = grind arith
 
   loaded_known : (form : Form) → is_known_given (is_class_at set.world) (component_loaded form) ≡ true
-  loaded_known Forms.Reference = refl
-  loaded_known t = refl
+  loaded_known form = grind arith
 
   -- fields
   static_known : (fits : Bool) (holder : Holder) (action : FieldAction) (t : Ty) → is_known (is_class_at set.world) t ≡ true
       → Gives (option_map (if_form fits) (static_holder_row holder action t))
-  static_known fits Holders.Class Get t h = λ f. (refl, h)
-  static_known fits Holders.Class Put t h = λ f. (refl, refl)
-  static_known fits u action t h = tt
+  static_known fits holder action t h1 = grind arith
 
   instance_known : (fits : Bool) (holder : Holder) (action : FieldAction) (class : ClassName) (t : Ty) → is_known (is_class_at set.world) t ≡ true
       → Gives (option_map (if_form fits) (object_holder_row holder action class t))
-  instance_known fits Holders.Class action class t h = tt
-  instance_known fits Holders.Operand Put class t h = λ f. (refl, refl)
-  instance_known fits Holders.This Put class t h = λ f. (refl, refl)
-  instance_known fits u action class t h = λ f. (refl, h)
+  instance_known fits holder action class t h1 = grind arith
 
   field_known : (access : FieldAccess) (o : Option PoolTarget) → IsTarget o → Gives (option_and_then (field_row access) o)
-  field_known access (Some (To.InstanceField class cell declared)) h =
-      instance_known (is_form_of access.form declared) access.holder access.action class (type_of_declared declared) (declared_known (is_class_at set.world) declared h)
-  field_known access (Some (To.StaticField place declared)) h =
-      static_known (is_form_of access.form declared) access.holder access.action (type_of_declared declared) (declared_known (is_class_at set.world) declared h)
-  field_known access t h = tt
+  field_known access o h1 = grind (arith, instance_known, declared_known, static_known)
 
   -- calls
   call_known : (object : List Demand) (signature : Signature ClassName) → is_known_signature (is_class_at set.world) signature ≡ true → Gives (Some (call object signature))
   call_known object signature h = by_result signature.result (each (list_all (is_known_type (is_class_at set.world)) signature.parameters) (is_known_return (is_class_at set.world) signature.result) h).1
     where
       by_result : (r : ReturnType ClassName) → is_known_return (is_class_at set.world) r ≡ true → Gives (Some (call object (record { parameters = signature.parameters; result = r })))
-      by_result Void k = λ f. (refl, refl)
-      by_result (Value declared) k = λ f. (refl, declared_known (is_class_at set.world) declared k)
+      by_result r h1 = grind (arith, declared_known)
 
   virtual_known : (o : Option PoolTarget) → IsTarget o → Gives (option_and_then virtual_row o)
-  virtual_known (Some (To.VirtualMethod class token signature)) h = call_known (Below (Class class) ∷ []) signature h
-  virtual_known t h = tt
+  virtual_known o h1 = grind (arith, call_known)
 
   special_known : (o : Option PoolTarget) → IsTarget o → Gives (option_and_then special_row o)
-  special_known (Some (To.SuperMethod class method signature)) h = call_known (Below (Class class) ∷ []) signature h
-  special_known (Some (To.StaticMethod class method false signature)) h = call_known (Below (Class class) ∷ []) signature h
-  special_known t h = tt
+  special_known o h1 = grind (arith, call_known)
 
   static_call_known : (o : Option PoolTarget) → IsTarget o → Gives (option_and_then static_call_row o)
-  static_call_known (Some (To.StaticMethod class method true signature)) h = call_known [] signature h
-  static_call_known t h = tt
+  static_call_known o h1 = grind (arith, call_known)
 
   -- the type of an interface's method
   interface_type_known : (c : ClassName) (token : ℕ) (t : Signature ClassName) → interface_method_type set.world c token ≡ Some t → is_known_signature (is_class_at set.world) t ≡ true
   interface_type_known c token t e = by_class (class_at set.world c) e
     where
       by_method : (o : Option MethodShape) → option_and_then (λ (m : MethodShape). member_type_of set.world (home_of c) m.signature) o ≡ Some t → is_known_signature (is_class_at set.world) t ≡ true
-      by_method None f = none_some t f
-      by_method (Some m) f = names.world.members (home_of c) m.signature t f
+      by_method o h1 = grind (arith, none_some)
 
       by_kind : (b : Bool) (k : ClassShape) → cond b None (option_and_then (λ (m : MethodShape). member_type_of set.world (home_of c) m.signature) (find (λ m. m.token == token) k.methods)) ≡ Some t
           → is_known_signature (is_class_at set.world) t ≡ true
-      by_kind true k f = none_some t f
-      by_kind false k f = by_method (find (λ m. m.token == token) k.methods) f
+      by_kind b k h1 = grind (arith, none_some, by_method)
 
       by_class : (o : Option ClassShape)
           → option_and_then (λ (k : ClassShape). cond (is_class k.body) None (option_and_then (λ (m : MethodShape). member_type_of set.world (home_of c) m.signature) (find (λ m. m.token == token) k.methods))) o ≡ Some t
           → is_known_signature (is_class_at set.world) t ≡ true
-      by_class None f = none_some t f
-      by_class (Some k) f = by_kind (is_class k.body) k f
+      by_class o h1 = grind (arith, none_some, by_kind)
 
   interface_known : (arguments token : ℕ) (o : Option PoolTarget) → Gives (option_and_then (interface_target_row set.world arguments token) o)
   interface_known arguments token None = tt
   interface_known arguments token (Some (To.Class c)) = by_type (interface_method_type set.world c token) refl
     where
       by_count : (b : Bool) (t : Signature ClassName) → is_known_signature (is_class_at set.world) t ≡ true → Gives (cond b (Some (call (Reference ∷ []) t)) None)
-      by_count true t h = call_known (Reference ∷ []) t h
-      by_count false t h = tt
+      by_count b t h1 = grind (arith, call_known)
 
       by_type : (o : Option (Signature ClassName)) → interface_method_type set.world c token ≡ o → Gives (option_and_then (interface_row arguments) o)
-      by_type None e = tt
-      by_type (Some t) e = by_count (arguments == 1 + length t.parameters) t (interface_type_known c token t e)
+      by_type o h1 = grind (arith, by_count, length, interface_type_known)
   interface_known arguments token (Some (To.InstanceField class cell declared)) = tt
   interface_known arguments token (Some (To.StaticField place declared)) = tt
   interface_known arguments token (Some (To.VirtualMethod class number signature)) = tt
@@ -320,12 +279,10 @@ module _ (set : Setting) (names : NamesKnown set) where
 
   -- objects that are made and tested
   array_known : (kind : WordKind) → is_known (is_class_at set.world) (word_array kind) ≡ true
-  array_known Kinds.Boolean = refl
-  array_known t = refl
+  array_known kind = grind arith
 
   class_there : (o : Option PoolTarget) → IsTarget o → (c : ClassName) → option_and_then class_target o ≡ Some c → is_class_at set.world (counted set.world c) ≡ true
-  class_there (Some (To.Class d)) h c e = subst (λ c. is_class_at set.world (counted set.world c) ≡ true) (the_some d c e) h
-  class_there t h c e = none_some c e
+  class_there o h1 c h2 = grind (arith, the_some, none_some)
 
   pub entry_class : (index : ℕ) (c : ClassName) → class_of_entry set index ≡ Some c
       → is_class_at set.world (counted set.world c) ≡ true
@@ -335,46 +292,38 @@ module _ (set : Setting) (names : NamesKnown set) where
   made_class c e = by_class (class_at set.world c) e
     where
       by_class : (o : Option ClassShape) → option_map_or (λ (k : ClassShape). is_class k.body && not k.is_abstract) o false ≡ true → option_map_or (λ (k : ClassShape). is_class k.body) o false ≡ true
-      by_class None f = f
-      by_class (Some k) f = (each (is_class k.body) (not k.is_abstract) f).0
+      by_class o h1 = grind (arith, each, not)
 
   creation_known : (creation : Creation) → Gives (creation_row set creation)
   creation_known (Creations.Object index) = by_class (class_of_entry set index)
     where
       by_class : (o : Option ClassName) → Gives (option_map (λ c. if_form (has_objects set.world c) (takes [] (Exactly (Class c)))) o)
-      by_class None = tt
-      by_class (Some c) = λ fits. (refl, made_class c fits)
+      by_class o = grind (arith, made_class)
   creation_known (Creations.WordArray kind) = λ fits. (refl, array_known kind)
   creation_known (Creations.ReferenceArray index) = by_class (class_of_entry set index) refl
     where
       by_class : (o : Option ClassName) → class_of_entry set index ≡ o → Gives (option_map (λ c. takes (word ∷ []) (Exactly (ReferenceArray (counted set.world c)))) o)
-      by_class None e = tt
-      by_class (Some c) e = λ fits. (refl, entry_class index c e)
+      by_class o h1 = grind (arith, entry_class)
 
   tested_known : (tested : TestedType) (t : Ty) → tested_type set tested ≡ Some t → is_known (is_class_at set.world) t ≡ true
   tested_known (Tested.Class index) t e = by_class (class_of_entry set index) refl e
     where
       by_class : (o : Option ClassName) → class_of_entry set index ≡ o → option_map (λ c. Class (counted set.world c)) o ≡ Some t → is_known (is_class_at set.world) t ≡ true
-      by_class None f e = none_some t e
-      by_class (Some c) f e = subst (λ t. is_known (is_class_at set.world) t ≡ true) (the_some _ t e) (entry_class index c f)
+      by_class o h1 h2 = grind (arith, none_some, the_some, entry_class)
   tested_known (Tested.WordArray kind) t e = subst (λ t. is_known (is_class_at set.world) t ≡ true) (the_some _ t e) (array_known kind)
   tested_known (Tested.ReferenceArray index) t e = by_class (class_of_entry set index) refl e
     where
       by_class : (o : Option ClassName) → class_of_entry set index ≡ o → option_map (λ c. ReferenceArray (counted set.world c)) o ≡ Some t → is_known (is_class_at set.world) t ≡ true
-      by_class None f e = none_some t e
-      by_class (Some c) f e = subst (λ t. is_known (is_class_at set.world) t ≡ true) (the_some _ t e) (entry_class index c f)
+      by_class o h1 h2 = grind (arith, none_some, the_some, entry_class)
 
   cast_known : (o : Option Ty) → ((t : Ty) → o ≡ Some t → is_known (is_class_at set.world) t ≡ true) → Gives (option_map (λ t. takes (Reference ∷ []) (Exactly t)) o)
-  cast_known None h = tt
-  cast_known (Some t) h = λ fits. (refl, h t refl)
+  cast_known o h1 = grind arith
 
   test_known : (o : Option Ty) → Gives (option_map (λ t. takes (Reference ∷ []) (Exactly Word)) o)
-  test_known None = tt
-  test_known (Some t) = λ fits. (refl, refl)
+  test_known o = grind arith
 
   return_known : (o : Option Ty) → Gives (Some (return_row o))
-  return_known None = λ fits. (refl, refl)
-  return_known (Some t) = λ fits. (refl, refl)
+  return_known o = grind arith
 
   object_known : (operation : ObjectOperation) → Gives (object_row set operation)
   unfolding object_row

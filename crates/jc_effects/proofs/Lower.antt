@@ -1,5 +1,5 @@
 -- Lists of types below one another, cut, turned round and written alike.
-use Rattle.std.proofs.Common.{◌≡◌, ℕ, zero, suc, ◌+◌, List, [], ◌∷◌, ◌++◌, Bool, true, refl, length, take, drop, reverse, slice_set, arith}
+use Rattle.std.proofs.Common.{◌≡◌, ℕ, zero, suc, List, [], ◌∷◌, ◌++◌, Bool, true, refl, length, take, drop, reverse, slice_set, arith}
 use Rattle.std.proofs.lemmas.List.{reverse-append}
 use Rattle.jc_base.specs.Stack.{duplicated, swapped}
 use Rattle.jc_names.specs.declared.name.ClassName.{ClassName}
@@ -75,16 +75,8 @@ module _ (below : ClassName → ClassName → Bool) where
   -- operands that are moved
   pub duplicated_down : (count depth : ℕ) (xs ys : List Ty) → all_below below xs ys ≡ true
       → all_below below (duplicated count depth xs) (duplicated count depth ys) ≡ true
-  duplicated_down count depth xs ys h =
-      append_down (take depth xs ++ take count xs) (take depth ys ++ take count ys) (drop depth xs) (drop depth ys)
-      (append_down (take depth xs) (take depth ys) (take count xs) (take count ys) (take_down depth xs ys h) (take_down count xs ys h))
-      (drop_down depth xs ys h)
+  duplicated_down count depth xs ys h = grind (arith, append_down, take, drop, take_down, drop_down)
 
   pub swapped_down : (upper lower : ℕ) (xs ys : List Ty) → all_below below xs ys ≡ true
       → all_below below (swapped upper lower xs) (swapped upper lower ys) ≡ true
-  swapped_down upper lower xs ys h =
-      append_down (take lower (drop upper xs) ++ take upper xs) (take lower (drop upper ys) ++ take upper ys)
-      (drop (upper + lower) xs) (drop (upper + lower) ys)
-      (append_down (take lower (drop upper xs)) (take lower (drop upper ys)) (take upper xs) (take upper ys)
-      (take_down lower (drop upper xs) (drop upper ys) (drop_down upper xs ys h)) (take_down upper xs ys h))
-      (drop_down (upper + lower) xs ys h)
+  swapped_down upper lower xs ys h = grind (arith, append_down, take, drop, take_down, drop_down)

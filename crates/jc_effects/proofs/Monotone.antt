@@ -1,13 +1,10 @@
 -- What a state allows each state below it allows, with a result below: of rows by their rule, and of moved operands.
-use Rattle.std.proofs.Common.{◌≡◌, ℕ, ◌+◌, ◌-◌, max, List, Bool, true, false, ◌&&◌, not, refl, sym, ap, ◌∙◌, length, take, drop, slice_set, Option, Some, None, Ok, Err, nat_lt, if◌then◌else◌}
+use Rattle.std.proofs.Common.{◌≡◌, ℕ, ◌+◌, ◌-◌, max, List, Bool, true, false, ◌&&◌, not, refl, sym, ap, ◌∙◌, length, take, drop, slice_set, Option, Some, None, Ok, Err, nat_lt, if◌then◌else◌, arith}
 use Rattle.jc_base.specs.declared.reason.Reason.TheVariants.{BadLocal, StackUnder, WrongType, StackOver}
 use Rattle.jc_base.specs.Stack.{duplicated, swapped}
 use Rattle.jc_code.specs.declared.instr.Operation.{Operation}
-use Rattle.jc_code.specs.declared.instr.Operation.TheVariants as Operations
 use Rattle.jc_code.specs.declared.instr.Shuffle as shuffles
-use Rattle.jc_code.specs.declared.instr.Shuffle.TheVariants.{Pop, Duplicate, Swap}
 use Rattle.jc_code.specs.declared.instr.WordOperation.{WordOperation}
-use Rattle.jc_code.specs.declared.instr.WordOperation.TheVariants.{Shuffle}
 use Rattle.jc_classes.specs.Subtype.{is_class_below}
 use Rattle.jc_names.specs.declared.name.ClassName.{ClassName}
 use Rattle.jc_types.specs.declared.ty.Ty.{Ty}
@@ -15,12 +12,10 @@ use Rattle.jc_types.specs.Changes.{with_operands, drop_types, duplicate_types, s
 use Rattle.jc_types.specs.State.{Types, all_below, types_below}
 use Rattle.jc_types.specs.Ty.{is_below}
 use Rattle.jc_effects.specs.declared.row.Given.{Given}
-use Rattle.jc_effects.specs.declared.row.Given.TheVariants.{Nothing}
 use Rattle.jc_effects.specs.declared.row.Place.{Place}
-use Rattle.jc_effects.specs.declared.row.Place.TheVariants.{Nowhere, At}
 use Rattle.jc_effects.specs.Effect.{effect_of}
 use Rattle.jc_effects.specs.Laws.{IsMonotone}
-use Rattle.jc_effects.specs.Objects.{Setting, object_row}
+use Rattle.jc_effects.specs.Objects.{Setting}
 use Rattle.jc_effects.specs.Row.{Row, all_meet, has_local, local_of, local_meets, taken_by, is_met, count_of, put_on, put_in, after, applied}
 use Rattle.jc_effects.specs.Words.{shuffle_effect, word_effect}
 use Rattle.jc_effects.proofs.Order.{IsReflexive, IsTransitive, and_true, at_down, both, given_down, meets_down}
@@ -31,21 +26,17 @@ use Rattle.jc_effects.proofs.Lower.{same_length, take_down, drop_down, reverse_d
 pub four : (a b c d : Bool) (x t : Types)
     → (if a then Err BadLocal else if b then Err StackUnder else if c then Err WrongType else if d then Err StackOver else Ok x) ≡ Ok t
     → (a ≡ false) × (b ≡ false) × (c ≡ false) × (d ≡ false) × (x ≡ t)
-four false false false false x t h = (refl, refl, refl, refl, cc)
-four u b c d x t h = absurd cc
+four a b c d x t h1 = grind arith
 
 pub two : (a b : Bool) (x t : Types) → (if a then Err StackUnder else if b then Err StackOver else Ok x) ≡ Ok t
     → (a ≡ false) × (b ≡ false) × (x ≡ t)
-two false false x t h = (refl, refl, cc)
-two u b x t h = absurd cc
+two a b x t h1 = grind arith
 
 pub one : (a : Bool) (x t : Types) → (if a then Err StackUnder else Ok x) ≡ Ok t → (a ≡ false) × (x ≡ t)
-one false x t h = (refl, cc)
-one true x t h = absurd cc
+one a x t h1 = grind arith
 
 pub three : (a b c : Bool) → not (a && b && c) ≡ false → (a ≡ true) × (b ≡ true) × (c ≡ true)
-three true true true h = (refl, refl, refl)
-three t b c h = absurd cc
+three a b c h1 = grind arith
 
 module _ (below : ClassName → ClassName → Bool) (reflexive : IsReflexive below) (transitive : IsTransitive below) (most : ℕ) where
   -- ---- rows
@@ -59,11 +50,7 @@ module _ (below : ClassName → ClassName → Bool) (reflexive : IsReflexive bel
 
   allowed : (row : Row) (s t : Types) → applied below most (Some row) s ≡ Ok t → Allowed row s × (after row s ≡ t)
   unfolding applied
-  allowed row s t h =
-      let r =
-      four (not (has_local row.local s.locals)) (nat_lt (length s.operands) (length row.operands)) (not (is_met below row s))
-      (nat_lt most (length s.operands - length row.operands + count_of row.pushed)) (after row s) t h in
-      ((r.0, r.1, r.2, r.3), r.4)
+  allowed row s t h = grind (arith, four, not, nat_lt, length)
 
   allows : (row : Row) (s : Types) → Allowed row s → applied below most (Some row) s ≡ Ok (after row s)
   unfolding applied
@@ -71,39 +58,31 @@ module _ (below : ClassName → ClassName → Bool) (reflexive : IsReflexive bel
 
   taken_down : (row : Row) (s t : Types) → all_below below s.operands t.operands ≡ true
       → all_below below (taken_by row s) (taken_by row t) ≡ true
-  taken_down row s t h =
-      let n = length row.operands in
-      reverse_down below (take n s.operands) (take n t.operands) (take_down below n s.operands t.operands h)
+  taken_down row s t h = grind (arith, length, reverse_down, take, take_down)
 
   local_down : (place : Place) (xs ys : List Ty) → all_below below xs ys ≡ true
       → is_below below (local_of place xs) (local_of place ys) ≡ true
-  local_down Nowhere xs ys h = refl
-  local_down (At index demand) xs ys h = at_down below xs ys index h
+  local_down place xs ys h1 = grind (arith, at_down)
 
   local_meets_down : (place : Place) (x y : Ty) → is_below below x y ≡ true → local_meets below place y ≡ true
       → local_meets below place x ≡ true
-  local_meets_down Nowhere x y h k = refl
-  local_meets_down (At index demand) x y h k = meets_down below transitive demand x y h k
+  local_meets_down place x y h1 h2 = grind (arith, meets_down)
 
   there_down : (place : Place) (xs ys : List Ty) → length xs ≡ length ys → has_local place xs ≡ has_local place ys
-  there_down Nowhere xs ys e = refl
-  there_down (At index demand) xs ys e = ap (λ (n : ℕ). nat_lt index n) e
+  there_down place xs ys h1 = grind (arith, nat_lt)
 
   put_on_down : (g : Given) (x y : Ty) (xs ys : List Ty) → is_below below x y ≡ true → all_below below xs ys ≡ true
       → all_below below (put_on g x xs) (put_on g y ys) ≡ true
-  put_on_down Nothing x y xs ys h k = k
-  put_on_down t x y xs ys h k = and_true (is_below below x y) (all_below below xs ys) h k
+  put_on_down g x y xs ys h1 h2 = grind (arith, and_true)
 
   put_at_down : (index : ℕ) (b : Bool) (x y : Ty) (xs ys : List Ty) → is_below below x y ≡ true → all_below below xs ys ≡ true
       → all_below below (if b then slice_set xs index x else xs) (if b then slice_set ys index y else ys) ≡ true
-  put_at_down index true x y xs ys h k = set_down below xs ys index x y k h
-  put_at_down index false x y xs ys h k = k
+  put_at_down index b x y xs ys h1 h2 = grind (arith, set_down)
 
   put_in_down : (place : Place) (g : Given) (x y : Ty) (xs ys : List Ty) → is_below below x y ≡ true
       → all_below below xs ys ≡ true
       → all_below below (put_in place g x xs) (put_in place g y ys) ≡ true
-  put_in_down Nowhere g x y xs ys h k = k
-  put_in_down (At index demand) g x y xs ys h k = put_at_down index (nat_lt 0 (count_of g)) x y xs ys h k
+  put_in_down place g x y xs ys h1 h2 = grind (arith, put_at_down, nat_lt)
 
   after_down : (row : Row) (s t : Types) → types_below below s t ≡ true → types_below below (after row s) (after row t) ≡ true
   unfolding after
@@ -149,9 +128,7 @@ module _ (below : ClassName → ClassName → Bool) (reflexive : IsReflexive bel
   -- with the locals as they were
   moved_down : (s t : Types) (xs ys : List Ty) → types_below below s t ≡ true → all_below below xs ys ≡ true
       → types_below below (with_operands s xs) (with_operands t ys) ≡ true
-  moved_down s t xs ys h k =
-      let parts = both (all_below below s.locals t.locals) (all_below below s.operands t.operands) h in
-      and_true (all_below below s.locals t.locals) (all_below below xs ys) parts.0 k
+  moved_down s t xs ys h k = grind (arith, both, and_true)
 
   operands_down : (s t : Types) → types_below below s t ≡ true → all_below below s.operands t.operands ≡ true
   operands_down s t h = (both (all_below below s.locals t.locals) (all_below below s.operands t.operands) h).1
@@ -192,23 +169,17 @@ module _ (below : ClassName → ClassName → Bool) (reflexive : IsReflexive bel
       (with_operands s lower, rw (n, r.0) refl, named (with_operands s lower) (with_operands t upper) after_t r.1 moved)
 
   shuffle_down : (shuffle : shuffles.Shuffle) → IsMonotone below (shuffle_effect most shuffle)
-  shuffle_down (Pop count) = pop_down count
-  shuffle_down (Duplicate count depth) = duplicate_down count depth
-  shuffle_down (Swap upper lower) = swap_down upper lower
+  shuffle_down shuffle = grind (arith, pop_down, duplicate_down, swap_down)
 
   -- ---- all effects
 
   pub word_down : (returned : Option Ty) (operation : WordOperation)
       → IsMonotone below (word_effect below most returned operation)
   unfolding word_effect
-  word_down returned (Shuffle shuffle) = shuffle_down shuffle
-  word_down returned t = applied_down _
+  word_down returned operation = grind (arith, shuffle_down, applied_down)
 
 pub effect_down : (set : Setting) → IsReflexive (is_class_below set.world) → IsTransitive (is_class_below set.world)
     → (most : ℕ) (operation : Operation)
     → IsMonotone (is_class_below set.world) (effect_of set most operation)
 unfolding effect_of
-effect_down set reflexive transitive most (Operations.Word operation) =
-    word_down (is_class_below set.world) reflexive transitive most set.returned operation
-effect_down set reflexive transitive most (Operations.Object operation) =
-    applied_down (is_class_below set.world) reflexive transitive most (object_row set operation)
+effect_down set h1 h2 most operation = grind (arith, word_down, applied_down)

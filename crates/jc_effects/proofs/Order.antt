@@ -1,33 +1,29 @@
 -- Demands, and what is given, under the order of types: one lemma for each kind.
-use Rattle.std.proofs.Common.{◌≡◌, ℕ, zero, suc, List, [], ◌∷◌, Bool, true, false, ◌&&◌, ◌||◌, is_some, slice_get, unwrap_or, refl}
+use Rattle.std.proofs.Common.{◌≡◌, ℕ, zero, suc, List, [], ◌∷◌, Bool, true, ◌&&◌, ◌||◌, is_some, slice_get, unwrap_or, refl, arith}
 use Rattle.jc_names.specs.declared.name.ClassName.{ClassName}
 use Rattle.jc_types.specs.declared.ty.Ty.{Ty}
-use Rattle.jc_types.specs.declared.ty.Ty.TheVariants.{Top, Word, Null, Class, BooleanArray, ByteArray, ShortArray, ReferenceArray}
+use Rattle.jc_types.specs.declared.ty.Ty.TheVariants.{Top, Null, Class, ShortArray, ReferenceArray}
 use Rattle.jc_types.specs.State.{Types, all_below, types_below}
-use Rattle.jc_types.specs.Ty.{class_of_components, class_of_objects, is_below, is_boolean_array, is_byte_array, is_null, is_short_array}
+use Rattle.jc_types.specs.Ty.{class_of_components, is_below, is_short_array}
 use Rattle.jc_effects.specs.declared.row.Demand.{Demand}
 use Rattle.jc_effects.specs.declared.row.Demand.TheVariants.{Below, Reference, Bytes, Array}
 use Rattle.jc_effects.specs.declared.row.Given.{Given}
-use Rattle.jc_effects.specs.declared.row.Given.TheVariants.{Nothing, Exactly, OfLocal, OfOperand, ComponentOf}
 use Rattle.jc_effects.specs.Row.{component_of, given_type, is_array, is_bytes, is_reference, meets}
 
 -- ---- tests that hold
 
 pub both : (a b : Bool) → a && b ≡ true → (a ≡ true) × (b ≡ true)
-both true true h = (refl, refl)
-both t b h = absurd cc
+both a b h1 = grind arith
 
 pub and_true : (a b : Bool) → a ≡ true → b ≡ true → a && b ≡ true
 and_true a b h k = rw (h, k) refl
 
 left : (a b : Bool) → a ≡ true → (a || b) ≡ true
-left true b e = refl
-left false b e = absurd cc
+left a b h1 = grind arith
 
 -- one of two holds, and so one of these two with others between
 around : (a b c : Bool) → (a || c) ≡ true → ((a || b) || c) ≡ true
-around false false c e = e
-around t b c e = refl
+around a b c h1 = grind arith
 
 -- ---- what the order of states says of types
 
@@ -58,55 +54,30 @@ module _ (below : ClassName → ClassName → Bool) where
   -- ---- what has to be
 
   bytes_down : (a b : Ty) → is_below below a b ≡ true → is_bytes b ≡ true → is_bytes a ≡ true
-  bytes_down a Null h k = left (is_null a || is_boolean_array a) (is_byte_array a) (left (is_null a) (is_boolean_array a) h)
-  bytes_down a BooleanArray h k = left (is_null a || is_boolean_array a) (is_byte_array a) h
-  bytes_down a ByteArray h k = around (is_null a) (is_boolean_array a) (is_byte_array a) h
-  bytes_down a t h k = absurd cc
+  bytes_down a b h1 h2 = grind (arith, left, around)
 
   -- what is below arrays of references, and isn't null, is such an array
   arrays_down : (a : Ty) (d : ClassName) → is_below below a (ReferenceArray d) ≡ true → is_array a ≡ true
-  arrays_down Top d h = absurd cc
-  arrays_down Word d h = absurd cc
-  arrays_down (Class c) d h = absurd cc
-  arrays_down t d h = refl
+  arrays_down a d h1 = grind arith
 
   short_down : (a : Ty) → is_below below a ShortArray ≡ true → is_array a ≡ true
-  short_down Top h = absurd cc
-  short_down Word h = absurd cc
-  short_down (Class c) h = absurd cc
-  short_down t h = refl
+  short_down a h1 = grind arith
 
   bytes_are_arrays : (t : Ty) → is_bytes t ≡ true → is_array t ≡ true
   bytes_are_arrays t h = left (is_bytes t || is_short_array t) (is_some (class_of_components t)) (left (is_bytes t) (is_short_array t) h)
 
   array_down : (a b : Ty) → is_below below a b ≡ true → is_array b ≡ true → is_array a ≡ true
-  array_down a Null h k = bytes_are_arrays a (bytes_down a Null h refl)
-  array_down a BooleanArray h k = bytes_are_arrays a (bytes_down a BooleanArray h refl)
-  array_down a ByteArray h k = bytes_are_arrays a (bytes_down a ByteArray h refl)
-  array_down a ShortArray h k = short_down a h
-  array_down a (ReferenceArray d) h k = arrays_down a d h
-  array_down a t h k = absurd cc
+  array_down a b h1 h2 = grind (arith, bytes_are_arrays, bytes_down, short_down, arrays_down)
 
   arrays_are_references : (t : Ty) → is_array t ≡ true → is_reference t ≡ true
-  arrays_are_references Top h = absurd cc
-  arrays_are_references Word h = absurd cc
-  arrays_are_references (Class c) h = absurd cc
-  arrays_are_references t h = refl
+  arrays_are_references t h1 = grind arith
 
   -- what is below objects of a class is a reference
   objects_down : (a : Ty) (d : ClassName) → is_below below a (Class d) ≡ true → is_reference a ≡ true
-  objects_down Top d h = absurd cc
-  objects_down Word d h = absurd cc
-  objects_down t d h = refl
+  objects_down a d h1 = grind arith
 
   reference_down : (a b : Ty) → is_below below a b ≡ true → is_reference b ≡ true → is_reference a ≡ true
-  reference_down a Null h k = left (is_null a) (is_some (class_of_objects a)) h
-  reference_down a (Class d) h k = objects_down a d h
-  reference_down a BooleanArray h k = arrays_are_references a (array_down a BooleanArray h refl)
-  reference_down a ByteArray h k = arrays_are_references a (array_down a ByteArray h refl)
-  reference_down a ShortArray h k = arrays_are_references a (array_down a ShortArray h refl)
-  reference_down a (ReferenceArray d) h k = arrays_are_references a (array_down a (ReferenceArray d) h refl)
-  reference_down a t h k = absurd cc
+  reference_down a b h1 h2 = grind (arith, left, is_some, objects_down, arrays_are_references, array_down)
 
   -- what is as it has to be is so further down
   pub meets_down : IsTransitive below → (d : Demand) (a b : Ty) → is_below below a b ≡ true → meets below d b ≡ true
@@ -120,18 +91,13 @@ module _ (below : ClassName → ClassName → Bool) where
 
   of_arrays_down : (a : Ty) (d : ClassName) → is_below below a (ReferenceArray d) ≡ true
       → is_below below (component_of a) (Class d) ≡ true
-  of_arrays_down Null d h = refl
-  of_arrays_down (ReferenceArray c) d h = h
-  of_arrays_down t d h = absurd cc
+  of_arrays_down a d h1 = grind arith
 
   of_null_down : (a : Ty) → is_below below a Null ≡ true → is_below below (component_of a) Null ≡ true
-  of_null_down Null h = refl
-  of_null_down t h = absurd cc
+  of_null_down a h1 = grind arith
 
   component_down : (a b : Ty) → is_below below a b ≡ true → is_below below (component_of a) (component_of b) ≡ true
-  component_down a Null h = of_null_down a h
-  component_down a (ReferenceArray d) h = of_arrays_down a d h
-  component_down a t h = refl
+  component_down a b h1 = grind (arith, of_null_down, of_arrays_down)
 
   -- the types at a place
   pub at_down : (xs ys : List Ty) (i : ℕ) → all_below below xs ys ≡ true
@@ -145,9 +111,4 @@ module _ (below : ClassName → ClassName → Bool) where
   pub given_down : IsReflexive below → (g : Given) (l m : Ty) (xs ys : List Ty) → is_below below l m ≡ true
       → all_below below xs ys ≡ true
       → is_below below (given_type g l xs) (given_type g m ys) ≡ true
-  given_down reflexive Nothing l m xs ys h k = refl
-  given_down reflexive (Exactly t) l m xs ys h k = below_self reflexive t
-  given_down reflexive OfLocal l m xs ys h k = h
-  given_down reflexive (OfOperand i) l m xs ys h k = at_down xs ys i k
-  given_down reflexive (ComponentOf i) l m xs ys h k =
-      component_down (unwrap_or (slice_get xs i) Top) (unwrap_or (slice_get ys i) Top) (at_down xs ys i k)
+  given_down h1 g l m xs ys h2 h3 = grind (arith, below_self, at_down, component_down, unwrap_or, slice_get)

@@ -1,5 +1,5 @@
 -- What is demanded of types, point by point, as a loop compares them.
-use Rattle.std.proofs.Common.{◌≡◌, ℕ, zero, suc, ◌+◌, ◌<◌, ◌≤◌, List, [], ◌∷◌, length, map, drop, get_or, Bool, true, false, ◌&&◌, refl, sym, ap, ◌∙◌, arith}
+use Rattle.std.proofs.Common.{◌≡◌, ℕ, zero, suc, ◌+◌, ◌<◌, List, ◌∷◌, length, map, drop, get_or, Bool, true, false, ◌&&◌, refl, sym, ap, ◌∙◌, arith}
 use Rattle.jc_names.specs.declared.name.ClassName.{ClassName}
 use Rattle.jc_types.specs.declared.ty.Ty.{Ty}
 use Rattle.jc_effects.specs.declared.row.Demand.{Demand}
@@ -11,9 +11,7 @@ module _ (below : ClassName → ClassName → Bool) {X : Type 0} (f : X → Dema
       → all_meet below (map f (drop i xs)) (drop i ts)
       ≡ meets below (f (get_or xs i x)) (get_or ts i t) && all_meet below (map f (drop (i + 1) xs)) (drop (i + 1) ts)
   one_point (a ∷ xs) (b ∷ ts) zero x t lt e = refl
-  one_point (a ∷ xs) (b ∷ ts) (suc i) x t lt e =
-      let k : suc i + 1 ≡ suc (i + 1) = omega arith in
-      rw k (one_point xs ts i x t (omega arith) (omega arith))
+  one_point (a ∷ xs) (b ∷ ts) (suc i) x t lt e = search (arith, one_point xs ts i x t (omega arith) (omega arith))
   one_point u ts i x t lt e = absurd (omega arith)
 
   pub goes_on : (xs : List X) (ts : List Ty) (i : ℕ) (x : X) (t : Ty) (total : Bool) → i < length xs → length xs ≡ length ts
@@ -31,14 +29,3 @@ module _ (below : ClassName → ClassName → Bool) {X : Type 0} (f : X → Dema
       let one : all_meet below (map f (drop i xs)) (drop i ts) ≡ false =
       one_point xs ts i x t lt e ∙ ap (λ (b : Bool). b && all_meet below (map f (drop (i + 1) xs)) (drop (i + 1) ts)) h in
       sym one ∙ so_far
-
-  nothing_left : (xs : List X) (ts : List Ty) (i : ℕ) → length xs ≤ i → length xs ≡ length ts
-      → all_meet below (map f (drop i xs)) (drop i ts) ≡ true
-  nothing_left [] [] zero le e = refl
-  nothing_left [] [] (suc i) le e = refl
-  nothing_left (x ∷ xs) (t ∷ ts) (suc i) le e = nothing_left xs ts i (omega arith) (omega arith)
-  nothing_left t u i le e = absurd (omega arith)
-
-  pub is_done : (xs : List X) (ts : List Ty) (i : ℕ) (total : Bool) → length xs ≤ i → length xs ≡ length ts
-      → all_meet below (map f (drop i xs)) (drop i ts) ≡ total → true ≡ total
-  is_done xs ts i total le e so_far = sym (nothing_left xs ts i le e) ∙ so_far

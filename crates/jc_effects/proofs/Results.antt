@@ -1,5 +1,5 @@
 -- The result of a method whose type is found anew.
-use Rattle.std.proofs.Common.{◌≡◌, List, true, false, Option, Some, None, is_some, refl}
+use Rattle.std.proofs.Common.{◌≡◌, List, true, false, Option, None, is_some, arith}
 use Rattle.std.specs.Option.{option_and_then}
 use Rattle.jc_base.specs.Signature.{Signature}
 use Rattle.jc_base.specs.declared.declared_type.DeclaredType.{DeclaredType}
@@ -23,14 +23,11 @@ module _ (world : List Shape) (d : DeclaredMethod) where
     where
       at : (o : Option (List (DeclaredType ClassName))) (q : Option (ReturnType ClassName)) → is_some (found o q) ≡ true
           → option_and_then (λ signature. returned_type signature.result) (found o q) ≡ option_and_then returned_type q
-      at None q h = absurd cc
-      at (Some ps) None h = refl
-      at (Some ps) (Some r) h = refl
+      at o q h1 = grind arith
 
   pub unknown_result : is_some (member_type_of world (home_of d.class) d.method.signature) ≡ false → result_of world d ≡ None
   unknown_result h = at (member_type_of world (home_of d.class) d.method.signature) h
     where
       at : (o : Option (Signature ClassName)) → is_some o ≡ false
           → option_and_then (λ signature. returned_type signature.result) o ≡ None
-      at None h = refl
-      at (Some t) h = absurd cc
+      at o h1 = grind arith

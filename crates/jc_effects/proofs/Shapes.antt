@@ -1,10 +1,9 @@
 -- Effects keep how many locals there are, and leave no more operands than there may be.
-use Rattle.std.proofs.Common.{◌≡◌, ℕ, ◌+◌, ◌-◌, ◌≤◌, max, List, ◌++◌, Bool, true, false, cond, not, refl, subst, arith}
+use Rattle.std.proofs.Common.{◌≡◌, ℕ, ◌+◌, ◌-◌, ◌≤◌, max, List, Bool, false, cond, not, refl, subst, arith}
 use Rattle.std.proofs.Common.{length, take, drop, set, Option, Some, None, nat_lt, length-append, length-drop}
 use Rattle.std.proofs.lemmas.Bool.{ltb-false}
 use Rattle.std.proofs.lemmas.List.{length-set, length-take-le}
 use Rattle.jc_base.specs.Stack.{duplicated, swapped}
-use Rattle.jc_classes.specs.Subtype.{is_class_below}
 use Rattle.jc_names.specs.declared.name.ClassName.{ClassName}
 use Rattle.jc_code.specs.declared.instr.Operation.{Operation}
 use Rattle.jc_code.specs.declared.instr.Operation.TheVariants as Operations
@@ -18,12 +17,11 @@ use Rattle.jc_types.specs.declared.ty.Ty.{Ty}
 use Rattle.jc_effects.proofs.Monotone.{four, one, two}
 use Rattle.jc_effects.specs.Effect.{effect_of}
 use Rattle.jc_effects.specs.Laws.{KeepsShape, StaysWithin}
-use Rattle.jc_effects.specs.Objects.{Setting, object_row}
+use Rattle.jc_effects.specs.Objects.{Setting}
 use Rattle.jc_effects.specs.Row.{Row, after, applied, count_of, given_type, has_local, is_met, local_of}
 use Rattle.jc_effects.specs.Row.{put_in, put_on, taken_by}
 use Rattle.jc_effects.specs.Words.{shuffle_effect, word_effect}
 use Rattle.jc_effects.specs.declared.row.Given.{Given}
-use Rattle.jc_effects.specs.declared.row.Given.TheVariants.{Nothing}
 use Rattle.jc_effects.specs.declared.row.Place.{Place}
 use Rattle.jc_effects.specs.declared.row.Place.TheVariants.{Nowhere, At}
 
@@ -35,13 +33,11 @@ put_locals Nowhere given t locals = refl
 put_locals (At index demand) given t locals = by_count (nat_lt 0 (count_of given))
   where
     by_count : (b : Bool) → length (cond b (set locals index t) locals) ≡ length locals
-    by_count true = length-set locals index t
-    by_count false = refl
+    by_count b = grind (arith, length-set)
 
 put_operands : (given : Given) (t : Ty) (operands : List Ty)
     → length (put_on given t operands) ≤ length operands + count_of given
-put_operands Nothing t operands = omega arith
-put_operands u t operands = omega arith
+put_operands given t operands = grind arith
 
 -- what a row gives, in a state
 abbrev gives : Row → Given → Types → Ty
@@ -57,16 +53,7 @@ module _ (below : ClassName → ClassName → Bool) (most : ℕ) where
   row_stays : (row : Row) (s : Types) → nat_lt (length s.operands) (length row.operands) ≡ false
       → nat_lt most (count_behind row s) ≡ false → StaysWithin most s (after row s)
   unfolding after
-  row_stays row s there room = record {
-    locals = put_locals row.local row.written (gives row row.written s) s.locals;
-    operands = λ within.
-        omega (
-          arith,
-          put_operands row.pushed (gives row row.pushed s) (drop (length row.operands) s.operands),
-          length-drop (length row.operands) s.operands,
-          ltb-false most (count_behind row s) room,
-        );
-  }
+  row_stays row s there room = grind (arith, put_locals, put_operands, drop, length, length-drop, ltb-false)
 
   applied_stays : (row : Option Row) → KeepsShape most (applied below most row)
   unfolding applied
@@ -85,30 +72,11 @@ module _ (below : ClassName → ClassName → Bool) (most : ℕ) where
 
   duplicated_length : (count depth : ℕ) (xs : List Ty) → max count depth ≤ length xs
       → length (duplicated count depth xs) ≡ length xs + count
-  duplicated_length count depth xs there =
-      omega (
-        arith,
-        length-append (take depth xs ++ take count xs) (drop depth xs),
-        length-append (take depth xs) (take count xs),
-        length-take-le depth xs (omega (arith, there)),
-        length-take-le count xs (omega (arith, there)),
-        length-drop depth xs,
-        there,
-      )
+  duplicated_length count depth xs there = grind (arith, length-append, take, drop, length-take-le, length-drop)
 
   swapped_length : (upper lower : ℕ) (xs : List Ty) → upper + lower ≤ length xs
       → length (swapped upper lower xs) ≡ length xs
-  swapped_length upper lower xs there =
-      let n = length-drop upper xs in
-      omega (
-        arith,
-        length-append (take lower (drop upper xs) ++ take upper xs) (drop (upper + lower) xs),
-        length-append (take lower (drop upper xs)) (take upper xs),
-        length-take-le lower (drop upper xs) (omega (arith, n, there)),
-        length-take-le upper xs (omega (arith, there)),
-        length-drop (upper + lower) xs,
-        there,
-      )
+  swapped_length upper lower xs there = grind (arith, length-drop, length-append, take, drop, length-take-le)
 
   shuffle_stays : (shuffle : shuffles.Shuffle) → KeepsShape most (shuffle_effect most shuffle)
   unfolding drop_types duplicate_types swap_types
@@ -145,7 +113,5 @@ module _ (below : ClassName → ClassName → Bool) (most : ℕ) where
 pub effect_stays : (setting : Setting) (most : ℕ) (operation : Operation)
     → KeepsShape most (effect_of setting most operation)
 unfolding effect_of
-effect_stays setting most (Operations.Word operation) =
-    word_stays (is_class_below setting.world) most setting.returned operation
-effect_stays setting most (Operations.Object operation) =
-    applied_stays (is_class_below setting.world) most (object_row setting operation)
+effect_stays setting most (Operations.Word operation) = search (arith, word_stays, applied_stays)
+effect_stays setting most (Operations.Object operation) = search (arith, word_stays, applied_stays)

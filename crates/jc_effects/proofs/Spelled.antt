@@ -1,5 +1,5 @@
 -- What is demanded of arguments whose types are found anew.
-use Rattle.std.proofs.Common.{◌≡◌, ℕ, suc, ◌+◌, ◌==◌, List, [], ◌∷◌, length, map, Bool, true, false, Option, Some, None, is_some, if◌then◌else◌, refl, sym, ap, ◌∙◌, eq-eqb}
+use Rattle.std.proofs.Common.{◌≡◌, ℕ, suc, ◌+◌, ◌==◌, List, [], ◌∷◌, length, map, Bool, true, false, Option, Some, None, is_some, if◌then◌else◌, refl, sym, ap, ◌∙◌, eq-eqb, arith}
 use Rattle.std.proofs.lemmas.Bool.{ne_eqb}
 use Rattle.std.specs.List.{find}
 use Rattle.std.specs.Option.{option_and_then, option_map}
@@ -41,14 +41,12 @@ method_type world c token = at (class_at world c)
     of_class : (b : Bool) (k : ClassShape)
         → (if b then None else option_and_then (of_method world c) (rows token k))
         ≡ option_and_then (of_method world c) (if b then None else rows token k)
-    of_class true k = refl
-    of_class false k = refl
+    of_class b k = grind arith
 
     at : (o : Option ClassShape)
         → option_and_then (λ k. if is_class k.body then None else option_and_then (of_method world c) (rows token k)) o
         ≡ option_and_then (of_method world c) (option_and_then (λ k. if is_class k.body then None else rows token k) o)
-    at None = refl
-    at (Some k) = of_class (is_class k.body) k
+    at o = grind (arith, of_class)
 
 -- what is found of types, in front of what is found of others
 step : (o : Option (DeclaredType ClassName)) (p : Option (List (DeclaredType ClassName))) (rest : List Demand) (count : ℕ)
@@ -67,9 +65,7 @@ demanded : (find : ClassRef → Option ClassName) (types : List (DeclaredType Cl
     → types_found find types ≡ Some found
     → (map (λ t. argument_found (type_found find t)) types ≡ map argument found) × (length found ≡ length types)
 demanded find [] found e = let h : [] ≡ found = cc in (ap (map argument) h, sym (ap length h))
-demanded find (t ∷ types) found e =
-    step (type_found find t) (types_found find types) (map (λ u. argument_found (type_found find u)) types) (length types) found
-    (demanded find types) e
+demanded find (t ∷ types) found e = search (arith, map, length, step, demanded find types)
 
 -- the type of a method, by what is found of its parameters and of its result
 abbrev pub found : Option (List (DeclaredType ClassName)) → Option (ReturnType ClassName) → Option (Signature ClassName)
@@ -87,18 +83,12 @@ module _ (world : List Shape) (home arguments : ℕ) (s : Signature ClassRef) wh
       → ((ps : List (DeclaredType ClassName)) → o ≡ Some ps → (spelled ≡ map argument ps) × (length ps ≡ length s.parameters))
       → is_some (found o q) ≡ true → q ≡ Some r
       → option_and_then (interface_row arguments) (found o q) ≡ row_if r (arguments == 1 + length s.parameters)
-  known (Some ps) (Some x) r facts there e =
-      let h : x ≡ r = cc in
-      let both = facts ps refl in
-      rw (both.0, h, both.1) refl
-  known t q r facts there e = absurd cc
+  known o q r h1 h2 h3 = grind arith
 
   known_row : (r : ReturnType ClassName) → is_some (member_type_of world home s) ≡ true
       → return_found (type_class world home) s.result ≡ Some r
       → option_and_then (interface_row arguments) (member_type_of world home s) ≡ row_if r (arguments == 1 + length s.parameters)
-  known_row r there e =
-      known (types_found (type_class world home) s.parameters) (return_found (type_class world home) s.result) r
-      (demanded (type_class world home) s.parameters) there e
+  known_row r there e = search (arith, known, demanded)
 
   -- a call with as many words as the method takes
   pub counted_row : (r : ReturnType ClassName) → is_some (member_type_of world home s) ≡ true
@@ -118,14 +108,11 @@ module _ (world : List Shape) (home arguments : ℕ) (s : Signature ClassRef) wh
   unknown_row h = at (member_type_of world home s) h
     where
       at : (o : Option (Signature ClassName)) → is_some o ≡ false → option_and_then (interface_row arguments) o ≡ None
-      at None h = refl
-      at (Some t) h = absurd cc
+      at o h1 = grind arith
 
   pub ungiven_row : is_some (member_type_of world home s) ≡ true → return_found (type_class world home) s.result ≡ None → ⊥
   ungiven_row h e = at (types_found (type_class world home) s.parameters) (return_found (type_class world home) s.result) h e
     where
       at : (o : Option (List (DeclaredType ClassName))) (q : Option (ReturnType ClassName)) → is_some (found o q) ≡ true
           → q ≡ None → ⊥
-      at None q h e = absurd cc
-      at (Some ps) None h e = absurd cc
-      at (Some ps) (Some r) h e = absurd cc
+      at o q h1 h2 = grind arith

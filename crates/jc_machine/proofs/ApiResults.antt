@@ -14,7 +14,6 @@ use Rattle.jc_api.specs.declared.class.ApiPackage.{ApiPackage}
 use Rattle.jc_base.specs.Signature.{Signature, return_map, type_map}
 use Rattle.jc_base.specs.declared.class_ref.ClassRef.{ClassRef}
 use Rattle.jc_base.specs.declared.declared_type.DeclaredType.{DeclaredType}
-use Rattle.jc_base.specs.declared.declared_type.DeclaredType.TheVariants as types
 use Rattle.jc_base.specs.declared.declared_type.ReturnType.{ReturnType}
 use Rattle.jc_cap.specs.ClassComponent.{is_class}
 use Rattle.jc_cap_desc.specs.Shape.{ClassShape, MethodShape, Shape}

@@ -210,14 +210,7 @@ module _ (fine : IsWellFormed (api_world default_binding) applet) where
   was_loaded = grind (arith, apart, headers, have_bodies, installs)
 
   known : IsKnown applet_world.shapes 2 applet_body
-  known = record {
-    loaded = was_loaded;
-    resolved = applet_resolved;
-    headed = headed;
-    coded = coded;
-    declared = are_declared;
-    installs = installable;
-  }
+  known = search (arith, was_loaded, applet_resolved, headed, coded, are_declared, installs, installable)
 
   pub applet_is_world : HasNoClash default_binding → IsWorld applet_world
   applet_is_world clear = record {

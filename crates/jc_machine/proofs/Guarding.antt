@@ -3,7 +3,6 @@ use Rattle.std.proofs.Common.{◌≡◌, ℕ, Bool, true, false, not, List, [], 
 use Rattle.std.proofs.Common.{◌∙◌, subst, append-nil, append_assoc, length, nat_lt, ℤ, pos, negsuc}
 use Rattle.std.proofs.lemmas.Option.{none-some, same_Some}
 use Rattle.std.specs.List.{AllByRecursion}
-use Rattle.std.specs.Option.{option_and_then}
 use Rattle.jc_code.specs.Targets.{target_of}
 use Rattle.jc_code.specs.declared.object.Form.{Form}
 use Rattle.jc_firewall.specs.Verdict.{verdict_of}
@@ -21,7 +20,6 @@ use Rattle.jc_machine.specs.Going.{on_reference, on_reference_local, on_some, on
 use Rattle.jc_machine.specs.Going.{plain, pushed, require, storing, stuck, throws, touch_of, touched}
 use Rattle.jc_machine.specs.Guarded.{AreGuarded, AreMade, IsJudged, KeepsStatics, allowed, are_allowed, as_they_were}
 use Rattle.jc_machine.specs.Guarded.{by_frame, denied, one_written, is_allowed, machine_of, setting_of}
-use Rattle.jc_machine.specs.Lookup.{target_at}
 use Rattle.jc_machine.specs.Machine.{Asked, Machine, Next, Outcome, Stepped, Surroundings, Throws, Touch}
 use Rattle.jc_machine.specs.Runtime.{security_exception}
 use Rattle.jc_words.specs.Values.{Null, Ref, TaggedValue, Unset, Word, is_reference}
@@ -105,9 +103,7 @@ goes h pc locals operands changes a =
 
 pub goes_still : {C : Type 0} {before : List Touch} (h : Here C) (pc : ℕ) (locals operands : List TaggedValue)
     → KeepsLaw h.around h.machine before (goes_to h pc locals operands)
-goes_still {before = before} h pc locals operands =
-    goes h pc locals operands (nothing_changes h.machine.top.active before h.machine.heap)
-    (is_apart_itself h.around h.machine)
+goes_still h pc locals operands = search (arith, goes, nothing_changes, is_apart_itself)
 
 pub goes_behind : {C : Type 0} {before : List Touch} (h : Here C) (locals operands : List TaggedValue)
     → KeepsLaw h.around h.machine before (goes_on h locals operands)
@@ -169,8 +165,7 @@ pub gives_changed : {C : Type 0} {around : Surroundings C} {m : Machine C} {befo
     (v : TaggedValue)
     (operands : List TaggedValue) → KeepsHeap m.top.active before m.heap h.machine.heap
     → LeadsApart around m h.machine → KeepsLaw around m before (gives h v operands)
-gives_changed h v operands changes a =
-    at_pushed h v operands (leaves_operands h) (goes h h.next_pc h.machine.top.locals (v ∷ operands) changes a)
+gives_changed h v operands changes a = search (arith, at_pushed, goes)
 
 pub at_top : {C : Type 0} {around : Surroundings C} {m : Machine C} {before : List Touch} (vs : List TaggedValue)
     (go : TaggedValue → List TaggedValue → Stepped C)
@@ -204,8 +199,7 @@ at_operands count vs s k = at_check _ s k
 pub at_target : {A C : Type 0} {around : Surroundings C} {m : Machine C} {before : List Touch} (h : Here C) (index : ℕ)
     (wanted : PoolTarget → Option A) (go : A → Stepped C) → ((x : A) → KeepsLaw around m before (go x))
     → KeepsLaw around m before (on_target h index wanted go)
-at_target h index wanted go k =
-    at_some (option_and_then wanted (target_at h.around.world h.machine.top.method.number index)) go (λ x e. k x)
+at_target h index wanted go k = search (arith, at_some)
 
 pub at_word_local : {C : Type 0} {around : Surroundings C} {m : Machine C} {before : List Touch}
     (v : Option TaggedValue) (go : ℕ → Stepped C)
@@ -327,9 +321,7 @@ pub at_judged : {C : Type 0} {before : List Touch} (h : Here C) (asked : Asked)
     → switch ≡ switched_by (verdict_in h asked object)
     → KeepsLaw h.around h.machine (before ++ touch_in h asked object ∷ []) (go switch))
     → KeepsLaw h.around h.machine before (judged h asked object go)
-at_judged h asked object there go k =
-    at_verdict h asked (verdict_in h asked object) go
-    (record { active = refl; object = object; found = there; verdict = refl }) k
+at_judged h asked object there go k = search (arith, at_verdict)
 
 pub at_stored : {C : Type 0} {before : List Touch} (h : Here C) (access : Access) (number : ℕ)
     (object : Object TaggedValue) → object_at h.machine.heap number ≡ Some object → (v : TaggedValue)
@@ -337,13 +329,11 @@ pub at_stored : {C : Type 0} {before : List Touch} (h : Here C) (access : Access
     → (is_allowed (verdict_in h (storing access number v) object) ≡ true
     → KeepsLaw h.around h.machine (before ++ touch_in h (storing access number v) object ∷ []) s)
     → KeepsLaw h.around h.machine before (accessed_to_store h access number object v s)
-at_stored h access number object there v s k =
-    at_judged h (storing access number v) object there (λ switch. s) (λ fine switch by. k fine)
+at_stored h access number object there v s k = search (arith, at_judged)
 
 pub at_accessed : {C : Type 0} {before : List Touch} (h : Here C) (access : Access) (number : ℕ)
     (object : Object TaggedValue) → object_at h.machine.heap number ≡ Some object → (s : Stepped C)
     → (is_allowed (verdict_in h (asking access number) object) ≡ true
     → KeepsLaw h.around h.machine (before ++ touch_in h (asking access number) object ∷ []) s)
     → KeepsLaw h.around h.machine before (accessed h access number object s)
-at_accessed h access number object there s k =
-    at_judged h (asking access number) object there (λ switch. s) (λ fine switch by. k fine)
+at_accessed h access number object there s k = search (arith, at_judged)

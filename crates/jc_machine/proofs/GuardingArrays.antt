@@ -1,13 +1,13 @@
 -- Instructions on arrays keep the law of accesses.
-use Rattle.std.proofs.Common.{[], length, slice_get, inr, refl}
+use Rattle.std.proofs.Common.{[], length, slice_get, inr, refl, arith}
 use Rattle.jc_code.specs.declared.object.Form.{Form}
 use Rattle.jc_code.specs.declared.object.Form.TheVariants as Forms
-use Rattle.jc_firewall.specs.declared.access.Access.TheVariants.{ArrayLength, LoadComponent, StoreComponent}
+use Rattle.jc_firewall.specs.declared.access.Access.TheVariants.{LoadComponent, StoreComponent}
 use Rattle.jc_firewall.specs.declared.access.Access.TheVariants.{StoreReference}
 use Rattle.jc_machine.specs.Arrays.{act_length, act_load, act_store, act_store_reference, act_store_word}
 use Rattle.jc_machine.specs.Arrays.{is_array_of, is_in_bounds, is_there, stored_as}
 use Rattle.jc_machine.specs.Going.{Here, asking, storing}
-use Rattle.jc_machine.specs.Lookup.{component_class, is_array, is_instance, leads_to}
+use Rattle.jc_machine.specs.Lookup.{component_class, is_instance, leads_to}
 use Rattle.jc_machine.specs.Runtime.{array_index_exception, array_store_exception}
 use Rattle.jc_words.specs.Values.{Word}
 use Rattle.jc_machine.proofs.Guarding.{KeepsLaw, at_accessed, at_check, at_checked, at_object, at_reference}
@@ -49,7 +49,4 @@ store_keeps h Forms.Byte = store_word_keeps h Forms.Byte
 store_keeps h Forms.Short = store_word_keeps h Forms.Short
 
 pub length_keeps : {C : Type 0} (h : Here C) → KeepsLaw h.around h.machine [] (act_length h)
-length_keeps h =
-    at_reference h.machine.top.operands _ (λ array vs. at_object h array _ (λ number o there.
-    at_check (is_array o.kind.object) _ (at_accessed h ArrayLength number o there _ (λ fine.
-    gives_still h (Word (length o.cells)) vs))))
+length_keeps h = search (arith, at_reference, at_object, at_check, at_accessed, gives_still, length)

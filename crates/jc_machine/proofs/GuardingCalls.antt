@@ -1,5 +1,5 @@
 -- Calls keep the law of accesses, where native members keep theirs.
-use Rattle.std.proofs.Common.{◌≡◌, ℕ, ◌+◌, ◌==◌, true, false, List, [], ◌∷◌, length, take, drop, reverse, Option}
+use Rattle.std.proofs.Common.{◌≡◌, ℕ, true, false, List, [], length, take, drop, reverse, Option, arith}
 use Rattle.std.proofs.Common.{Some, None, refl}
 use Rattle.jc_base.specs.Signature.{Signature}
 use Rattle.jc_classes.specs.Methods.{interface_method_of}
@@ -11,14 +11,14 @@ use Rattle.jc_names.specs.declared.name.ClassName.{ClassName}
 use Rattle.jc_names.specs.declared.name.MethodName.{MethodName}
 use Rattle.jc_names.specs.declared.name.MethodName.TheVariants.{Api, Loaded}
 use Rattle.jc_names.specs.declared.owner.Owner.{Owner}
-use Rattle.jc_effects.specs.Objects.{class_target, interface_method_type}
+use Rattle.jc_effects.specs.Objects.{class_target}
 use Rattle.jc_store.specs.Heap.{Object, object_at}
 use Rattle.jc_machine.specs.Apart.{HaveApiMembers, has_no_code, is_member}
 use Rattle.jc_machine.specs.Calls.{MethodTarget, VirtualTarget, act_call, act_interface, act_of_interface, act_special}
 use Rattle.jc_machine.specs.Calls.{act_static_call, act_virtual, active_in, found_for, has_interface, invokes}
 use Rattle.jc_machine.specs.Calls.{special_target, static_target, virtual_target, with_arguments, with_receiver}
 use Rattle.jc_machine.specs.Going.{Here, asking, facts_of, wanting}
-use Rattle.jc_machine.specs.Lookup.{are_of_types, class_of, is_of_class}
+use Rattle.jc_machine.specs.Lookup.{class_of, is_of_class}
 use Rattle.jc_machine.specs.Machine.{Asked, Stepped, Touch}
 use Rattle.jc_machine.specs.Natives.{AreNativesGuarded}
 use Rattle.jc_machine.specs.Runtime.{class_cast_exception}
@@ -44,8 +44,7 @@ invokes_keeps h natives switch (Api member) arguments operands runs =
 unswitched_keeps : {C : Type 0} {before : List Touch} (h : Here C) → AreNativesGuarded h.around.natives
     → (method : MethodName) (arguments operands : List TaggedValue)
     → KeepsLaw h.around h.machine before (invokes h None method arguments operands)
-unswitched_keeps h natives method arguments operands =
-    invokes_keeps h natives None method arguments operands (λ loaded. top_runs h.around h.machine)
+unswitched_keeps h natives method arguments operands = search (arith, invokes_keeps, top_runs)
 
 -- one that may: what was found for an object, if a package has it, is no method of the runtime's objects
 switched_keeps : {C : Type 0} {before : List Touch} (h : Here C) → AreNativesGuarded h.around.natives
@@ -65,21 +64,14 @@ at_arguments : {C : Type 0} {before : List Touch} (h : Here C) (signature : Sign
     (go : List TaggedValue → List TaggedValue → Stepped C)
     → ((arguments operands : List TaggedValue) → KeepsLaw h.around h.machine before (go arguments operands))
     → KeepsLaw h.around h.machine before (with_arguments h signature go)
-at_arguments h signature go k =
-    at_check
-    (are_of_types h.around.world.shapes h.machine.heap signature.parameters
-    (reverse (take (length signature.parameters) h.machine.top.operands))) _
-    (k (reverse (take (length signature.parameters) h.machine.top.operands))
-    (drop (length signature.parameters) h.machine.top.operands))
+at_arguments h signature go k = search (arith, at_check, reverse, take, length, drop)
 
 at_receiver : {C : Type 0} {before : List Touch} (h : Here C) (signature : Signature ClassName)
     (go : List TaggedValue → ℕ → Object TaggedValue → List TaggedValue → Stepped C)
     → ((arguments : List TaggedValue) (number : ℕ) (o : Object TaggedValue) (operands : List TaggedValue)
     → object_at h.machine.heap number ≡ Some o → KeepsLaw h.around h.machine before (go arguments number o operands))
     → KeepsLaw h.around h.machine before (with_receiver h signature go)
-at_receiver h signature go k =
-    at_arguments h signature _ (λ arguments us. at_reference us _ (λ receiver operands.
-    at_object h receiver _ (λ number o there. k (receiver ∷ arguments) number o operands there)))
+at_receiver h signature go k = search (arith, at_arguments, at_reference, at_object)
 
 virtual_keeps : {C : Type 0} (h : Here C) → AreNativesGuarded h.around.natives → (target : VirtualTarget)
     → KeepsLaw h.around h.machine [] (act_virtual h target)
@@ -94,16 +86,11 @@ virtual_keeps h natives target =
 
 special_keeps : {C : Type 0} (h : Here C) → AreNativesGuarded h.around.natives → (target : MethodTarget)
     → KeepsLaw h.around h.machine [] (act_special h target)
-special_keeps h natives target =
-    at_receiver h target.signature _ (λ arguments number o operands there.
-    at_check (is_of_class h.around.world.shapes target.class o.kind.object) _
-    (unswitched_keeps h natives target.method arguments operands))
+special_keeps h natives target = search (arith, at_receiver, at_check, unswitched_keeps)
 
 static_call_keeps : {C : Type 0} (h : Here C) → AreNativesGuarded h.around.natives → (target : MethodTarget)
     → KeepsLaw h.around h.machine [] (act_static_call h target)
-static_call_keeps h natives target =
-    at_arguments h target.signature _ (λ arguments operands.
-    unswitched_keeps h natives target.method arguments operands)
+static_call_keeps h natives target = search (arith, at_arguments, unswitched_keeps)
 
 of_interface_keeps : {C : Type 0} (h : Here C) → AreNativesGuarded h.around.natives → (interface : ClassName)
     (token : ℕ) (signature : Signature ClassName)
@@ -119,9 +106,7 @@ of_interface_keeps h natives interface token signature =
 
 interface_keeps : {C : Type 0} (h : Here C) → AreNativesGuarded h.around.natives → (count token : ℕ)
     (interface : ClassName) → KeepsLaw h.around h.machine [] (act_interface h count token interface)
-interface_keeps h natives count token interface =
-    at_some (interface_method_type h.around.world.shapes interface token) _ (λ signature e.
-    at_check (count == 1 + length signature.parameters) _ (of_interface_keeps h natives interface token signature))
+interface_keeps h natives count token interface = search (arith, at_some, at_check, length, of_interface_keeps)
 
 pub call_keeps : {C : Type 0} (h : Here C) → AreNativesGuarded h.around.natives → (invocation : Invocation)
     → KeepsLaw h.around h.machine [] (act_call h invocation)

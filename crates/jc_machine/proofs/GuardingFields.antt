@@ -1,5 +1,5 @@
 -- Instructions on fields keep the law of accesses.
-use Rattle.std.proofs.Common.{◌≡◌, ◌∙◌, ℕ, List, [], length, nat_lt, slice_get, inl, refl, ap, Option, Some, None, arith}
+use Rattle.std.proofs.Common.{◌≡◌, ℕ, List, [], length, nat_lt, slice_get, inl, refl, ap, Option, Some, None, arith}
 use Rattle.std.proofs.Common.{true, false}
 use Rattle.jc_base.specs.declared.declared_type.DeclaredType.{DeclaredType}
 use Rattle.jc_code.specs.declared.instr.Operation.TheVariants as operations
@@ -7,12 +7,11 @@ use Rattle.jc_code.specs.declared.object.FieldAccess.{FieldAccess}
 use Rattle.jc_code.specs.declared.object.FieldAction.{FieldAction}
 use Rattle.jc_code.specs.declared.object.FieldAction.TheVariants.{Get, Put}
 use Rattle.jc_code.specs.declared.object.Form.{Form}
-use Rattle.jc_code.specs.declared.object.Form.TheVariants as Forms
 use Rattle.jc_code.specs.declared.object.Holder.{Holder}
 use Rattle.jc_code.specs.declared.object.Holder.TheVariants as Holders
 use Rattle.jc_code.specs.declared.object.ObjectOperation.TheVariants as objects
 use Rattle.jc_firewall.specs.Verdict.{fields, row_of}
-use Rattle.jc_firewall.specs.declared.access.Access.TheVariants.{GetField, PutStaticReference}
+use Rattle.jc_firewall.specs.declared.access.Access.TheVariants.{PutStaticReference}
 use Rattle.jc_firewall.specs.declared.access.Facts.{Facts}
 use Rattle.jc_link.specs.declared.named.StaticPlace.{StaticPlace}
 use Rattle.jc_link.specs.declared.target.PoolTarget.{PoolTarget}
@@ -42,9 +41,7 @@ use Rattle.jc_machine.proofs.StayingApart.{IsHeld, LeadsApart, top_isnt_runtime}
 
 get_static_keeps : {C : Type 0} (h : Here C) (form : Form) (place : StaticPlace)
     → KeepsLaw h.around h.machine [] (act_get_static h form place)
-get_static_keeps h form place =
-    at_some (static_at h.machine.statics place.home place.offset) _ (λ s e.
-    loads_still h form s.value h.machine.top.operands)
+get_static_keeps h form place = search (arith, at_some, loads_still)
 
 -- what is stored has been accessed, if it is an object
 at_stored_value : {C : Type 0} (h : Here C) (v : TaggedValue) (s : Stepped C)
@@ -103,10 +100,7 @@ static_keeps h access place declared Put Holders.This puts holds names = is_stuc
 
 gets_keeps : {C : Type 0} (h : Here C) (form : Form) (field : InstanceField) (v : TaggedValue) (vs : List TaggedValue)
     → KeepsLaw h.around h.machine [] (gets h form field v vs)
-gets_keeps h form field v vs =
-    at_object h v _ (λ number o there. at_check (is_of_class h.around.world.shapes field.class o.kind.object) _
-    (at_accessed h GetField number o there _ (λ fine. at_some (slice_get o.cells field.cell) _ (λ value e.
-    loads_still h form value vs))))
+gets_keeps h form field v vs = search (arith, at_object, at_check, at_accessed, at_some, slice_get, loads_still)
 
 putting_row : (form : Form) (f : Facts) → row_of (putting form) f ≡ fields
 putting_row form f = grind arith
@@ -140,18 +134,13 @@ at_holder : {C : Type 0} {around : Surroundings C} {m : Machine C} {before : Lis
     → KeepsLaw around m before (on_holder h holder vs go)
 at_holder h Holders.Class vs go k = is_stuck
 at_holder h Holders.Operand vs go k = at_reference vs go k
-at_holder h Holders.This vs go k =
-    at_reference_local (slice_get h.machine.top.locals 0) (λ v. go v vs) (λ v. k v vs)
+at_holder h Holders.This vs go k = search (arith, is_stuck, at_reference, at_reference_local, slice_get)
 
 instance_keeps : {C : Type 0} (h : Here C) (access : FieldAccess) (field : InstanceField) (action : FieldAction)
     → is_form_of access.form field.declared ≡ true
     → KeepsLaw h.around h.machine [] (act_instance h access field action)
-instance_keeps h access field Get of_form =
-    at_holder h access.holder h.machine.top.operands (gets h access.form field) (gets_keeps h access.form field)
-instance_keeps h access field Put of_form =
-    at_top h.machine.top.operands _ (λ value us.
-    at_checked (is_of_type h.around.world.shapes h.machine.heap field.declared value) _ (λ typed.
-    at_holder h access.holder us _ (λ v vs. puts_keeps h access.form field v value vs of_form typed)))
+instance_keeps h access field Get of_form = search (arith, at_holder, gets_keeps, at_top, at_checked, puts_keeps)
+instance_keeps h access field Put of_form = search (arith, at_holder, gets_keeps, at_top, at_checked, puts_keeps)
 
 -- ---- instructions
 
@@ -167,17 +156,7 @@ named_target h access index place declared at puts holds e = by_option (target_a
         → field_target t ≡ Some (of_class place declared) → PutsStatic h.around h.machine place
     by_target (To.Class c) is f = absurd cc
     by_target (To.InstanceField class cell type) is f = absurd cc
-    by_target (To.StaticField found type) is f =
-        let same : found ≡ place = cc in
-        record {
-          access = access;
-          index = index;
-          declared = type;
-          stands = at;
-          puts = puts;
-          of_class = holds;
-          named = is ∙ ap (λ (p : StaticPlace). Some (To.StaticField p type)) same;
-        }
+    by_target (To.StaticField found type) is f = search arith
     by_target (To.VirtualMethod class token signature) is f = absurd cc
     by_target (To.SuperMethod class method signature) is f = absurd cc
     by_target (To.StaticMethod class method is_static signature) is f = absurd cc
@@ -200,6 +179,4 @@ target_keeps h access index (of_class place declared) at e =
 pub field_keeps : {C : Type 0} (h : Here C) (access : FieldAccess) (index : ℕ)
     → StandsAt h.around h.machine (operations.Object (objects.Field access index))
     → KeepsLaw h.around h.machine [] (act_field h access index)
-field_keeps h access index at =
-    at_some (option_and_then field_target (target_at h.around.world h.machine.top.method.number index)) _
-    (λ target. target_keeps h access index target at)
+field_keeps h access index at = search (arith, at_some, target_keeps)

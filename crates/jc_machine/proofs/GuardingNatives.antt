@@ -1,11 +1,9 @@
 -- New frames, and native members and what they call, keep the law of accesses, where native members keep theirs.
-use Rattle.std.proofs.Common.{◌≡◌, ℕ, ◌+◌, Bool, true, false, List, [], ◌∷◌, ◌++◌, length, Option, Some, None, arith}
+use Rattle.std.proofs.Common.{◌≡◌, ℕ, Bool, true, false, List, [], ◌∷◌, ◌++◌, length, Option, Some, None, arith}
 use Rattle.std.proofs.Common.{cond, refl, sym, ap, ◌∙◌, subst, ◌&&◌, append-nil, eqb-true}
 use Rattle.std.proofs.lemmas.Bool.{and_from, and_parts}
 use Rattle.std.specs.List.{AllByRecursion}
-use Rattle.std.specs.Option.{option_and_then}
 use Rattle.jc_base.specs.Signature.{Signature}
-use Rattle.jc_cap.specs.declared.method_header.MethodHeader.{MethodHeader}
 use Rattle.jc_classes.specs.Methods.{virtual_method_of}
 use Rattle.jc_link.specs.Found.{is_same_return}
 use Rattle.jc_names.specs.declared.name.ClassName.{ClassName}
@@ -15,14 +13,14 @@ use Rattle.jc_names.specs.declared.owner.Owner.{Owner}
 use Rattle.jc_store.specs.Heap.{Heap, Object, object_at}
 use Rattle.jc_machine.specs.Apart.{IsApartAnswer, IsSetApart, SparesPlain, is_applets}
 use Rattle.jc_machine.specs.Calls.{VirtualMember, active_in, after_native, called_as, callback_fits, calls_back}
-use Rattle.jc_machine.specs.Calls.{entered, enters, frame_of, has_room, inner_native_ends, is_in_place_of}
-use Rattle.jc_machine.specs.Calls.{accepts, is_member_or_loaded, native_answer, native_call, native_ends, native_gives}
-use Rattle.jc_machine.specs.Calls.{native_may_begin, native_type, on_native, previous_in, takes, type_of_member}
+use Rattle.jc_machine.specs.Calls.{entered, enters, inner_native_ends, is_in_place_of}
+use Rattle.jc_machine.specs.Calls.{is_member_or_loaded, native_answer, native_call, native_ends, native_gives}
+use Rattle.jc_machine.specs.Calls.{native_may_begin, on_native, type_of_member}
 use Rattle.jc_machine.specs.Calls.{virtual_member, with_given}
 use Rattle.jc_machine.specs.Going.{Here, check, moved, plain, stuck, throws, touched}
 use Rattle.jc_machine.specs.Guarded.{AreGuarded, AreMade, IsCalledBack, IsJudged, as_owner, as_they_were, by_callback}
 use Rattle.jc_machine.specs.Guarded.{by_frame, frame_answer, setting_of}
-use Rattle.jc_machine.specs.Lookup.{are_of_types, class_of, declared_at, is_given, is_of_class}
+use Rattle.jc_machine.specs.Lookup.{are_of_types, class_of, is_of_class}
 use Rattle.jc_machine.specs.Machine.{Callback, Calls, Frame, Gives, IsStuck, Machine, MethodPlace, NativeAnswer}
 use Rattle.jc_machine.specs.Machine.{NativeCall, NativeEnd, Next, Stepped, Surroundings, Throws, ThrowsObject, Touch}
 use Rattle.jc_machine.specs.Machine.{UsedUp}
@@ -75,19 +73,13 @@ by_room h f operands false runs =
 entered_keeps : {C : Type 0} {before : List Touch} (h : Here C) (f : Frame) (max_stack : ℕ)
     (operands : List TaggedValue) → RunsApplets h.around h.machine f.active
     → KeepsLaw h.around h.machine before (entered h f max_stack operands)
-entered_keeps h f max_stack operands runs =
-    by_room h f operands (has_room h.around (h.machine.top ∷ h.machine.waiting) (length f.locals + max_stack)) runs
+entered_keeps h f max_stack operands runs = search (arith, by_room, length)
 
 pub enters_keeps : {C : Type 0} {before : List Touch} (h : Here C) (switch : Option Owner) (place : MethodPlace)
     (arguments operands : List TaggedValue)
     → RunsApplets h.around h.machine (active_in h.machine.top switch)
     → KeepsLaw h.around h.machine before (enters h switch place arguments operands)
-enters_keeps h switch place arguments operands runs =
-    at_some (option_and_then (λ d. d.method.header) (declared_at h.around.world place)) _ (λ (header : MethodHeader) e.
-    at_check (takes header arguments && accepts h place arguments) _
-    (entered_keeps h
-    (frame_of place header arguments (active_in h.machine.top switch) (previous_in h.machine.top switch))
-    header.max_stack operands runs))
+enters_keeps h switch place arguments operands runs = search (arith, at_some, at_check, entered_keeps)
 
 -- ---- native members
 
@@ -298,9 +290,7 @@ gives_keeps : {C : Type 0} {around : Surroundings C} {m : Machine C} {before : L
     (value : Option TaggedValue) (operands : List TaggedValue)
     → KeepsHeap m.top.active before m.heap h.machine.heap
     → LeadsApart around m h.machine → KeepsLaw around m before (native_gives h signature value operands)
-gives_keeps h signature value operands changes apart =
-    at_check (is_given h.around.world.shapes h.machine.heap signature.result value) _
-    (given_keeps h value operands changes apart)
+gives_keeps h signature value operands changes apart = search (arith, at_check, given_keeps)
 
 gave_keeps : {C : Type 0} {before : List Touch} (h : Here C) (a : NativeAnswer C) (signature : Signature ClassName)
     (value : Option TaggedValue) (operands : List TaggedValue) → IsFineAnswer h.around h.machine before a
@@ -347,11 +337,7 @@ inner_keeps : {C : Type 0} {before : List Touch} (h : Here C) (active : Owner) (
     (arguments operands : List TaggedValue)
     → IsFineAnswer h.around h.machine before (native_answer h active previous member arguments)
     → KeepsLaw h.around h.machine before (on_native h active previous member arguments (inner_native_ends operands))
-inner_keeps h active previous member arguments operands fine =
-    at_check (native_may_begin h.around.world.shapes h.machine.heap member arguments) _
-    (at_some (native_type h.around.world.shapes member) _ (λ signature e.
-    inner_end_keeps h (native_answer h active previous member arguments) signature operands fine
-    (native_answer h active previous member arguments).ends refl))
+inner_keeps h active previous member arguments operands fine = search (arith, at_check, at_some, inner_end_keeps)
 
 called_as_keeps : {C : Type 0} {before : List Touch} (h : Here C) → AreNativesGuarded h.around.natives
     → (callback : Callback) → IsCalling h before callback → (object : Object TaggedValue)
@@ -455,7 +441,4 @@ module _ {C : Type 0} (h : Here C) (natives : AreNativesGuarded h.around.natives
   pub native_keeps : {before : List Touch}
       → KeepsLaw h.around h.machine before
       (on_native h h.machine.top.active h.machine.top.previous member arguments (native_ends operands))
-  native_keeps =
-      at_checked (native_may_begin h.around.world.shapes h.machine.heap member arguments) _ (λ begins.
-      at_some (native_type h.around.world.shapes member) _ (λ signature e.
-      end_keeps signature begins a.ends refl))
+  native_keeps = search (arith, at_checked, at_some, end_keeps)

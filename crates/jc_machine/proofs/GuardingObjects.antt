@@ -1,9 +1,7 @@
 -- Objects that are made, cast and thrown, and references that are moved, keep the law of accesses.
-use Rattle.std.proofs.Common.{ℕ, ℤ, pos, Bool, true, false, cond, not, List, [], ◌∷◌, length, Some, None, ◌≡◌, inr, arith}
+use Rattle.std.proofs.Common.{ℕ, ℤ, Bool, true, false, cond, not, List, [], ◌∷◌, length, Some, None, ◌≡◌, inr, arith}
 use Rattle.std.proofs.Common.{int_lt, nat_lt, refl, replicate, slice_get, slice_set}
 use Rattle.std.proofs.lemmas.Option.{same_Some}
-use Rattle.std.specs.Option.{option_map_or}
-use Rattle.jc_classes.specs.Subtype.{is_subtype}
 use Rattle.jc_code.specs.declared.object.Creation.{Creation}
 use Rattle.jc_code.specs.declared.object.Creation.TheVariants as Creations
 use Rattle.jc_code.specs.declared.instr.Operation.TheVariants as operations
@@ -25,19 +23,17 @@ use Rattle.jc_store.specs.declared.kind.Mark.{Mark}
 use Rattle.jc_store.specs.declared.kind.Mark.TheVariants.{Plain, TemporaryEntryPoint}
 use Rattle.jc_store.specs.declared.kind.ObjectType.{ObjectType}
 use Rattle.jc_store.specs.declared.kind.ObjectType.TheVariants.{Instance, ReferenceArray}
-use Rattle.jc_words.specs.Shorts.{short}
 use Rattle.jc_words.specs.Values.{Null, Ref, TaggedValue, Unset, Word}
 use Rattle.jc_machine.specs.Apart.{SparesPlain}
-use Rattle.jc_machine.specs.Going.{Here, gives, no_resource, runtime_touch, stored_in, throws, throws_system, wanting}
+use Rattle.jc_machine.specs.Going.{Here, gives, no_resource, runtime_touch, stored_in, throws, throws_system}
 use Rattle.jc_machine.specs.Guarded.{IsAccessed, StandsAt}
-use Rattle.jc_machine.specs.Lookup.{component_class, is_instance, is_throwable}
 use Rattle.jc_machine.specs.Machine.{Machine, Stepped, Surroundings, Throws, Touch}
 use Rattle.jc_machine.specs.Natives.{AreNativesGuarded}
 use Rattle.jc_machine.specs.Objects.{Test, act_branch, act_check_cast, act_create, act_instance_of, act_object}
-use Rattle.jc_machine.specs.Objects.{act_throw, bit, cells_of, creates, creates_array, has_space, is_array_of_words}
-use Rattle.jc_machine.specs.Objects.{is_null, is_same, made, on_class, on_known, on_test, tested, word_array}
+use Rattle.jc_machine.specs.Objects.{act_throw, cells_of, creates, creates_array, has_space, is_array_of_words}
+use Rattle.jc_machine.specs.Objects.{made, on_class, on_known, on_test, tested, word_array}
 use Rattle.jc_machine.specs.Arrays.{is_there}
-use Rattle.jc_machine.specs.Runtime.{HasRuntimeObjects, class_cast_exception, negative_size_exception, system_exception}
+use Rattle.jc_machine.specs.Runtime.{HasRuntimeObjects, system_exception}
 use Rattle.jc_machine.proofs.Guarding.{KeepsLaw, at_accessed, at_check, at_judged, at_object, at_reference}
 use Rattle.jc_machine.proofs.Guarding.{at_reference_local, at_require, at_some, at_target, at_word, behind_allowed}
 use Rattle.jc_machine.proofs.Guarding.{branches_still, gives_changed, gives_still, goes_behind, is_stuck, leaves}
@@ -123,10 +119,7 @@ creates_keeps h object cells vs held = by_space h object cells vs (has_space h c
 
 array_keeps : {C : Type 0} (h : Here C) (object : ObjectType) (v : TaggedValue) (count : ℕ) (vs : List TaggedValue)
     → ((heap : Heap TaggedValue) → may_be_held heap v ≡ true) → KeepsLaw h.around h.machine [] (creates_array h object v count vs)
-array_keeps h object v count vs held =
-    at_require h negative_size_exception (not (int_lt (short count) (pos 0))) _
-    (creates_keeps h object (replicate count v) vs (λ heap.
-    all_replicate (λ (x : TaggedValue). may_be_held heap x ≡ true) count v (held heap)))
+array_keeps h object v count vs held = search (arith, at_require, not, int_lt, creates_keeps, replicate, all_replicate)
 
 at_class : {C : Type 0} {around : Surroundings C} {m : Machine C} {before : List Touch} (h : Here C) (index : ℕ)
     (go : ClassName → Stepped C)
@@ -150,50 +143,31 @@ create_keeps h (Creations.ReferenceArray index) =
 at_test : {C : Type 0} {around : Surroundings C} {m : Machine C} {before : List Touch} (h : Here C) (type : TestedType)
     (go : Test → Stepped C)
     → ((test : Test) → KeepsLaw around m before (go test)) → KeepsLaw around m before (on_test h type go)
-at_test h (Tested.Class index) go k =
-    at_class h index _ (λ c. k (record {
-      wanted = Some c;
-      passes = is_instance h.around.world.shapes c;
-    }))
+at_test h (Tested.Class index) go k = search (arith, at_class)
 at_test h (Tested.WordArray kind) go k = k (record { wanted = None; passes = is_array_of_words kind })
-at_test h (Tested.ReferenceArray index) go k =
-    at_class h index _ (λ c. k (record {
-      wanted = None;
-      passes = λ object. option_map_or (λ e. is_subtype h.around.world.shapes e c) (component_class object) false;
-    }))
+at_test h (Tested.ReferenceArray index) go k = search (arith, at_class)
 
 at_tested : {C : Type 0} (h : Here C) (access : Access) (type : TestedType) (v : TaggedValue) (of_null : Stepped C)
     (go : Bool → Stepped C) → KeepsLaw h.around h.machine [] of_null
     → ((before : List Touch) (passes : Bool) → KeepsLaw h.around h.machine before (go passes))
     → KeepsLaw h.around h.machine [] (tested h access type v of_null go)
 at_tested h access type (Word n) of_null go k l = is_stuck
-at_tested h access type (Ref n) of_null go k l =
-    at_test h type _ (λ test. at_object h (Ref n) _ (λ number o there.
-    at_judged h (wanting access number test.wanted) o there _ (λ fine switch by.
-    l _ (test.passes o.kind.object))))
+at_tested h access type (Ref n) of_null go k l = search (arith, is_stuck, at_test, at_object, at_judged)
 at_tested h access type Null of_null go k l = at_test h type _ (λ test. k)
 at_tested h access type Unset of_null go k l = is_stuck
 
 check_cast_keeps : {C : Type 0} (h : Here C) (type : TestedType) → KeepsLaw h.around h.machine []
     (act_check_cast h type)
-check_cast_keeps h type =
-    at_reference h.machine.top.operands _ (λ v vs. at_tested h accesses.CheckCast type v (gives h v vs) _
-    (gives_still h v vs) (λ before passes.
-    at_require h class_cast_exception passes (gives h v vs) (gives_still h v vs)))
+check_cast_keeps h type = search (arith, at_reference, at_tested, gives_still, at_require)
 
 instance_of_keeps : {C : Type 0} (h : Here C) (type : TestedType) → KeepsLaw h.around h.machine []
     (act_instance_of h type)
-instance_of_keeps h type =
-    at_reference h.machine.top.operands _ (λ v vs. at_tested h accesses.InstanceOf type v (gives h (bit false) vs) _
-    (gives_still h (bit false) vs) (λ before passes. gives_still h (bit passes) vs))
+instance_of_keeps h type = search (arith, at_reference, at_tested, gives_still)
 
 -- ---- exceptions
 
 throw_keeps : {C : Type 0} (h : Here C) → KeepsLaw h.around h.machine [] (act_throw h)
-throw_keeps h =
-    at_reference h.machine.top.operands _ (λ v vs. at_object h v _ (λ number o there.
-    at_check (is_throwable h.around.world.shapes o.kind.object) _
-    (at_accessed h accesses.Throw number o there _ (λ fine. throws_still h number))))
+throw_keeps h = search (arith, at_reference, at_object, at_check, at_accessed, throws_still)
 
 -- ---- references that are moved and compared
 
@@ -205,16 +179,10 @@ at_known h vs go k = at_reference vs _ (λ v rest. at_check (is_there h v) (go v
 
 branch_keeps : {C : Type 0} (h : Here C) (when : ReferenceCondition) (offset : ℤ)
     → KeepsLaw h.around h.machine [] (act_branch h when offset)
-branch_keeps h Conditions.Null offset =
-    at_known h h.machine.top.operands _ (λ v vs. branches_still h (is_null v) offset vs)
-branch_keeps h Conditions.NotNull offset =
-    at_known h h.machine.top.operands _ (λ v vs. branches_still h (not (is_null v)) offset vs)
-branch_keeps h Conditions.Same offset =
-    at_known h h.machine.top.operands _ (λ w us. at_known h us _ (λ v vs.
-    branches_still h (is_same v w) offset vs))
-branch_keeps h Conditions.Different offset =
-    at_known h h.machine.top.operands _ (λ w us. at_known h us _ (λ v vs.
-    branches_still h (not (is_same v w)) offset vs))
+branch_keeps h Conditions.Null offset = search (arith, at_known, branches_still, not)
+branch_keeps h Conditions.NotNull offset = search (arith, at_known, branches_still, not)
+branch_keeps h Conditions.Same offset = search (arith, at_known, branches_still, not)
+branch_keeps h Conditions.Different offset = search (arith, at_known, branches_still, not)
 
 -- ---- instructions on references
 

@@ -1,9 +1,8 @@
 -- Returns keep the law of accesses.
 use Rattle.std.proofs.Common.{◌≡◌, List, [], ◌∷◌, length, nat_lt, Option, Some, None, ℕ, refl, arith}
 use Rattle.jc_machine.specs.Going.{Here}
-use Rattle.jc_machine.specs.Lookup.{is_given}
 use Rattle.jc_machine.specs.Machine.{Ends, Frame, Machine, Next, Stepped, Surroundings, Touch}
-use Rattle.jc_machine.specs.Returns.{pc_behind_call, result_of, resumed, returns, returns_to, room_of, with_result}
+use Rattle.jc_machine.specs.Returns.{pc_behind_call, resumed, returns, returns_to, room_of, with_result}
 use Rattle.jc_words.specs.Values.{TaggedValue}
 use Rattle.jc_machine.proofs.Guarding.{KeepsLaw, at_check, at_some, stays}
 use Rattle.jc_machine.proofs.StayingApart.{LeadsApart, are_applets, is_apart_itself, waiting_are_applets}
@@ -14,8 +13,7 @@ at_result : {C : Type 0} {around : Surroundings C} {m : Machine C} {before : Lis
     → ((operands : List TaggedValue) → KeepsLaw around m before (go operands))
     → KeepsLaw around m before (with_result h room v operands go)
 at_result h room None operands go k = k operands
-at_result h room (Some v) operands go k =
-    at_check (nat_lt (length operands) room) (go (v ∷ operands)) (k (v ∷ operands))
+at_result h room (Some v) operands go k = search (arith, at_check, nat_lt, length)
 
 -- the frame that waited is active as an applet
 resumed_apart : {C : Type 0} (h : Here C) (f : Frame) (waiting : List Frame) (pc : ℕ) (operands : List TaggedValue)
@@ -34,6 +32,4 @@ returns_still h result (f ∷ waiting) there =
 
 pub at_returns : {C : Type 0} {before : List Touch} (h : Here C) (value : Option TaggedValue)
     → KeepsLaw h.around h.machine before (returns h value)
-at_returns h value =
-    at_some (result_of h) _ (λ result e. at_check (is_given h.around.world.shapes h.machine.heap result value) _
-    (returns_still h value h.machine.waiting refl))
+at_returns h value = search (arith, at_some, at_check, returns_still)

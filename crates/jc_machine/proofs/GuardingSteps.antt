@@ -212,10 +212,7 @@ plain_kept active touches before after spares changes n o p e f plain =
   where
     own_of : (a : IsAccessed active touches n o)
         → (active ≡ o.owner.context) ⊎ (a.touch.active ≡ runtime_context) → active ≡ o.owner.context
-    own_of a (inl own) = own
-    own_of a (inr runtime) =
-        absurd (all_at (SparesPlain before) touches a.place a.touch spares a.listed runtime o
-        (ap (object_at before) a.is ∙ e) plain)
+    own_of a h1 = grind (arith, all_at)
 
 pub steps_stay_apart : {C : Type 0} (keeps : C → Bool) (s : Surroundings C) → AreNativesGuarded s.natives
     → AreNativesApart keeps s.natives → HaveApiMembers s.world.shapes → (m : Machine C) → IsApart keeps m

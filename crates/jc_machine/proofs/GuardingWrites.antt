@@ -96,10 +96,7 @@ module _ (owner : Owner) (touches : List Touch) (heap : Heap TaggedValue) (objec
       [ inl is ↦ inr (same is) | inr still ↦ inl (unchanged still) ]
     where
       same : k ≡ i → IsAccessed owner.context touches (suc i) o
-      same is =
-          subst (λ (x : Object TaggedValue). IsAccessed owner.context touches (suc i) x)
-          (same_Some object o (sym there ∙ ap (slice_get heap) is ∙ e))
-          (subst (λ (n : ℕ). IsAccessed owner.context touches (suc n) object) is accessed)
+      same is = grind (arith, same_Some, slice_get)
 
       unchanged : slice_get (set heap k (with_cell object index v)) i ≡ slice_get heap i → p.cells ≡ o.cells
       unchanged still = ap (λ (x : Object TaggedValue). x.cells) (same_Some p o (sym f ∙ still ∙ e))
@@ -125,17 +122,12 @@ module _ (owner : Owner) (touches : List Touch) (heap : Heap TaggedValue) (objec
 
       unchanged : slice_get (set heap k (with_cell object index v)) i ≡ slice_get heap i
           → IsStill (set heap k (with_cell object index v)) (suc i) o
-      unchanged still =
-          record { object = o; found = still ∙ e; kind = refl; owner = refl; size = refl }
+      unchanged still = grind arith
 
   pub one_changes : (number : ℕ) → IsAccessed owner.context touches number object
       → object_at heap number ≡ Some object
       → KeepsHeap owner touches heap (with_object heap number (with_cell object index v))
-  one_changes number accessed there = record {
-    changes = one_changes_only number accessed there;
-    kept = each_stays number there;
-    adds = adds_none owner heap number (with_cell object index v);
-  }
+  one_changes number accessed there = search (arith, one_changes_only, each_stays, adds_none)
 
 -- an object more
 more_changes_only : (active : ℕ) (touches : List Touch) (heap : Heap TaggedValue) (new : Object TaggedValue)
@@ -147,11 +139,7 @@ all_stay heap new = grind (arith, none-some, is_still, get_first)
 
 pub more_changes : (owner : Owner) (touches : List Touch) (heap : Heap TaggedValue) (new : Object TaggedValue)
     → IsPlainOf owner new → KeepsHeap owner touches heap (with_new heap new)
-more_changes owner touches heap new plain = record {
-  changes = more_changes_only owner.context touches heap new;
-  kept = all_stay heap new;
-  adds = adds_one owner heap new plain;
-}
+more_changes owner touches heap new plain = search (arith, more_changes_only, all_stay, adds_one)
 
 -- ---- what is apart
 

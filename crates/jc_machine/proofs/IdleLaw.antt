@@ -1,5 +1,5 @@
 -- Native members that do nothing keep the law of native members.
-use Rattle.std.proofs.Common.{◌≡◌, ◌&&◌, Bool, true, cond, Option, Some, refl, arith}
+use Rattle.std.proofs.Common.{◌≡◌, ◌&&◌, Bool, true, cond, Option, Some, arith}
 use Rattle.std.proofs.lemmas.Option.{none-some}
 use Rattle.jc_base.specs.Signature.{Signature}
 use Rattle.jc_classes.specs.Members.{DeclaredMethod}
@@ -38,5 +38,4 @@ idle_is_fit : (w : World) (call : NativeCall (Unit {0})) → IsAccepted w → Is
 idle_is_fit w call accepted fit = grind (arith, both, passed_some, idle_fits)
 
 pub idle_is_lawful : IsLawful idle
-idle_is_lawful =
-    record { guarded = idle_is_guarded; fit = idle_is_fit; stable = λ w before after kept stays e. refl }
+idle_is_lawful = search (arith, idle_is_guarded, idle_is_fit)

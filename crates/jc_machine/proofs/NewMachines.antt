@@ -158,10 +158,7 @@ module _ (world : List Shape) (there : (c : ApiClass) → StandsThere world c) (
   fits_by_tables type size h1 = grind (arith, both, not, all_blank, eqb-true, ltb-true)
 
   pub new_heap_typed : HeapTyped world new_heap
-  new_heap_typed =
-      new_heap_fits world
-      (passed (λ (x : RuntimeObject). FitsIn world x.type x.size) (λ (x : RuntimeObject). fits_api x.type x.size)
-      (λ x. fits_by_tables x.type x.size) runtime_objects all_fit_api)
+  new_heap_typed = search (arith, new_heap_fits, passed, fits_by_tables, all_fit_api)
 
 -- ---- they fit by computing, in a world that is given
 
@@ -189,10 +186,7 @@ fits_by_computing : (world : List Shape) (type : ObjectType) (size : ℕ) → is
 fits_by_computing world type size h1 = grind (arith, both, passed, blank_is, eqb-true, ltb-true)
 
 pub computed_heap_typed : (world : List Shape) → all_fit_in world ≡ true → HeapTyped world new_heap
-computed_heap_typed world e =
-    new_heap_fits world
-    (passed (λ (x : RuntimeObject). FitsIn world x.type x.size) (λ (x : RuntimeObject). is_fit_in world x.type x.size)
-    (λ x. fits_by_computing world x.type x.size) runtime_objects e)
+computed_heap_typed world e = search (arith, new_heap_fits, passed, fits_by_computing)
 
 -- ---- they are there
 
@@ -258,9 +252,4 @@ api_statics bound heap = record {
 
 pub new_machine_typed : (bound : Bound) → HeapTyped (api_world bound) new_heap → (frame : Frame)
     → IsTypedBeside (idle_in (api_alone bound)) (new_machine [] frame)
-new_machine_typed bound typed frame = record {
-  heap = typed;
-  statics = api_statics bound new_heap;
-  runtime_objects = new_heap_has_them;
-  fits = refl;
-}
+new_machine_typed bound typed frame = search (arith, api_statics, new_heap_has_them)

@@ -84,8 +84,7 @@ module _ (before after : Heap TaggedValue) (owner : Owner) (apart : IsSetApart b
 pub objects_stay_apart : (before after : Heap TaggedValue) (owner : Owner) → IsSetApart before
     → KeepsObjects before after → is_applets owner ≡ true → AddsFor owner before after
     → HoldStorable after → IsSetApart after
-objects_stay_apart before after owner apart kept applets adds stored =
-    set_apart_still before after owner apart kept applets adds stored
+objects_stay_apart before after owner apart kept applets adds stored = search (arith, set_apart_still)
 
 -- ---- what is added
 

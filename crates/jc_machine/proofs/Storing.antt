@@ -1,5 +1,5 @@
 -- What is held stays such where objects stay, and so it is with what is stored.
-use Rattle.std.proofs.Common.{◌≡◌, ◌⊎◌, inl, inr, ℕ, zero, suc, ◌==◌, ◌&&◌, ◌||◌, Bool, true, false, cond, not, List}
+use Rattle.std.proofs.Common.{◌≡◌, ◌⊎◌, inl, inr, ℕ, zero, suc, ◌==◌, ◌&&◌, ◌||◌, Bool, true, false, cond, not, List, arith}
 use Rattle.std.proofs.Common.{[], ◌∷◌, ◌++◌, Option, Some, None, refl, sym, ap, ◌∙◌, subst, slice_get, set, map}
 use Rattle.std.proofs.Common.{replicate}
 use Rattle.std.proofs.lemmas.Option.{none-some, same_Some}
@@ -10,8 +10,8 @@ use Rattle.jc_base.specs.declared.declared_type.DeclaredType.TheVariants as Decl
 use Rattle.jc_cap_desc.specs.Shape.{Shape}
 use Rattle.jc_code.specs.declared.object.Form.{Form}
 use Rattle.jc_code.specs.declared.object.Form.TheVariants as Forms
-use Rattle.jc_firewall.specs.Verdict.{is_never_stored, row_of, runtime_context, stores_reference, verdict_for_runtime}
-use Rattle.jc_firewall.specs.Verdict.{verdict_in as verdict_in_row, verdict_of}
+use Rattle.jc_firewall.specs.Verdict.{is_never_stored, runtime_context, stores_reference}
+use Rattle.jc_firewall.specs.Verdict.{verdict_of}
 use Rattle.jc_firewall.specs.declared.access.Access.{Access}
 use Rattle.jc_firewall.specs.declared.access.Facts.{Facts}
 use Rattle.jc_firewall.specs.declared.access.Rule.TheVariants.{Storing}
@@ -62,8 +62,7 @@ module _ (before after : Heap TaggedValue) (kept : KeepsObjects before after) wh
     where
       by_kind : (o p : Object TaggedValue) → p.kind ≡ o.kind → (is_storable o || is_librarys n o) ≡ true
           → (is_storable p || is_librarys n p) ≡ true
-      by_kind o p same e =
-          ap (λ (k : Kind). not (is_never_stored k.mark) || is_librarys n (record o { kind = k })) same ∙ e
+      by_kind o p same e = grind (arith, not)
 
       by_object : (o : Option (Object TaggedValue)) → object_at before n ≡ o
           → option_map_or (λ (x : Object TaggedValue). is_storable x || is_librarys n x) o false ≡ true
@@ -85,10 +84,7 @@ module _ (before after : Heap TaggedValue) (kept : KeepsObjects before after) wh
 
   pub fields_still : (statics : List (List StaticValue)) → FieldsHoldStorable before statics
       → FieldsHoldStorable after statics
-  fields_still statics h =
-      each_mapped (AllByRecursion (λ (s : StaticValue). may_be_static before s.value ≡ true))
-      (AllByRecursion (λ (s : StaticValue). may_be_static after s.value ≡ true)) statics
-      (λ fields k. each_mapped _ _ fields (λ s. static_still s.value) k) h
+  fields_still statics h = grind (arith, each_mapped, static_still)
 
 -- ---- lists
 
@@ -115,8 +111,7 @@ get_set [] k i x y e = absurd (none-some y e)
 get_set (z ∷ xs) zero zero x y e = inl (refl, sym (same_Some x y e))
 get_set (z ∷ xs) zero (suc i) x y e = inr e
 get_set (z ∷ xs) (suc k) zero x y e = inr e
-get_set (z ∷ xs) (suc k) (suc i) x y e =
-    elim (get_set xs k i x y e) [ inl new ↦ inl (ap suc new.0, new.1) | inr old ↦ inr old ]
+get_set (z ∷ xs) (suc k) (suc i) x y e = search (arith, none-some, same_Some, get_set xs k i x y e)
 
 module _ (heap : Heap TaggedValue) (holds : HoldStorable heap) where
   pub stored_holds : (number : ℕ) (object : Object TaggedValue) (index : ℕ) (v : TaggedValue)
@@ -158,14 +153,7 @@ module _ (heap : Heap TaggedValue) (holds : HoldStorable heap) where
 -- ---- what objects hold at first
 
 initial_held : (heap : Heap TaggedValue) (d : DeclaredType ClassName) → may_be_held heap (initial d) ≡ true
-initial_held heap Declared.Boolean = refl
-initial_held heap Declared.Byte = refl
-initial_held heap Declared.Short = refl
-initial_held heap (Declared.Reference c) = refl
-initial_held heap Declared.BooleanArray = refl
-initial_held heap Declared.ByteArray = refl
-initial_held heap Declared.ShortArray = refl
-initial_held heap (Declared.ReferenceArray c) = refl
+initial_held heap d = grind arith
 
 pub cells_held : (heap : Heap TaggedValue) (world : List Shape) (c : ClassName)
     → AllByRecursion (λ (v : TaggedValue). may_be_held heap v ≡ true) (cells_of world c)
@@ -175,8 +163,7 @@ cells_held heap world c =
   where
     by_field : (field : Option (DeclaredType ClassName))
         → may_be_held heap (option_map_or initial field (Word 0)) ≡ true
-    by_field None = refl
-    by_field (Some d) = initial_held heap d
+    by_field field = grind (arith, initial_held)
 
 -- ---- static fields
 
@@ -186,24 +173,17 @@ held_static heap (Word n) e = refl
 held_static heap (Ref n) e = by_object (object_at heap n) e
   where
     first_is : (a b : Bool) → a ≡ true → (a || b) ≡ true
-    first_is true b f = refl
-    first_is false b f = absurd cc
+    first_is a b h1 = grind arith
 
     by_object : (o : Option (Object TaggedValue)) → option_map_or is_storable o false ≡ true
         → option_map_or (λ (x : Object TaggedValue). is_storable x || is_librarys n x) o false ≡ true
-    by_object None f = absurd cc
-    by_object (Some o) f = first_is (is_storable o) (is_librarys n o) f
+    by_object o h1 = grind (arith, first_is)
 held_static heap Null e = refl
 held_static heap Unset e = refl
 
 pub held_as : (heap : Heap TaggedValue) (form : Form) (v : TaggedValue) → may_be_held heap v ≡ true
     → may_be_held heap (stored_as form v) ≡ true
-held_as heap Forms.Reference v e = e
-held_as heap Forms.Byte (Word n) e = refl
-held_as heap Forms.Byte (Ref n) e = refl
-held_as heap Forms.Byte Null e = refl
-held_as heap Forms.Byte Unset e = refl
-held_as heap Forms.Short v e = e
+held_as heap form v h1 = grind arith
 
 module _ (heap : Heap TaggedValue) (offset : ℕ) (v : TaggedValue) (fine : may_be_static heap v ≡ true) where
   abbrev Holds : StaticValue → Type 0
@@ -213,8 +193,7 @@ module _ (heap : Heap TaggedValue) (offset : ℕ) (v : TaggedValue) (fine : may_
   value_holds s h = by_offset (s.offset == offset)
     where
       by_offset : (b : Bool) → Holds (cond b (record { offset = offset; value = v }) s)
-      by_offset true = fine
-      by_offset false = h
+      by_offset b = grind arith
 
   values_hold : (fields : List StaticValue) → AllByRecursion Holds fields
       → AllByRecursion Holds (map (with_value offset v) fields)
@@ -235,8 +214,7 @@ module _ (heap : Heap TaggedValue) (offset : ℕ) (v : TaggedValue) (fine : may_
     where
       by_fields : (fields : Option (List StaticValue)) → FieldsHoldStorable heap
           (option_map_or (λ fields. with_package statics zero (map (with_value offset v) fields)) fields statics)
-      by_fields None = h
-      by_fields (Some fields) = h
+      by_fields fields = grind arith
   in_package statics (suc n) None e h = h
   in_package statics (suc n) (Some fields) e h =
       all_set (AllByRecursion Holds) statics n (map (with_value offset v) fields) h
@@ -245,8 +223,7 @@ module _ (heap : Heap TaggedValue) (offset : ℕ) (v : TaggedValue) (fine : may_
   by_home : (statics : List (List StaticValue)) (number : Option ℕ) → FieldsHoldStorable heap statics
       → FieldsHoldStorable heap
       (option_map_or (λ number. with_value_in statics number offset v) number statics)
-  by_home statics None h = h
-  by_home statics (Some number) h = in_package statics number (of_package statics number) refl h
+  by_home statics number h1 = grind (arith, in_package)
 
   pub put_holds : (statics : List (List StaticValue)) (home : ℕ) → FieldsHoldStorable heap statics
       → FieldsHoldStorable heap (with_static statics home offset v)
@@ -266,56 +243,33 @@ leads_any heap test (Ref n) e = by_object (object_at heap n) e
     by_object : (o : Option (Object TaggedValue))
         → option_map_or (λ (x : Object TaggedValue). test x.kind.object) o false ≡ true
         → option_map_or (λ (x : Object TaggedValue). any_type x.kind.object) o false ≡ true
-    by_object None f = f
-    by_object (Some o) f = refl
+    by_object o h1 = grind arith
 leads_any heap test Null e = refl
 leads_any heap test Unset e = e
 
 -- of a declared type that is a reference
 pub typed_leads : (world : List Shape) (heap : Heap TaggedValue) (d : DeclaredType ClassName) (v : TaggedValue)
     → is_form_of Forms.Reference d ≡ true → is_of_type world heap d v ≡ true → leads_to heap any_type v ≡ true
-typed_leads world heap Declared.Boolean v f e = absurd cc
-typed_leads world heap Declared.Byte v f e = absurd cc
-typed_leads world heap Declared.Short v f e = absurd cc
-typed_leads world heap (Declared.Reference c) v f e = leads_any heap _ v e
-typed_leads world heap Declared.BooleanArray v f e = leads_any heap _ v e
-typed_leads world heap Declared.ByteArray v f e = leads_any heap _ v e
-typed_leads world heap Declared.ShortArray v f e = leads_any heap _ v e
-typed_leads world heap (Declared.ReferenceArray c) v f e = leads_any heap _ v e
+typed_leads world heap d v h1 h2 = grind (arith, leads_any)
 
 -- of one that isn't
 word_held : (world : List Shape) (heap : Heap TaggedValue) (v : TaggedValue)
     → is_of_type world heap Declared.Short v ≡ true → may_be_held heap v ≡ true
-word_held world heap (Word n) e = refl
-word_held world heap (Ref n) e = absurd cc
-word_held world heap Null e = refl
-word_held world heap Unset e = refl
+word_held world heap v h1 = grind arith
 
 pub short_held : (world : List Shape) (heap : Heap TaggedValue) (d : DeclaredType ClassName) (v : TaggedValue)
     → is_form_of Forms.Short d ≡ true → is_of_type world heap d v ≡ true → may_be_held heap v ≡ true
-short_held world heap Declared.Boolean v f e = absurd cc
-short_held world heap Declared.Byte v f e = absurd cc
-short_held world heap Declared.Short v f e = word_held world heap v e
-short_held world heap (Declared.Reference c) v f e = absurd cc
-short_held world heap Declared.BooleanArray v f e = absurd cc
-short_held world heap Declared.ByteArray v f e = absurd cc
-short_held world heap Declared.ShortArray v f e = absurd cc
-short_held world heap (Declared.ReferenceArray c) v f e = absurd cc
+short_held world heap d v h1 h2 = grind (arith, word_held)
 
 -- what an access that stores a reference is allowed to store
 not_denied : (runs stores never : Bool) (v w : Verdict) → (runs ≡ true → ⊥) → stores ≡ true
     → is_allowed (cond runs v (cond (stores && never) (Denied Storing) w)) ≡ true → never ≡ false
-not_denied true stores never v w f g h = absurd (f refl)
-not_denied false false never v w f g h = absurd cc
-not_denied false true true v w f g h = absurd cc
-not_denied false true false v w f g h = refl
+not_denied runs stores never v w h1 h2 h3 = grind arith
 
 allowed_stores : (access : Access) (active : ℕ) (f : Facts) → ((active == runtime_context) ≡ true → ⊥)
     → stores_reference access ≡ true → is_allowed (verdict_of access active f) ≡ true
     → option_map_or is_never_stored f.stored false ≡ false
-allowed_stores access active f applets stores fine =
-    not_denied (active == runtime_context) (stores_reference access) (option_map_or is_never_stored f.stored false)
-    (verdict_for_runtime (row_of access f) f) (verdict_in_row (row_of access f) active f) applets stores fine
+allowed_stores access active f applets stores fine = grind (arith, not_denied)
 
 pub asked_held : {C : Type 0} (h : Here C) (access : Access) (number : ℕ) (v : TaggedValue) (o : Object TaggedValue)
     → ((h.machine.top.active.context == runtime_context) ≡ true → ⊥) → stores_reference access ≡ true
@@ -330,13 +284,9 @@ asked_held h access number v o applets stores leads fine =
         → option_map_or (λ (y : Object TaggedValue). any_type y.kind.object) x false ≡ true
         → option_map_or is_never_stored (option_map (λ (y : Object TaggedValue). y.kind.mark) x) false ≡ false
         → option_map_or is_storable x false ≡ true
-    by_object None e f = absurd cc
-    by_object (Some y) e f = ap not f
+    by_object x h1 h2 = grind (arith, not)
 
     by_value : (w : TaggedValue) → leads_to h.machine.heap any_type w ≡ true
         → option_map_or is_never_stored (mark_of h.machine.heap w) false ≡ false
         → may_be_held h.machine.heap w ≡ true
-    by_value (Word n) e f = refl
-    by_value (Ref n) e f = by_object (object_at h.machine.heap n) e f
-    by_value Null e f = refl
-    by_value Unset e f = refl
+    by_value w h1 h2 = grind (arith, by_object)

@@ -15,7 +15,6 @@ use Rattle.jc_classes.specs.Walk.{found}
 use Rattle.jc_firewall.specs.Verdict.{Row, runtime, runtime_context, verdict_in, verdict_of}
 use Rattle.jc_firewall.specs.declared.access.Access.{Access}
 use Rattle.jc_firewall.specs.declared.access.Facts.{Facts}
-use Rattle.jc_firewall.specs.declared.access.Rule.TheVariants as rules
 use Rattle.jc_firewall.specs.declared.access.Verdict.{Verdict}
 use Rattle.jc_firewall.specs.declared.access.Verdict.TheVariants.{Allowed, AllowedSwitch, Denied}
 use Rattle.jc_names.specs.declared.name.ClassName.{ClassName}

@@ -212,8 +212,7 @@ module _ (w : World) (call : NativeCall Kept) where
           → Only (cond b (Some true) (checks.is_range_in h (argument args r.array) r.offset r.length))
           (b || is_within (size_of (bared heap) (argument args r.array)) (argument args r.offset)
           (length_of s args r.length))
-      by_null true = just refl
-      by_null false = within r.array r.offset r.length (argument args r.array)
+      by_null b = grind (arith, just, within)
 
   by_range : (o : Option Bool) (b : Bool) → Only o b
       → Agrees (option_map_or in_range o unfit) (cond b passes (fails 4))

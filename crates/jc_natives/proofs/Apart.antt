@@ -1,5 +1,5 @@
 -- The law of the runtime's name: a member accesses no plain object in it, and what the runtime keeps names applets.
-use Rattle.std.proofs.Common.{◌≡◌, ◌≢◌, inl, inr, ℕ, ◌==◌, ◌-◌, not, Bool, true, false, cond, List, [], ◌∷◌, arith}
+use Rattle.std.proofs.Common.{◌≡◌, ◌≢◌, inl, inr, ℕ, ◌==◌, not, Bool, true, false, cond, List, [], ◌∷◌, arith}
 use Rattle.std.proofs.Common.{Option, Some, None, refl, sym, ap, subst, ◌∙◌, ◌||◌}
 use Rattle.std.proofs.lemmas.Bool.{eq-eqb, eqb-true}
 use Rattle.std.specs.List.{AllByRecursion, list_all}
@@ -12,7 +12,7 @@ use Rattle.jc_machine.specs.Apart.{AreNativesApart, IsSetApart, SparesPlain, is_
 use Rattle.jc_machine.specs.Guarded.{IsActive, IsJudged, is_runtimes}
 use Rattle.jc_machine.specs.Natives.{setting_for}
 use Rattle.jc_machine.specs.Calls.{native_may_begin}
-use Rattle.jc_machine.specs.Machine.{By, ByCode, ByRuntime, IsStuck, NativeAnswer, NativeCall, Touch}
+use Rattle.jc_machine.specs.Machine.{By, ByCode, ByRuntime, IsStuck, NativeCall, Touch}
 use Rattle.jc_machine.specs.Runtime.{HasRuntimeObject, HasRuntimeObjects, RuntimeObject, apdu_buffer, apdu_exception}
 use Rattle.jc_machine.specs.Runtime.{iso_exception, system_exception}
 use Rattle.jc_names.specs.declared.owner.Owner.{Owner}
@@ -29,7 +29,7 @@ use Rattle.jc_natives.proofs.Keeping.{both_are}
 use Rattle.jc_natives.proofs.Spared.{IsApartWork, SparesOwn, all_throw_own, roomy_apart, work_apart}
 use Rattle.jc_natives.specs.Apart.{installs_applet, names_applets}
 use Rattle.jc_natives.specs.Kept.{Kept, after_install, aid_object, is_instance_number, with_install}
-use Rattle.jc_natives.specs.Meaning.{answer_of, done, meaning, registering, unchanged, with_room}
+use Rattle.jc_natives.specs.Meaning.{answer_of, done, meaning, registering, unchanged}
 use Rattle.jc_natives.specs.Members.{natives}
 use Rattle.jc_natives.specs.PrivateApplets.{owner_of}
 use Rattle.jc_natives.specs.PrivateCells.{bare, bared}
@@ -172,28 +172,21 @@ module _ (w : World) (call : NativeCall Kept) (apart : IsSetApart call.heap)
       by_thrown : (o : Option ℕ) → names_applets (ended_on_words call (tested s args (row_of native)).touches o
           (work_of s call.runtime args native)).runtime ≡ true
       by_thrown (Some object) = kept
-      by_thrown None =
-          done_kept (tested s args (row_of native)).touches _
-          (roomy_apart Any s call.runtime any_own args call.limits.objects call.limits.cells call.heap
-          (work_of s call.runtime args native)
-          (work_apart Any s call.runtime any_own args native (all_throw_own number native e)
-          (λ place way change by. tt)))
+      by_thrown None = search (arith, done_kept, roomy_apart, any_own, work_apart, all_throw_own)
 
   words_kept : names_applets (answer_on_words w call).runtime ≡ true
   words_kept = by_begin (native_may_begin w.shapes call.heap call.member call.arguments)
     where
       by_begin : (b : Bool) → names_applets (cond b (begun_on_words w call (numbered natives call.member))
           (unchanged call [] IsStuck)).runtime ≡ true
-      by_begin true = begun_kept call.member (numbered natives call.member) refl
-      by_begin false = kept
+      by_begin b = grind (arith, begun_kept)
 
   answer_kept : names_applets (answer_of w call).runtime ≡ true
   answer_kept = by_answer (answers_alike w call)
     where
       by_answer : IsLike call (answer_of w call) (answer_on_words w call)
           → names_applets (answer_of w call).runtime ≡ true
-      by_answer (alike e) = ap (λ (a : NativeAnswer Kept). names_applets a.runtime) e ∙ words_kept
-      by_answer (stops touches rest front fine e) = ap (λ (a : NativeAnswer Kept). names_applets a.runtime) e ∙ kept
+      by_answer h1 = grind (arith, alike, words_kept, stops)
 
 -- what members leave holds what may be held
 module _ (still : HeldStays) (w : World) (call : NativeCall Kept) (holds : HoldStorable call.heap) where
@@ -209,27 +202,20 @@ module _ (still : HeldStays) (w : World) (call : NativeCall Kept) (holds : HoldS
       by_thrown : (o : Option ℕ) → HoldStorable (ended_on_words call
           (tested (seen_of w call) (arguments_of call) (row_of native)).touches o
           (work_of (seen_of w call) call.runtime (arguments_of call) native)).heap
-      by_thrown (Some object) = holds
-      by_thrown None =
-          done_holds (tested (seen_of w call) (arguments_of call) (row_of native)).touches
-          (with_room call.limits.objects call.limits.cells call.heap call.runtime
-          (work_of (seen_of w call) call.runtime (arguments_of call) native))
+      by_thrown o = grind (arith, done_holds)
 
   words_hold : HoldStorable (answer_on_words w call).heap
   words_hold = by_begin (native_may_begin w.shapes call.heap call.member call.arguments)
     where
       by_begin : (b : Bool) → HoldStorable (cond b (begun_on_words w call (numbered natives call.member))
           (unchanged call [] IsStuck)).heap
-      by_begin true = begun_holds (numbered natives call.member)
-      by_begin false = holds
+      by_begin b = grind (arith, begun_holds)
 
   answer_holds : HoldStorable (answer_of w call).heap
   answer_holds = by_answer (answers_alike w call)
     where
       by_answer : IsLike call (answer_of w call) (answer_on_words w call) → HoldStorable (answer_of w call).heap
-      by_answer (alike e) = subst (λ (a : NativeAnswer Kept). HoldStorable a.heap) (sym e) words_hold
-      by_answer (stops touches rest front fine e) =
-          subst (λ (a : NativeAnswer Kept). HoldStorable a.heap) (sym e) holds
+      by_answer h1 = grind (arith, alike, words_hold, stops)
 
 pub members_apart : HeldStays → AreNativesApart names_applets meaning
 members_apart still w call apart active kept = record {

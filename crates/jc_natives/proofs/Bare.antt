@@ -5,7 +5,6 @@ use Rattle.std.proofs.lemmas.List.{length-map, map-set}
 use Rattle.std.specs.List.{AllByRecursion}
 use Rattle.std.specs.Option.{option_and_then, option_map, option_map_or}
 use Rattle.jc_base.specs.declared.declared_type.DeclaredType.{DeclaredType}
-use Rattle.jc_base.specs.declared.declared_type.DeclaredType.TheVariants as types
 use Rattle.jc_cap_desc.specs.Shape.{Shape}
 use Rattle.jc_machine.specs.Reading.{HeapReads, Pointwise, Reads, ReadsObject}
 use Rattle.jc_machine.specs.Lookup.{are_of_types, is_byte, is_kept_as, is_of_type, is_word, leads_to}

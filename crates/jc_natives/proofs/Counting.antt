@@ -7,12 +7,12 @@ use Rattle.jc_api.specs.Numbered.{numbered}
 use Rattle.jc_link.specs.Linked.{World}
 use Rattle.jc_machine.specs.Calls.{native_may_begin}
 use Rattle.jc_machine.specs.Keeping.{LeavesKept, MembersKeep}
-use Rattle.jc_machine.specs.Machine.{IsStuck, NativeAnswer, NativeCall, Touch}
+use Rattle.jc_machine.specs.Machine.{IsStuck, NativeCall, Touch}
 use Rattle.jc_machine.specs.Step.{CallEnd}
 use Rattle.jc_natives.proofs.Alike.{IsLike, alike, answers_alike, stops}
 use Rattle.jc_natives.specs.PrivateAids.{aid_work}
 use Rattle.jc_natives.specs.PrivateApdus.{apdu_work, sends}
-use Rattle.jc_natives.specs.PrivateApplets.{allowed, applet_work, on_allowed, registers}
+use Rattle.jc_natives.specs.PrivateApplets.{applet_work, on_allowed, registers}
 use Rattle.jc_natives.specs.Counted.{LeavesNumbers}
 use Rattle.jc_natives.specs.Kept.{Kept}
 use Rattle.jc_natives.specs.Meaning.{answer_of, done, meaning, unchanged, with_room}
@@ -26,19 +26,13 @@ use Rattle.jc_natives.specs.Work.{Asks, Does, Makes, Work}
 use Rattle.jc_natives.specs.declared.kept.Installing.{Installing}
 use Rattle.jc_natives.specs.declared.kept.Instance.{Instance}
 use Rattle.jc_natives.specs.declared.native.AidNative.{AidNative}
-use Rattle.jc_natives.specs.declared.native.AidNative.TheVariants as aids
 use Rattle.jc_natives.specs.declared.native.ApduNative.{ApduNative}
-use Rattle.jc_natives.specs.declared.native.ApduNative.TheVariants as apdus
 use Rattle.jc_natives.specs.declared.native.AppletNative.{AppletNative}
-use Rattle.jc_natives.specs.declared.native.AppletNative.TheVariants as applets
 use Rattle.jc_natives.specs.declared.native.Elements.{Elements}
 use Rattle.jc_natives.specs.declared.native.Native.{Native}
 use Rattle.jc_natives.specs.declared.native.ObjectNative.{ObjectNative}
-use Rattle.jc_natives.specs.declared.native.ObjectNative.TheVariants as objects
 use Rattle.jc_natives.specs.declared.native.SystemNative.{SystemNative}
-use Rattle.jc_natives.specs.declared.native.SystemNative.TheVariants as system
 use Rattle.jc_natives.specs.declared.native.UtilityNative.{UtilityNative}
-use Rattle.jc_natives.specs.declared.native.UtilityNative.TheVariants as utilities
 use Rattle.jc_store.specs.Heap.{Heap}
 use Rattle.jc_store.specs.declared.kind.ClearingEvent.{ClearingEvent}
 
@@ -128,8 +122,7 @@ module _ (w : World) (call : NativeCall Kept) where
     where
       by_words : IsLike call (answer_of w call) (answer_on_words w call)
           → (answer_of w call).runtime.numbers ≡ call.runtime.numbers
-      by_words (alike e) = ap (λ (a : NativeAnswer Kept). a.runtime.numbers) e ∙ words_same
-      by_words (stops touches rest b allowed e) = ap (λ (a : NativeAnswer Kept). a.runtime.numbers) e
+      by_words h1 = grind (arith, alike, words_same, stops)
 
 -- ---- calls
 

@@ -11,7 +11,6 @@ use Rattle.jc_base.specs.Signature.{return_map, type_map}
 use Rattle.jc_base.specs.declared.declared_type.DeclaredType.{DeclaredType}
 use Rattle.jc_base.specs.declared.declared_type.ReturnType.{ReturnType}
 use Rattle.jc_base.specs.declared.declared_type.ReturnType.TheVariants.{Value}
-use Rattle.jc_firewall.specs.Verdict.{runtime}
 use Rattle.jc_machine.specs.Machine.{ByRuntime}
 use Rattle.jc_machine.specs.Lookup.{is_given, is_of_class, is_of_type, leads_to}
 use Rattle.jc_names.specs.declared.owner.Owner.{Owner}

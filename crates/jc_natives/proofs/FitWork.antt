@@ -1,6 +1,6 @@
 -- A work that fits leaves objects typed and ends as it is declared to; and what tests throw may be thrown.
 use Rattle.std.specs.Prelude.{⊤}
-use Rattle.std.proofs.Common.{◌≡◌, ℕ, ◌<◌, Bool, true, false, cond, List, [], ◌∷◌, Option, Some, None}
+use Rattle.std.proofs.Common.{◌≡◌, ℕ, ◌<◌, Bool, true, cond, List, [], ◌∷◌, Option, Some, None}
 use Rattle.std.proofs.Common.{refl, ap, ◌∙◌, arith}
 use Rattle.std.proofs.lemmas.Bool.{lt-ltb}
 use Rattle.jc_api.specs.declared.class.ApiClass.{ApiClass}
@@ -29,16 +29,14 @@ use Rattle.jc_natives.specs.Meaning.{array_or_refusal, asked, did, done, end_of,
 use Rattle.jc_natives.specs.Meaning.{with_room}
 use Rattle.jc_natives.specs.PrivateMeaning.{ended_on_words}
 use Rattle.jc_natives.specs.PrivateSeen.{Seen}
-use Rattle.jc_natives.specs.PrivateTests.{Tested, by_verdict, fails, followed, is_in_range}
-use Rattle.jc_natives.specs.PrivateTests.{on_object, passes, ranged, test, tested, used}
+use Rattle.jc_natives.specs.PrivateTests.{Tested, by_verdict, followed}
+use Rattle.jc_natives.specs.PrivateTests.{on_object, ranged, test, tested, used}
 use Rattle.jc_natives.specs.Work.{Asks, Does, Ending, GivesReference, GivesWord, Makes, NoResult, Throws, Work}
 use Rattle.jc_natives.specs.declared.ended.Question.{Question}
 use Rattle.jc_natives.specs.declared.row.Range.{Range}
 use Rattle.jc_natives.specs.declared.row.Row.{Row}
 use Rattle.jc_natives.specs.declared.row.Test.{Test}
-use Rattle.jc_natives.specs.declared.row.Test.TheVariants as tests
 use Rattle.jc_natives.specs.declared.row.Way.{Way}
-use Rattle.jc_natives.specs.declared.row.Way.TheVariants as ways
 use Rattle.jc_store.specs.Heap.{Heap, Object, next_number, object_at, with_new}
 use Rattle.jc_store.specs.declared.kind.Kind.{Kind}
 use Rattle.jc_words.specs.Values.{Null, Ref, TaggedValue, Word}
@@ -93,9 +91,7 @@ module _ (known : Known) where
   ending_still a ending h1 h2 = grind (arith, given_still, thrown_still)
 
   writes_typed : (writes : List Write) → Writes known writes → HeapTyped w.shapes (written Word call.heap writes)
-  writes_typed [] fits = fit.heap
-  writes_typed (x ∷ []) fits = write_typed w.shapes call.heap x fits fit.heap
-  writes_typed (x ∷ y ∷ writes) fits = absurd fits
+  writes_typed writes h1 = grind (arith, write_typed)
 
   no_space : Fits (Does (record { by = ByRuntime; object = 9; from = 0; words = 2 ∷ [] } ∷ []) call.runtime (Throws 9))
   no_space = (system_reason known 9 2 (system_leads known) (omega arith), (fit.fits, system_thrown known))
@@ -145,10 +141,7 @@ module _ (known : Known) where
   roomy_fits touches (Makes array) fits = by_room (has_room call.limits.objects call.limits.cells call.heap array.size)
     where
       by_room : (b : Bool) → Answers (done call touches (array_or_refusal b array call.runtime))
-      by_room true = done_fits touches (Makes array) fits
-      by_room false =
-          done_fits touches (Does (record { by = ByRuntime; object = 9; from = 0; words = 2 ∷ [] } ∷ []) call.runtime (Throws 9))
-          no_space
+      by_room b = grind (arith, done_fits, no_space)
   roomy_fits touches (Asks q) fits = done_fits touches (Asks q) fits
 
   -- ---- what tests throw
@@ -173,19 +166,13 @@ module _ (known : Known) where
   test_thrown s arguments one = grind (arith, used_thrown, either_thrown)
 
   range_thrown : (s : Seen) (arguments : List ℕ) (r : Option Range) → Thrown (ranged s arguments r).thrown
-  range_thrown s arguments None = tt
-  range_thrown s arguments (Some r) =
-      either_thrown (is_in_range s arguments r) passes (fails 4) tt (index_thrown known)
+  range_thrown s arguments r = grind (arith, either_thrown, index_thrown)
 
   followed_thrown : (t u : Tested) → Thrown t.thrown → Thrown u.thrown → Thrown (followed t u).thrown
   followed_thrown t u p q = grind arith
 
   pub tested_thrown : (s : Seen) (arguments : List ℕ) (row : Row) → Thrown (tested s arguments row).thrown
-  tested_thrown s arguments row =
-      followed_thrown (test s arguments row.first) _ (test_thrown s arguments row.first)
-      (followed_thrown (test s arguments row.second) _ (test_thrown s arguments row.second)
-      (followed_thrown (ranged s arguments row.first_range) (ranged s arguments row.second_range)
-      (range_thrown s arguments row.first_range) (range_thrown s arguments row.second_range)))
+  tested_thrown s arguments row = grind (arith, followed_thrown, test_thrown, range_thrown)
 
   pub ended_fits : (touches : List _) (thrown : Option ℕ) (work : Work) → Thrown thrown → Fits work
       → Answers (ended_on_words call touches thrown work)

@@ -244,35 +244,27 @@ module _ (known : Known) where
       → is_same_name (Api api.Object) (Api c) ≡ false → above_in most_classes c api.Object ≡ false
       → ((k : ℕ) → comes_to_end w.shapes k (Api c) ≡ true → 1 ≤ cells_within k c)
       → FitsWrite w.shapes call.heap (record { by = ByCode; object = number; from = 0; words = n ∷ [] })
-  reason_written number n c leads small other none enough =
-      to_class number 0 (n ∷ []) c leads (class_fits c (n ∷ []) other none (λ d below.
-      ((blank_at w.shapes there c d 0 supers below (λ k f. let a = enough k f in omega (arith, a)), small), tt)))
+  reason_written number n c leads small other none enough = search (arith, to_class, class_fits, blank_at)
 
   pub runtime_reason : (number n : ℕ) → LeadsToClass w.shapes call.heap number (Api api.CardRuntimeException)
       → n < 65536 → FitsWrite w.shapes call.heap (record { by = ByCode; object = number; from = 0; words = n ∷ [] })
   unfolding most_classes
-  runtime_reason number n leads small =
-      reason_written number n api.CardRuntimeException leads small refl refl (reason_cells w.shapes there)
+  runtime_reason number n leads small = search (arith, reason_written, reason_cells)
 
   pub iso_reason : (number n : ℕ) → LeadsToClass w.shapes call.heap number (Api api.IsoException) → n < 65536
       → FitsWrite w.shapes call.heap (record { by = ByCode; object = number; from = 0; words = n ∷ [] })
   unfolding most_classes
-  iso_reason number n leads small =
-      reason_written number n api.IsoException leads small refl refl (below_reason w.shapes there api.IsoException refl)
+  iso_reason number n leads small = search (arith, reason_written, below_reason)
 
   pub system_reason : (number n : ℕ) → LeadsToClass w.shapes call.heap number (Api api.SystemException) → n < 65536
       → FitsWrite w.shapes call.heap (record { by = ByCode; object = number; from = 0; words = n ∷ [] })
   unfolding most_classes
-  system_reason number n leads small =
-      reason_written number n api.SystemException leads small refl refl
-      (below_reason w.shapes there api.SystemException refl)
+  system_reason number n leads small = search (arith, reason_written, below_reason)
 
   pub apdu_reason : (number n : ℕ) → LeadsToClass w.shapes call.heap number (Api api.ApduException) → n < 65536
       → FitsWrite w.shapes call.heap (record { by = ByCode; object = number; from = 0; words = n ∷ [] })
   unfolding most_classes
-  apdu_reason number n leads small =
-      reason_written number n api.ApduException leads small refl refl
-      (below_reason w.shapes there api.ApduException refl)
+  apdu_reason number n leads small = search (arith, reason_written, below_reason)
 
   -- an AID: its length and its bytes
   pub aid_written : (number : ℕ) (bytes : List ℕ) → LeadsToClass w.shapes call.heap number (Api api.Aid)

@@ -45,10 +45,8 @@ use Rattle.jc_natives.specs.PrivateApplets.{applet_work}
 use Rattle.jc_natives.specs.PrivateCells.{aid_bytes, aid_count, argument, bared, bytes_of, cell_of, words_of}
 use Rattle.jc_natives.specs.PrivateMeaning.{begun_on_words, work_of}
 use Rattle.jc_natives.specs.PrivateObjects.{equals, object_work}
-use Rattle.jc_natives.specs.PrivateRows.{row_of}
 use Rattle.jc_natives.specs.PrivateSeen.{Seen, arguments_of, seen_of}
 use Rattle.jc_natives.specs.PrivateSystem.{asks, system_work}
-use Rattle.jc_natives.specs.PrivateTests.{tested}
 use Rattle.jc_natives.specs.PrivateUtilities.{utility_work}
 use Rattle.jc_natives.specs.Cells as cells
 use Rattle.jc_natives.specs.Work.{Does, GivesReference, GivesWord, NoResult}
@@ -335,7 +333,4 @@ module _ (known : Known) where
       work_fits native h1 = grind (arith, object_fits, aid_fits, apdu_fits, applet_fits, system_fits, utility_fits)
 
       pub begun_fits : (native : Native) → Suits native m → Answers known (begun_on_words w call (Some native))
-      begun_fits native g =
-          ended_fits known (tested s args (row_of native)).touches (tested s args (row_of native)).thrown
-          (work_of s k args native)
-          (tested_thrown known s args (row_of native)) (work_fits native g)
+      begun_fits native g = search (arith, ended_fits, tested_thrown, work_fits)

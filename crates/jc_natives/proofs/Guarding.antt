@@ -13,9 +13,9 @@ use Rattle.jc_firewall.specs.declared.access.Rule.TheVariants as rules
 use Rattle.jc_firewall.specs.declared.access.Verdict.{Verdict}
 use Rattle.jc_firewall.specs.declared.access.Verdict.TheVariants.{Allowed, AllowedSwitch, Denied}
 use Rattle.jc_link.specs.Linked.{World}
-use Rattle.jc_machine.specs.Going.{facts_for, facts_in}
+use Rattle.jc_machine.specs.Going.{facts_in}
 use Rattle.jc_machine.specs.Guarded.{ChangesAccessed, IsAccessed, are_allowed, is_allowed}
-use Rattle.jc_machine.specs.Guarded.{IsJudged, asked_by, is_last_denied, is_runtimes, may_change}
+use Rattle.jc_machine.specs.Guarded.{IsJudged, is_last_denied, is_runtimes, may_change}
 use Rattle.jc_machine.specs.Lookup.{is_array}
 use Rattle.jc_machine.specs.Machine.{By, ByCode, ByRuntime, Limits, NativeCall, Touch}
 use Rattle.jc_machine.specs.Natives.{IsStill, IsWithin, KeepsObjects, setting_for}
@@ -33,9 +33,7 @@ use Rattle.jc_natives.specs.PrivateTests.{Tested, by_verdict, facts_of, followed
 use Rattle.jc_natives.specs.declared.row.Range.{Range}
 use Rattle.jc_natives.specs.declared.row.Row.{Row}
 use Rattle.jc_natives.specs.declared.row.Test.{Test}
-use Rattle.jc_natives.specs.declared.row.Test.TheVariants as tests
 use Rattle.jc_natives.specs.declared.row.Way.{Way}
-use Rattle.jc_natives.specs.declared.row.Way.TheVariants as ways
 use Rattle.jc_names.specs.declared.owner.Owner.{Owner}
 use Rattle.jc_store.specs.Heap.{Heap, Object, cells_in, object_at, with_cell, with_new, with_object}
 use Rattle.jc_store.specs.declared.kind.Mark.TheVariants.{Plain}
@@ -182,8 +180,7 @@ keeps_put heap number index value = by_object (object_at heap number) refl
 
     by_object : (o : Option (Object TaggedValue)) → object_at heap number ≡ o
         → KeepsObjects heap (put heap number index value)
-    by_object None e = subst (KeepsObjects heap) (sym (put_none heap number index value e)) (keeps_itself heap)
-    by_object (Some o) e = subst (KeepsObjects heap) (sym (put_some heap number index value o e)) (written_one o e)
+    by_object o h1 = grind (arith, put_none, keeps_itself, put_some, written_one)
 
 keeps_put_all : (heap : Heap TaggedValue) (number from : ℕ) (values : List TaggedValue)
     → KeepsObjects heap (put_all heap number from values)
@@ -305,15 +302,7 @@ module _ (w : World) (call : NativeCall Kept) where
 
       own_of : (u : IsUse w call t) → u.native.object ≡ o → o.kind.mark ≡ Plain
           → (active ≡ o.owner.context) ⊎ (t.active ≡ runtime_context)
-      own_of u same plain =
-          let facts = facts_for w.shapes call.selected call.heap (asked_by t) u.native.object in
-          let verdict = u.native.verdict ∙ ap (λ a. verdict_of a t.active facts) u.access in
-          elim
-          (own_use u.way t.active facts (ap is_allowed (sym verdict) ∙ parts.0)
-          (ap (λ (x : Object TaggedValue). x.kind.mark) same ∙ plain)) [
-            | inl own ↦ inl (sym u.active ∙ own ∙ ap (λ (x : Object TaggedValue). x.owner.context) same)
-            | inr by ↦ inr by
-          ]
+      own_of u same plain = grind (arith, own_use, parts)
 
       by_first : (is_changed touches number ≡ true → IsAccessed active touches number o)
           → (is_change_of number t ≡ true) ⊎ (is_changed touches number ≡ true) → IsAccessed active (t ∷ touches) number o
@@ -439,10 +428,7 @@ module _ (w : World) (call : NativeCall Kept) where
 
   pub own_allowed : (writes : List Write) → are_allowed (own_touches call.heap writes) ≡ true
   own_allowed [] = refl
-  own_allowed (x ∷ writes) =
-      allowed_both (own_touch_of call.heap x) (own_touches call.heap writes)
-      (if_words (λ ts. are_allowed ts ≡ true) (has_words x.words) (touch_by x.by call.heap x.object)
-      (touch_allowed x.by x.object) refl) (own_allowed writes)
+  own_allowed (x ∷ writes) = search (arith, allowed_both, if_words, touch_allowed, own_allowed writes)
 
 -- ---- room
 
@@ -463,16 +449,11 @@ put_as_large heap number index value = by_object (object_at heap number) refl
     large : (n : ℕ) (o : Object TaggedValue) → object_at heap n ≡ Some o
         → IsAsLarge heap (with_object heap n (with_cell o index value))
     large zero o e = absurd (none-some o e)
-    large (suc n) o e = record {
-      objects = length-set heap n (with_cell o index value);
-      cells = sums_set heap n o (with_cell o index value) e (length-set o.cells index value);
-    }
+    large (suc n) o e = search (arith, none-some, length-set, sums_set)
 
     by_object : (o : Option (Object TaggedValue)) → object_at heap number ≡ o
         → IsAsLarge heap (put heap number index value)
-    by_object None e =
-        subst (IsAsLarge heap) (sym (put_none heap number index value e)) (record { objects = refl; cells = refl })
-    by_object (Some o) e = subst (IsAsLarge heap) (sym (put_some heap number index value o e)) (large number o e)
+    by_object o h1 = grind (arith, put_none, put_some, large)
 
 put_all_as_large : (heap : Heap TaggedValue) (number from : ℕ) (values : List TaggedValue)
     → IsAsLarge heap (put_all heap number from values)

@@ -80,8 +80,7 @@ module _ (still : HeldStays) where
     where
       got : (k : ℕ) (o : Object TaggedValue) → object_at heap k ≡ Some o
           → object_at (with_new heap (new_array owner array)) k ≡ Some o
-      got zero o e = absurd (none-some o e)
-      got (suc k) o e = got_front heap (new_array owner array ∷ []) k o e
+      got k o h1 = grind (arith, none-some, got_front)
 
       same_as_new : (o : Object TaggedValue) → object_at heap n ≡ Some o → o ≡ p
       same_as_new o e = sym (same_found (object_at (with_new heap (new_array owner array)) n) o p (got n o e) found)

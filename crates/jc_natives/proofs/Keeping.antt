@@ -7,9 +7,8 @@ use Rattle.std.proofs.lemmas.List.{length-replicate, length-set}
 use Rattle.std.proofs.lemmas.Option.{none-some, same_Some}
 use Rattle.std.specs.List.{AllByRecursion, list_all}
 use Rattle.std.specs.Option.{option_map_or}
-use Rattle.jc_api.specs.declared.class.ApiClass.TheVariants.{Applet, Object as ObjectClass}
+use Rattle.jc_api.specs.declared.class.ApiClass.TheVariants.{Applet}
 use Rattle.jc_base.specs.declared.declared_type.DeclaredType.{DeclaredType}
-use Rattle.jc_base.specs.declared.declared_type.DeclaredType.TheVariants as types
 use Rattle.jc_cap_desc.specs.Shape.{Shape}
 use Rattle.jc_link.specs.Linked.{World}
 use Rattle.jc_machine.specs.Reading.{Pointwise}
@@ -189,8 +188,7 @@ write_typed world heap x fits typed = by_object (object_at heap x.object) refl
   where
     by_object : (o : Option (Object TaggedValue)) → object_at heap x.object ≡ o
         → HeapTyped world (put_all heap x.object x.from (map Word x.words))
-    by_object None e =
-        subst (HeapTyped world) (sym (put_all_none heap x.object x.from (map Word x.words) e)) typed
+    by_object None e = search (arith, put_all_none, map, put_all_typed)
     by_object (Some o) e = put_all_typed world heap x.object x.from x.words o e (fits o e) typed
 
 -- ---- a new array
@@ -210,8 +208,7 @@ module _ (world : List Shape) (heap : Heap TaggedValue) where
   blanks_typed Booleans n = all_replicated (λ v. is_byte v ≡ true) n (Word 0) refl
   blanks_typed Bytes n = all_replicated (λ v. is_byte v ≡ true) n (Word 0) refl
   blanks_typed Shorts n = all_replicated (λ v. is_word v ≡ true) n (Word 0) refl
-  blanks_typed References n =
-      all_replicated (λ v. leads_to heap (is_instance world (Api ObjectClass)) v ≡ true) n Null refl
+  blanks_typed References n = search (arith, all_replicated)
 
   may_make : (elements : Elements) → may_be_made world (array_type elements) ≡ true
   may_make elements = grind arith

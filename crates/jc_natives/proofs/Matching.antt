@@ -1,6 +1,6 @@
 -- What a member reads of tagged values it reads of words without tags, or it is stuck.
 use Rattle.std.proofs.Common.{◌≡◌, ℕ, zero, suc, ◌+◌, ◌&&◌, Bool, cond, List, [], ◌∷◌, get_or, arith}
-use Rattle.std.proofs.Common.{length, map, slice_get, Option, Some, None, refl, sym, subst}
+use Rattle.std.proofs.Common.{length, map, slice_get, Option, Some, None, refl}
 use Rattle.std.proofs.lemmas.List.{length-map}
 use Rattle.std.specs.Option.{option_and_then, option_map, option_map_or}
 use Rattle.jc_link.specs.Linked.{World}
@@ -10,7 +10,7 @@ use Rattle.jc_natives.proofs.Ranges.{length_of_bytes}
 use Rattle.jc_natives.specs.Cells.{bits, low}
 use Rattle.jc_natives.specs.Checks.{are_aids, is_aid_at, is_aid_value}
 use Rattle.jc_natives.specs.Kept.{Kept}
-use Rattle.jc_natives.specs.PrivateCells.{aid_bytes, aid_count, argument, bared, bytes_of, cell_of, size_of, words_of}
+use Rattle.jc_natives.specs.PrivateCells.{aid_bytes, argument, bared, bytes_of, cell_of, size_of, words_of}
 use Rattle.jc_natives.specs.PrivateSeen.{Seen, arguments_of, is_aid_object, seen_of}
 use Rattle.jc_natives.specs.PrivateTests.{length_of}
 use Rattle.jc_natives.specs.Taking.{Called, aid_in, as_reference, as_word, bytes_in, called, on_aid, on_bytes}
@@ -142,16 +142,12 @@ module _ (w : World) (call : NativeCall Kept) where
     at_length (ShortAt place) go y p = at_word place go y p
     at_length (ByteAt place) go y p = at_word place _ y p
     at_length (Fixed count) go y p = p
-    at_length (OfAid place) go y p =
-        at_reference place _ y (at_aid (argument args place) _ y
-        (subst (λ n. Only (go n) y)
-        (sym (length_of_bytes objects (argument args place) 1 (aid_count objects (argument args place)))) p))
+    at_length (OfAid place) go y p = search (arith, at_word, at_reference, at_aid, length_of_bytes)
 
     pub at_range : (array offset : ℕ) (count : Length) (go : List ℕ → Option A) (y : A)
         → Only (go (bytes_of objects (argument args array) (argument args offset) (length_of s args count))) y
         → Only (on_range h array offset count go) y
-    at_range array offset count go y p =
-        at_reference array _ y (at_word offset _ y (at_length count _ y (at_bytes _ _ _ go y p)))
+    at_range array offset count go y p = search (arith, at_reference, at_word, at_length, at_bytes)
 
   -- ---- AIDs
 

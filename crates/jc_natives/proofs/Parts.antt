@@ -93,8 +93,7 @@ take_both zero k xs = let e : zero + k ≡ k = omega arith in ap (λ m. take m x
 take_both (suc n) k [] = let e : suc n + k ≡ suc (n + k) = omega arith in ap (λ m. take m nil) e ∙ sym (nothing k)
   where
     nothing : (k : ℕ) → take k nil ≡ nil
-    nothing zero = refl
-    nothing (suc k) = refl
+    nothing k = grind arith
 take_both (suc n) k (x ∷ xs) =
     let e : suc n + k ≡ suc (n + k) = omega arith in
     ap (λ m. take m (x ∷ xs)) e ∙ ap (λ ys. x ∷ ys) (take_both n k xs)

@@ -15,7 +15,6 @@ use Rattle.jc_natives.specs.declared.row.Row.{Row}
 use Rattle.jc_natives.specs.declared.row.Test.{Test}
 use Rattle.jc_natives.specs.declared.row.Test.TheVariants as tests
 use Rattle.jc_natives.specs.declared.row.Way.{Way}
-use Rattle.jc_store.specs.Heap.{Object}
 
 touched_in_front : (xs ys : List Touch) (number : ℕ) → is_changed xs number ≡ true → is_changed (xs ++ ys) number ≡ true
 touched_in_front [] ys number e = absurd cc

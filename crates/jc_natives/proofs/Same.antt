@@ -1,13 +1,13 @@
 -- A call that fits answers on tagged values what it answers on words without tags.
-use Rattle.std.proofs.Common.{◌≡◌, ℕ, ◌+◌, ◌==◌, ◌&&◌, Bool, true, false, cond, List, [], length, nat_le, arith}
-use Rattle.std.proofs.Common.{Option, Some, refl, sym, ap, ◌∙◌}
+use Rattle.std.proofs.Common.{◌≡◌, ℕ, ◌+◌, ◌==◌, ◌&&◌, Bool, true, false, cond, List, length, nat_le, arith}
+use Rattle.std.proofs.Common.{Option, Some, refl}
 use Rattle.std.specs.List.{AllByRecursion, list_all}
 use Rattle.std.specs.Option.{option_and_then}
 use Rattle.jc_api.specs.Member.{ApiMember, member_of}
 use Rattle.jc_api.specs.Numbered.{numbered}
 use Rattle.jc_api.specs.declared.class.ApiClass.{ApiClass}
 use Rattle.jc_api.specs.declared.class.ApiClass.TheVariants as api
-use Rattle.jc_machine.specs.Machine.{Calls, Gives, IsStuck, NativeAnswer, NativeCall, NativeEnd, ThrowsObject}
+use Rattle.jc_machine.specs.Machine.{Calls, Gives, IsStuck, NativeCall, NativeEnd, ThrowsObject}
 use Rattle.jc_machine.specs.Runtime.{apdu_buffer}
 use Rattle.jc_names.specs.declared.name.ClassName.TheVariants.{Api}
 use Rattle.jc_natives.proofs.Alike.{IsLike, alike, begun_alike, stops}
@@ -21,10 +21,10 @@ use Rattle.jc_natives.proofs.Unstuck.{IsShown, There, aid_at, aids_have, bytes_a
 use Rattle.jc_natives.proofs.Unstuck.{has_component, has_object, has_range, has_reason, has_reference, has_word}
 use Rattle.jc_natives.proofs.Unstuck.{has_words, is_fit, object_leads, of_leads, tests_fit, tests_show}
 use Rattle.jc_natives.proofs.Unstuck.{there_unless_null}
-use Rattle.jc_natives.specs.Checks.{Passed, TestEnd, are_aids, tested}
+use Rattle.jc_natives.specs.Checks.{Passed, TestEnd, are_aids}
 use Rattle.jc_natives.specs.Cells.{is_within}
 use Rattle.jc_natives.specs.Kept.{Kept, has_aid_length, is_fresh, is_incoming, is_length_set, is_outgoing, most_sent}
-use Rattle.jc_natives.specs.Meaning.{answer_of, begun, done, end_of, ended, unchanged}
+use Rattle.jc_natives.specs.Meaning.{answer_of, begun, done, end_of, ended}
 use Rattle.jc_natives.specs.Members as members
 use Rattle.jc_natives.specs.Members.{ends_with, in_buffer, member_of_native, natives, on_installing, sends_at_once}
 use Rattle.jc_natives.specs.PrivateCells.{argument}
@@ -105,11 +105,7 @@ module _ (known : Known) (c : ApiClass) where
     where
       by_aids : (b : Bool) → (is_aid_object s (argument args 0) && is_aid_object s (argument args 1)) ≡ b
           → Has (cond b (members.have_same_bytes h (argument args 0) (argument args 1)) (ends_with h (GivesWord 0)))
-      by_aids true e =
-          let a = both (is_aid_object s (argument args 0)) (is_aid_object s (argument args 1)) e in
-          has_aid known _ t (argument args 0) (aid_of_seen (argument args 0) a.0) _
-          (has_aid known _ t (argument args 1) (aid_of_seen (argument args 1) a.1) _ refl)
-      by_aids false e = refl
+      by_aids b h1 = grind (arith, both, has_aid, aid_of_seen)
 
       by_number : (b : Bool)
           → Has (cond b (ends_with h (GivesWord 1)) (option_and_then (λ both.
@@ -124,9 +120,7 @@ module _ (known : Known) (c : ApiClass) where
   object_has objects.Construct t shown = refl
   object_has objects.Equals t shown = equals_has t
   object_has objects.ConstructWithReason t shown = has_reference known _ t 0 refl _ (has_word known _ t 1 refl _ refl)
-  object_has objects.GetReason t shown =
-      has_reference known _ t 0 refl _
-      (has_reason known _ t (argument args 0) (object_leads known _ t (Api api.CardRuntimeException) 0 refl) _ refl)
+  object_has objects.GetReason t shown = search (arith, equals_has, has_reference, has_word, has_reason, object_leads)
   object_has objects.SetReason t shown = has_reference known _ t 0 refl _ (has_word known _ t 1 refl _ refl)
   object_has (objects.ThrowIt object) t shown = has_word known _ t 0 refl _ refl
 
@@ -143,10 +137,7 @@ module _ (known : Known) (c : ApiClass) where
       by_null : (b : Bool) → (argument args 1 == 0) ≡ b
           → Has (cond b (ends_with h (GivesWord 0)) (members.is_range h (argument args 0)))
       by_null true e = refl
-      by_null false e =
-          has_aid known _ t (argument args 0) (aid_at known _ t 0 refl) _
-          (has_range known _ t 1 2 (ByteAt 3) refl refl refl refl (there_unless_null known _ t 1 refl e) _
-          (λ bytes. refl))
+      by_null false e = search (arith, has_aid, aid_at, has_range, there_unless_null)
   aid_has aids.GetBytes t shown =
       has_reference known _ t 0 refl _ (has_reference known _ t 1 refl _ (has_word known _ t 2 refl _
       (has_aid known _ t (argument args 0) (aid_at known _ t 0 refl) _ refl)))
@@ -216,12 +207,9 @@ module _ (known : Known) (c : ApiClass) where
   system_has : (native : SystemNative) (t : Typed (OfSystem native)) → Shows known c (OfSystem native) t
       → Has ((members.system_member native).does h)
   system_has system.GetAid t shown = refl
-  system_has system.LookupAid t shown =
-      has_range known _ t 0 1 (ByteAt 2) refl refl refl refl shown.0 _ (λ bytes. refl)
+  system_has system.LookupAid t shown = search (arith, has_range, has_reference, has_word, has_aid, of_leads)
   system_has system.GetPreviousAid t shown = refl
-  system_has system.AskForShareable t shown =
-      has_reference known _ t 0 refl _ (has_word known _ t 1 refl _
-      (has_aid known _ t (argument args 0) (of_leads known _ t (Api api.Aid) 0 refl shown.0) _ refl))
+  system_has system.AskForShareable t shown = search (arith, has_range, has_reference, has_word, has_aid, of_leads)
   system_has system.MakeBooleans t shown = has_word known _ t 0 refl _ (has_word known _ t 1 refl _ refl)
   system_has system.MakeBytes t shown = has_word known _ t 0 refl _ (has_word known _ t 1 refl _ refl)
   system_has system.MakeShorts t shown = has_word known _ t 0 refl _ (has_word known _ t 1 refl _ refl)
@@ -286,25 +274,14 @@ module _ (known : Known) (m : ApiMember) (native : Native) (m_is : member_of (kn
   its_kinds = grind (arith, takes_so, of_kinds)
 
   begun_goes : is_stuck (begun w call (Some native)).ends ≡ false
-  begun_goes =
-      let t = tested (called w call) (member_of_native native).tests in
-      ended_goes call t.touches t.ends ((member_of_native native).does (called w call))
-      (tests_fit known (takes native m.class) its_kinds (member_of_native native).tests (tests_suit native m.class))
-      (λ e. native_has known m.class native its_kinds
-      (tests_show known (takes native m.class) its_kinds (member_of_native native).tests e))
+  begun_goes = search (arith, ended_goes, tests_fit, takes, its_kinds, tests_suit, native_has, tests_show)
 
   begun_same : begun w call (Some native) ≡ begun_on_words w call (Some native)
   begun_same = by_like (begun_alike w call (Some native))
     where
       by_like : IsLike call (begun w call (Some native)) (begun_on_words w call (Some native))
           → begun w call (Some native) ≡ begun_on_words w call (Some native)
-      by_like (alike e) = e
-      by_like (stops touches rest front fine e) =
-          absurd (unequal (sym begun_goes ∙ ap (λ (a : NativeAnswer Kept). is_stuck a.ends) e))
+      by_like h1 = grind (arith, alike, stops, unequal, begun_goes)
 
   pub same_answer : answer_of w call ≡ answer_on_words w call
-  same_answer =
-      ap (λ b. cond b (begun w call (numbered natives call.member)) (unchanged call [] IsStuck)) fit.begins
-      ∙ ap (begun w call) n_is ∙ begun_same ∙ sym (ap (begun_on_words w call) n_is)
-      ∙ sym (ap (λ b. cond b (begun_on_words w call (numbered natives call.member)) (unchanged call [] IsStuck))
-      fit.begins)
+  same_answer = grind (arith, begun_same)

@@ -18,7 +18,6 @@ use Rattle.jc_machine.specs.Natives.{IsFitCall}
 use Rattle.jc_machine.specs.WordNatives.{AnswerAgrees, CallAgrees, ReadsEnd, WordState}
 use Rattle.jc_machine.specs.declared.natives.WordCall.{WordCall}
 use Rattle.jc_machine.specs.declared.natives.WordOutcome.{WordOutcome}
-use Rattle.jc_machine.specs.declared.natives.WordOutcome.TheVariants.{Returned, Thrown}
 use Rattle.jc_machine.specs.Calls.{native_may_begin}
 use Rattle.jc_names.specs.declared.name.ClassName.{ClassName}
 use Rattle.jc_names.specs.declared.name.MethodName.TheVariants.{Api}
@@ -31,10 +30,8 @@ use Rattle.jc_natives.specs.Meaning.{answer_of, blank_of, done, end_of, meaning,
 use Rattle.jc_natives.specs.Meaning.{unchanged, with_room}
 use Rattle.jc_natives.specs.Members.{natives}
 use Rattle.jc_natives.specs.PrivateCells.{bare, bared}
-use Rattle.jc_natives.specs.PrivateMeaning.{answer_on_words, begun_on_words, ended_on_words, work_of}
-use Rattle.jc_natives.specs.PrivateRows.{row_of}
+use Rattle.jc_natives.specs.PrivateMeaning.{answer_on_words, begun_on_words, ended_on_words}
 use Rattle.jc_natives.specs.PrivateSeen.{arguments_of, seen_of}
-use Rattle.jc_natives.specs.PrivateTests.{tested}
 use Rattle.jc_natives.specs.PrivateWords.{Done, TellsEnd, did_on_words, done_of, ended_of, kind_of, laid, native_work}
 use Rattle.jc_natives.specs.PrivateWords.{seen_in, tested_work, word_work}
 use Rattle.jc_natives.specs.Work.{Asks, Does, Ending, Makes, NewArray, Work}
@@ -169,10 +166,7 @@ begun_agrees : (w : World) (s : Store) (call : NativeCall Kept) (native : Native
     → AnswerAgrees (state_of (done_of call.active s call.runtime
     (native_work (seen_of w call) call.runtime (arguments_of call) native))) outcome
     (begun_on_words w call (Some native))
-begun_agrees w s call native outcome objects most cells told =
-    let t = tested (seen_of w call) (arguments_of call) (row_of native) in
-    ended_agrees call t.touches s t.thrown (work_of (seen_of w call) call.runtime (arguments_of call) native) outcome
-    objects most cells told
+begun_agrees w s call native outcome objects most cells told = search (arith, ended_agrees)
 
 -- a member that may begin has a number up to 55, and is a native member
 listed : {A B : Type 0} (xs : List A) (ys : List B) (n : ℕ) (x : A) → length xs ≡ length ys → slice_get xs n ≡ Some x

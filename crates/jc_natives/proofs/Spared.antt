@@ -1,7 +1,7 @@
 -- What a member writes: objects that its tests reached, or the runtime's own. And what the runtime keeps names applets
 -- still.
 use Rattle.std.specs.Prelude.{⊤}
-use Rattle.std.proofs.Common.{◌≡◌, ◌⊎◌, inl, inr, ℕ, zero, suc, ◌+◌, ◌==◌, ◌||◌, not, Bool, true, cond, arith, List, []}
+use Rattle.std.proofs.Common.{◌≡◌, ◌⊎◌, inl, inr, ℕ, zero, suc, ◌==◌, ◌||◌, not, Bool, true, cond, arith, List, []}
 use Rattle.std.proofs.Common.{◌∷◌, ◌++◌, nat_le, slice_get, Option, Some, refl, sym, ap, ◌∙◌}
 use Rattle.std.proofs.lemmas.Bool.{eqb-true}
 use Rattle.std.proofs.lemmas.Option.{none-some, same_Some}
@@ -37,16 +37,13 @@ use Rattle.jc_natives.specs.declared.kept.Instance.{Instance}
 use Rattle.jc_natives.specs.declared.native.AidNative.{AidNative}
 use Rattle.jc_natives.specs.declared.native.AidNative.TheVariants as aids
 use Rattle.jc_natives.specs.declared.native.ApduNative.{ApduNative}
-use Rattle.jc_natives.specs.declared.native.ApduNative.TheVariants as apdus
 use Rattle.jc_natives.specs.declared.native.AppletNative.{AppletNative}
-use Rattle.jc_natives.specs.declared.native.AppletNative.TheVariants as applets
 use Rattle.jc_natives.specs.declared.native.Elements.{Elements}
 use Rattle.jc_natives.specs.declared.native.Native.{Native}
 use Rattle.jc_natives.specs.declared.native.Native.TheVariants.{OfAid, OfApdu, OfApplet, OfObject, OfSystem, OfUtility}
 use Rattle.jc_natives.specs.declared.native.ObjectNative.{ObjectNative}
 use Rattle.jc_natives.specs.declared.native.ObjectNative.TheVariants as objects
 use Rattle.jc_natives.specs.declared.native.SystemNative.{SystemNative}
-use Rattle.jc_natives.specs.declared.native.SystemNative.TheVariants as system
 use Rattle.jc_natives.specs.declared.native.UtilityNative.{UtilityNative}
 use Rattle.jc_natives.specs.declared.native.UtilityNative.TheVariants as utilities
 use Rattle.jc_natives.specs.declared.row.Row.{Row}

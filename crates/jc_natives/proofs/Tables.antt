@@ -127,9 +127,7 @@ module _ (world : List Shape) (there : (c : ApiClass) → StandsThere world c) w
   begins_with : (n : ℕ) (x c : ClassName) → IsHeir world c x → comes_to_end world n c ≡ true → BeginsWith n x c
   begins_with n _ _ (itself c) ends = grind (arith, append-nil)
   begins_with zero _ _ (behind c d x e h) ends = absurd cc
-  begins_with (suc n) _ _ (behind c d x e h) ends =
-      begins_on n x c d e
-      (begins_with n x d h (sym (ap (λ o. option_map_or (comes_to_end world n) o true) e) ∙ ends))
+  begins_with (suc n) _ _ (behind c d x e h) ends = search (arith, append-nil, begins_on, begins_with n x d h)
 
   -- a class below one with so many cells
   pub blank_at : (x : ApiClass) (c : ClassName) (index : ℕ)

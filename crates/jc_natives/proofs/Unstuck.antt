@@ -5,7 +5,7 @@ use Rattle.std.proofs.Common.{is_some, map, slice_get, Option, Some, refl, sym, 
 use Rattle.std.proofs.lemmas.Bool.{eq-eqb}
 use Rattle.std.proofs.lemmas.Option.{none-some, same_Some}
 use Rattle.std.specs.List.{AllByRecursion, list_all}
-use Rattle.std.specs.Option.{option_and_then, option_map, option_map_or}
+use Rattle.std.specs.Option.{option_and_then, option_map_or}
 use Rattle.jc_api.specs.declared.class.ApiClass.TheVariants as api
 use Rattle.jc_firewall.specs.declared.access.Verdict.{Verdict}
 use Rattle.jc_machine.specs.Lookup.{is_of_class, leads_to}
@@ -146,11 +146,7 @@ module _ (known : Known) (kinds : List Kind)
       ap (λ x. is_some (option_and_then as_word x)) v.is ∙ by_kind v.kind v.passes v.value v.of_kind
     where
       by_kind : (k : Kind) → is_word_kind k ≡ true → (v : TaggedValue) → IsOfKind w.shapes heap v k → Has (as_word v)
-      by_kind word e v is = word_value v is
-      by_kind bytes e v is = absurd cc
-      by_kind (of c) e v is = absurd cc
-      by_kind (an_object c) e v is = absurd cc
-      by_kind (other_array t) e v is = absurd cc
+      by_kind k h1 v h2 = grind (arith, word, word_value, bytes, an_object, other_array)
 
   -- ---- references
 
@@ -225,11 +221,7 @@ module _ (known : Known) (kinds : List Kind)
     where
       by_kind : (k : Kind) → is_bytes_kind k ≡ true → (v : TaggedValue) → IsOfKind w.shapes heap v k
           → LeadsToBytes heap (bits v)
-      by_kind word e v is = absurd cc
-      by_kind bytes e v is = bytes_lead w.shapes heap v is
-      by_kind (of c) e v is = absurd cc
-      by_kind (an_object c) e v is = absurd cc
-      by_kind (other_array t) e v is = absurd cc
+      by_kind k h1 v h2 = grind (arith, word, bytes, bytes_lead, an_object, other_array)
 
   pub object_leads : (c : ClassName) (place : ℕ) → slice_get kinds place ≡ Some (an_object c)
       → LeadsToClass w.shapes heap (argument args place) c
@@ -247,8 +239,7 @@ module _ (known : Known) (kinds : List Kind)
     where
       by_kind : (k : Kind) → is_aid_kind k ≡ true → (v : TaggedValue) → IsOfKind w.shapes heap v k
           → LeadsToClass w.shapes heap (bits v) (Api api.Aid)
-      by_kind (an_object (Api api.Aid)) e v is = object_lead w.shapes heap (Api api.Aid) v is
-      by_kind k e v is = absurd cc
+      by_kind k h1 v h2 = grind (arith, an_object, object_lead)
 
   -- an AID among the arguments leads to an object
   aid_leads : (place : ℕ) → at kinds is_aid_kind place ≡ true → at kinds is_leading place ≡ true
@@ -276,8 +267,7 @@ module _ (known : Known) (kinds : List Kind)
 
     pub has_reference : (place : ℕ) → at kinds is_leading place ≡ true → (go : ℕ → Option A)
         → Has (go (argument args place)) → Has (on_reference h place go)
-    has_reference place e go k =
-        has_and_goes go _ _ (reference_among call.arguments place) (reference_has place e) k
+    has_reference place e go k = grind (arith, has_and_goes, reference_among, reference_has)
 
     pub has_object : (number : ℕ) (t : There heap number) (go : Object TaggedValue → Option A) → Has (go t.object)
         → Has (on_object h number go)
@@ -301,17 +291,14 @@ module _ (known : Known) (kinds : List Kind)
 
     pub has_reason : (number : ℕ) → LeadsToClass w.shapes heap number (Api api.CardRuntimeException)
         → (go : ℕ → Option A) → Has (go (cell_of objs number 0)) → Has (on_component h number 0 go)
-    has_reason number leads go k =
-        has_and_goes go _ _ (component_of heap number 0)
-        (word_there heap number leads.object leads.found 0 (reason_word known number leads)) k
+    has_reason number leads go k = search (arith, has_and_goes, component_of, word_there, reason_word)
 
     has_length : (count : Length) → length_fits kinds count ≡ true → (go : ℕ → Option A)
         → ((n : ℕ) → Has (go n)) → Has (on_length h count go)
     has_length (ShortAt place) e go k = has_word place e go (k _)
     has_length (ByteAt place) e go k = has_word place e _ (k _)
     has_length (Fixed count) e go k = k count
-    has_length (AsAid place) e go k =
-        has_reference place (aid_leads place e) _ (has_aid (argument args place) (aid_at place e) _ (k _))
+    has_length (AsAid place) e go k = search (arith, has_word, has_reference, aid_leads, has_aid, aid_at)
 
     pub has_range : (place offset : ℕ) (count : Length) → at kinds is_bytes_kind place ≡ true
         → at kinds is_leading place ≡ true → at kinds is_word_kind offset ≡ true → length_fits kinds count ≡ true
@@ -346,9 +333,7 @@ module _ (known : Known) (kinds : List Kind)
       ap (λ x. is_some (option_and_then (is_aid_value h) x)) v.is ∙ aid_value_has v.value v.leads
 
   pub aids_have : at kinds is_leading 0 ≡ true → at kinds is_leading 1 ≡ true → Has (are_aids h)
-  aids_have e f =
-      has_and_goes (λ one. option_map (λ other. one && other) (is_aid_at h 1)) _ _ (aid_of_argument w call 0)
-      (aid_has 0 e) (has_mapped _ (is_aid_at h 1) (aid_has 1 f))
+  aids_have e f = grind (arith, has_and_goes, aid_of_argument, aid_has, has_mapped)
 
   some_fit : (f : Bool → Checked) → ((b : Bool) → is_fit (f b).ends ≡ true) → (o : Option Bool) → Has o
       → is_fit (option_map_or f o unfit).ends ≡ true
@@ -374,8 +359,7 @@ module _ (known : Known) (kinds : List Kind)
     where
       by_null : (b : Bool) → (argument args place == 0) ≡ b
           → Has (cond b (Some true) (is_range_in h (argument args place) offset count))
-      by_null true i = refl
-      by_null false i = within_has place offset count f g (there_unless_null place e i)
+      by_null b h1 = grind (arith, within_has, there_unless_null)
 
   test_fit : (one : Check) → fits_kinds kinds one ≡ true → is_fit (test h one).ends ≡ true
   test_fit (Uses place way) e = uses_fit place way (refused 6) refl e
@@ -396,9 +380,7 @@ module _ (known : Known) (kinds : List Kind)
     where
       by_end : (touches : List _) (end : TestEnd) → is_fit end ≡ true → is_fit (tested h tests).ends ≡ true
           → is_fit (goes_on touches end (tested h tests)).ends ≡ true
-      by_end touches Passed f g = g
-      by_end touches (Refused object) f g = refl
-      by_end touches Unfit f g = absurd cc
+      by_end touches end h1 h2 = grind arith
 
   -- ---- what tests that pass show
 
@@ -434,6 +416,4 @@ module _ (known : Known) (kinds : List Kind)
       by_end : (touches : List _) (end : TestEnd) → (test h one).ends ≡ end
           → ((tested h tests).ends ≡ Passed → AllByRecursion IsShown tests)
           → (goes_on touches end (tested h tests)).ends ≡ Passed → AllByRecursion IsShown (one ∷ tests)
-      by_end touches Passed f rest g = (test_shows one f, rest g)
-      by_end touches (Refused object) f rest g = absurd cc
-      by_end touches Unfit f rest g = absurd cc
+      by_end touches end h1 h2 h3 = grind (arith, test_shows)

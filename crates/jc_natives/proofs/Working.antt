@@ -3,7 +3,6 @@ use Rattle.std.proofs.Common.{◌≡◌, ℕ, ◌+◌, ◌==◌, ◌&&◌, ◌||
 use Rattle.std.proofs.Common.{length, nat_le, Option, Some, refl, sym, ap, subst, ◌∙◌, arith}
 use Rattle.std.proofs.lemmas.Bool.{eq-eqb, ltb-true}
 use Rattle.std.specs.Option.{option_and_then}
-use Rattle.jc_firewall.specs.Verdict.{runtime}
 use Rattle.jc_link.specs.Linked.{World}
 use Rattle.jc_machine.specs.Machine.{NativeCall}
 use Rattle.jc_machine.specs.Runtime.{apdu_buffer}
@@ -45,7 +44,6 @@ use Rattle.jc_natives.specs.declared.native.AppletNative.{AppletNative}
 use Rattle.jc_natives.specs.declared.native.AppletNative.TheVariants as applets
 use Rattle.jc_natives.specs.declared.native.Elements.{Elements}
 use Rattle.jc_natives.specs.declared.native.Native.{Native}
-use Rattle.jc_natives.specs.declared.native.Native.TheVariants.{OfAid, OfApdu, OfApplet, OfObject, OfSystem, OfUtility}
 use Rattle.jc_natives.specs.declared.native.ObjectNative.{ObjectNative}
 use Rattle.jc_natives.specs.declared.native.ObjectNative.TheVariants as objects
 use Rattle.jc_natives.specs.declared.native.SystemNative.{SystemNative}
@@ -98,10 +96,7 @@ module _ (w : World) (call : NativeCall Kept) where
 
   same_bytes : (one other : ℕ)
       → Only (members.have_same_bytes h one other) (gives k (GivesWord (bit (have_same_aid o one other))))
-  same_bytes one other =
-      at_aid w call one _ _ (at_aid w call other _ _ (just (ap (λ b. Some (gives k (GivesWord (bit b))))
-      (sym (counted_first (aid_count o one) (aid_count o other) (aid_bytes o one) (aid_bytes o other)
-      (aid_counted one) (aid_counted other))))))
+  same_bytes one other = search (arith, at_aid, just, counted_first, aid_counted)
 
   two_equal : Only (members.equals h) (gives k (GivesWord (bit (equals s (argument args 0) (argument args 1)))))
   two_equal =
@@ -110,8 +105,7 @@ module _ (w : World) (call : NativeCall Kept) where
       by_both : (b : Bool)
           → Only (cond b (members.have_same_bytes h (argument args 0) (argument args 1)) (ends_with h (GivesWord 0)))
           (gives k (GivesWord (bit (b && have_same_aid o (argument args 0) (argument args 1)))))
-      by_both true = same_bytes (argument args 0) (argument args 1)
-      by_both false = just refl
+      by_both b = grind (arith, same_bytes, just)
 
       by_number : (b : Bool)
           → Only (cond b (ends_with h (GivesWord 1)) (option_and_then (λ both.
@@ -119,10 +113,7 @@ module _ (w : World) (call : NativeCall Kept) where
           (are_aids h)))
           (gives k (GivesWord (bit (b || (is_aid_object s (argument args 0) && is_aid_object s (argument args 1))
           && have_same_aid o (argument args 0) (argument args 1)))))
-      by_number true = just refl
-      by_number false =
-          goes_with _ _ _ _ (both_aids w call)
-          (by_both (is_aid_object s (argument args 0) && is_aid_object s (argument args 1)))
+      by_number b = grind (arith, just, goes_with, both_aids, by_both)
 
   reason_set : Only (sets_reason h)
       (writes_to k (argument args 0) 0 (cells.word (argument args 1) ∷ []) NoResult)
@@ -132,8 +123,7 @@ module _ (w : World) (call : NativeCall Kept) where
   object_does objects.Construct = just refl
   object_does objects.Equals = two_equal
   object_does objects.ConstructWithReason = reason_set
-  object_does objects.GetReason =
-      at_reference w call 0 _ _ (at_component w call (argument args 0) 0 _ _ (just refl))
+  object_does objects.GetReason = search (arith, just, two_equal, reason_set, at_reference, at_component, at_word)
   object_does objects.SetReason = reason_set
   object_does (objects.ThrowIt object) = at_word w call 0 _ _ (just refl)
 
@@ -157,14 +147,7 @@ module _ (w : World) (call : NativeCall Kept) where
           && bytes_eq (aid_bytes o (argument args 0))
           (bytes_of o (argument args 1) (argument args 2) (extended (argument args 3))))))))
       by_null true = just refl
-      by_null false =
-          at_aid w call (argument args 0) _ _ (at_range w call 1 2 (ByteAt 3) _ _
-          (just (ap (λ b. Some (gives k (GivesWord (bit b))))
-          (sym (counted_first (aid_count o (argument args 0)) (extended (argument args 3))
-          (aid_bytes o (argument args 0))
-          (bytes_of o (argument args 1) (argument args 2) (extended (argument args 3)))
-          (aid_counted (argument args 0))
-          (length_of_bytes o (argument args 1) (argument args 2) (extended (argument args 3))))))))
+      by_null false = search (arith, just, at_aid, at_range, counted_first, aid_counted, length_of_bytes)
   aid_does aids.GetBytes =
       at_reference w call 0 _ _ (at_reference w call 1 _ _ (at_word w call 2 _ _
       (at_aid w call (argument args 0) _ _
@@ -261,8 +244,7 @@ module _ (w : World) (call : NativeCall Kept) where
   system_does system.GetAid = just refl
   system_does system.LookupAid = at_range w call 0 1 (ByteAt 2) _ _ (just refl)
   system_does system.GetPreviousAid = just refl
-  system_does system.AskForShareable =
-      at_reference w call 0 _ _ (at_word w call 1 _ _ (at_aid w call (argument args 0) _ _ (just refl)))
+  system_does system.AskForShareable = search (arith, just, at_range, at_reference, at_word, at_aid, array_made)
   system_does system.MakeBooleans = array_made _
   system_does system.MakeBytes = array_made _
   system_does system.MakeShorts = array_made _
@@ -288,9 +270,4 @@ module _ (w : World) (call : NativeCall Kept) where
   utility_does utilities.MakeShort = at_word w call 0 _ _ (at_word w call 1 _ _ (just refl))
 
   pub member_does : (native : Native) → Only ((member_of_native native).does h) (work_of s k args native)
-  member_does (OfObject native) = object_does native
-  member_does (OfAid native) = aid_does native
-  member_does (OfApdu native) = apdu_does native
-  member_does (OfApplet native) = applet_does native
-  member_does (OfSystem native) = system_does native
-  member_does (OfUtility native) = utility_does native
+  member_does native = grind (arith, object_does, aid_does, apdu_does, applet_does, system_does, utility_does)

@@ -12,7 +12,6 @@ use Rattle.jc_link.specs.ApiClasses.{StandsOnApi, StandsThere}
 use Rattle.jc_names.specs.Names.{is_same_name}
 use Rattle.jc_names.specs.declared.name.ClassName.{ClassName}
 use Rattle.jc_names.specs.declared.name.ClassName.TheVariants as classes
-use Rattle.jc_names.specs.declared.name.MethodName.TheVariants.{Api}
 use Rattle.jc_machine.specs.Apart.{HaveApiMembers}
 
 -- ---- tests

@@ -1,5 +1,5 @@
 -- Calls are safe: each instruction that calls a method.
-use Rattle.std.proofs.Common.{◌≡◌, ℕ, zero, suc, ◌+◌, ◌-◌, ◌<◌, ◌≤◌, ◌==◌, List, [], ◌∷◌, ◌++◌, length, map, take, drop}
+use Rattle.std.proofs.Common.{◌≡◌, ℕ, zero, suc, ◌+◌, ◌<◌, ◌≤◌, ◌==◌, List, [], ◌∷◌, ◌++◌, length, map, take, drop}
 use Rattle.std.proofs.Common.{reverse, Bool, true, false, Option, Some, None, slice_get, refl, sym, ap, ◌∙◌}
 use Rattle.std.proofs.Common.{subst, arith, length-drop}
 use Rattle.std.proofs.lemmas.Bool.{ltb-false}
@@ -250,9 +250,7 @@ module _ {C : Type 0} (s : Surroundings C) (ground : Ground s) (m : Machine C) (
       invoked : (name : MethodName) (result : Option Ty) (arguments : List TaggedValue)
           → MayCall shapes m.heap name result arguments → (switch : Option Owner) (vs : List TaggedValue)
           → Site s ground m t result vs next → IsSafe s (invokes (at ops) switch name arguments vs)
-      invoked name result arguments may switch vs site =
-          invokes_safe s ground m t d next members m.heap m.runtime (as_it_was s ground m t) name result arguments may
-          switch ops vs site
+      invoked name result arguments may switch vs site = search (arith, site, invokes_safe, as_it_was)
 
       object_made : (n : ℕ) (o : heaps.Object TaggedValue) → object_at m.heap n ≡ Some o
           → IsMade s ground (class_of o.kind.object)

@@ -8,7 +8,6 @@ use Rattle.jc_classes.specs.Subtype.{is_class_below, is_subtype}
 use Rattle.jc_code.specs.declared.object.TestedType.{TestedType}
 use Rattle.jc_code.specs.declared.object.TestedType.TheVariants as Tested
 use Rattle.jc_code.specs.declared.object.WordKind.{WordKind}
-use Rattle.jc_code.specs.declared.object.WordKind.TheVariants as Kinds
 use Rattle.jc_firewall.specs.declared.access.Access.{Access}
 use Rattle.jc_firewall.specs.declared.access.Access.TheVariants as accesses
 use Rattle.jc_link.specs.MemberType.{counted}

@@ -1,6 +1,6 @@
 -- A method that may begin with values takes as many as its header says.
 use Rattle.std.proofs.Common.{◌≡◌, suc, ◌+◌, ◌==◌, List, [], ◌∷◌, length, Bool, true, false, cond, not, Option, Some}
-use Rattle.std.proofs.Common.{None, refl, sym, ap, ◌∙◌, arith}
+use Rattle.std.proofs.Common.{refl, sym, ap, ◌∙◌, arith}
 use Rattle.std.proofs.lemmas.Bool.{eq-eqb}
 use Rattle.std.specs.Option.{option_map, option_map_or}
 use Rattle.jc_base.specs.Signature.{Signature}
@@ -59,15 +59,13 @@ module _ (world : List Shape) (heap : Heap TaggedValue) where
           → cond static (are_of_types world heap x.parameters vs) (are_of_instance world heap d.class x.parameters vs)
           ≡ true
           → length vs ≡ cond static (length d.method.signature.parameters) (length d.method.signature.parameters + 1)
-      by_static x same true f = values_count x.parameters vs f ∙ same
-      by_static x same false f = instance_count d.class x.parameters vs f ∙ ap (λ n. n + 1) same
+      by_static x h1 static h2 = grind (arith, values_count, instance_count)
 
       by_type : (o : Option (Signature ClassName)) → declared_type_of world d ≡ o
           → option_map_or (λ (x : Signature ClassName). cond d.method.is_static
           (are_of_types world heap x.parameters vs) (are_of_instance world heap d.class x.parameters vs)) o false ≡ true
           → length vs ≡ words_of d.method
-      by_type None is f = absurd cc
-      by_type (Some x) is f = by_static x (parameters_count world d x is) d.method.is_static f
+      by_type o h1 h2 = grind (arith, by_static, parameters_count)
 
   pub takes_them : HaveMethods world → (name : MethodName) (d : DeclaredMethod) (header : MethodHeader)
       → (vs : List TaggedValue) → method_at world name ≡ Some d → d.method.header ≡ Some header

@@ -6,7 +6,6 @@ use Rattle.std.specs.List.{AllByRecursion, filter_map, range_with_len}
 use Rattle.std.specs.Option.{option_and_then, option_map, option_map_or}
 use Rattle.jc_api.specs.declared.class.ApiClass.TheVariants as api
 use Rattle.jc_base.specs.declared.declared_type.DeclaredType.{DeclaredType}
-use Rattle.jc_base.specs.declared.declared_type.DeclaredType.TheVariants as Declared
 use Rattle.jc_base.specs.declared.declared_type.ReturnType.{ReturnType}
 use Rattle.jc_base.specs.declared.declared_type.ReturnType.TheVariants.{Value}
 use Rattle.jc_cap.specs.ClassComponent.{is_class}
@@ -211,5 +210,4 @@ module _ (before after : List Shape) (e : Enlarges before after) where
 
     pub statics_on : (home : ℕ) → home < length before → (fields : List StaticValue)
         → AllByRecursion (StaticTyped before heap home) fields → AllByRecursion (StaticTyped after heap home) fields
-    statics_on home low fields h =
-        each_mapped (StaticTyped before heap home) (StaticTyped after heap home) (static_on home low) fields h
+    statics_on home low fields h = search (arith, each_mapped, static_on)

@@ -155,12 +155,7 @@ module _ {C : Type 0} (s : Surroundings C) (ground : Ground s) (m : Machine C) (
     cell_put : (o : ObjectType) (cells : List TaggedValue) (v : TaggedValue) → is_of_class shapes class o ≡ true
         → is_kept_as shapes m.heap declared v ≡ true → CellsTyped shapes m.heap cells o
         → CellsTyped shapes m.heap (set cells cell v) o
-    cell_put (Instance c) cells v e fits typed =
-        put_points (λ v field. is_cell shapes m.heap field v ≡ true) cell cells (fields_of shapes c) v typed
-        (λ field there.
-        let h = has c e in
-        let same : Some declared ≡ field = cc in
-        subst (λ (f : Option (DeclaredType ClassName)). is_cell shapes m.heap f v ≡ true) same fits)
+    cell_put (Instance c) cells v e fits typed = search (arith, put_points, Option, no_array)
     cell_put BooleanArray cells v e fits typed = no_array _ e
     cell_put ByteArray cells v e fits typed = no_array _ e
     cell_put ShortArray cells v e fits typed = no_array _ e

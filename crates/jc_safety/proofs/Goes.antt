@@ -113,9 +113,7 @@ module _ {C : Type 0} (s : Surroundings C) (ground : Ground s) where
           top = moved m.top pc locals operands;
           waiting = m.waiting;
         })
-    moves pc locals operands after has holds leads =
-        arrives m.heap m.statics t.beside.heap t.beside.statics (keeps_self m.heap) pc locals operands after has
-        holds leads
+    moves pc locals operands after has holds leads = search (arith, arrives, keeps_self)
 
     -- the frame where it is, with other operands
     replaced : (heap : Heap TaggedValue) → KeepsObjects m.heap heap → (vs : List TaggedValue)
@@ -132,14 +130,7 @@ module _ {C : Type 0} (s : Surroundings C) (ground : Ground s) where
           top = moved m.top m.top.pc m.top.locals vs;
           waiting = m.waiting;
         }) number
-    throws_with heap typed keeps vs number thrown = record {
-      beside =
-          beside_with m t.beside heap m.statics (moved m.top m.top.pc m.top.locals vs) m.waiting typed
-          (statics_still s.world m.heap heap keeps m.statics t.beside.statics) keeps;
-      placed = replaced heap keeps vs;
-      waiting = waiting_still s.world m.heap heap keeps (given_by s.world m.top) m.waiting t.waiting;
-      thrown = thrown;
-    }
+    throws_with heap typed keeps vs number thrown = search (arith, beside_with, statics_still, replaced, waiting_still)
 
     pub throws_at : (vs : List TaggedValue) (number : ℕ) → IsThrown s.world m.heap number
         → MayUnwind s (record {
@@ -174,8 +165,7 @@ module _ {C : Type 0} (s : Surroundings C) (ground : Ground s) where
           → HaveTypes s.world.shapes m.heap locals after.locals
           → HoldTypes s.world.shapes m.heap operands after.operands
           → Leads rules placed.typing after next → IsSafe s (goes_on (spot vs) locals operands)
-      safe_on vs after locals operands has holds leads =
-          record { fine = moves next locals operands after has holds leads }
+      safe_on vs after locals operands has holds leads = search (arith, moves)
 
       pub safe_leaves : (vs : List TaggedValue) (after : Types) (operands : List TaggedValue)
           → HaveTypes s.world.shapes m.heap m.top.locals after.locals
@@ -189,9 +179,7 @@ module _ {C : Type 0} (s : Surroundings C) (ground : Ground s) where
           → HaveTypes s.world.shapes m.heap m.top.locals after.locals
           → HoldTypes s.world.shapes m.heap (v ∷ operands) after.operands
           → Leads rules placed.typing after next → IsSafe s (gives (spot vs) v operands)
-      safe_gives vs after v operands room has holds leads =
-          safe_check s (nat_lt (length operands) most) (leaves_operands (spot vs) (v ∷ operands)) room
-          (safe_leaves vs after (v ∷ operands) has holds leads)
+      safe_gives vs after v operands room has holds leads = search (arith, safe_check, nat_lt, length, safe_leaves)
 
       -- to a place of the code to which it leads
       safe_to : (vs : List TaggedValue) (after : Types) (operands : List TaggedValue) (place : ℤ)
@@ -208,8 +196,7 @@ module _ {C : Type 0} (s : Surroundings C) (ground : Ground s) where
           → HoldTypes s.world.shapes m.heap operands after.operands
           → BranchLeads rules placed.typing after (target_of m.top.pc offset)
           → IsSafe s (branches (spot vs) true offset operands)
-      safe_jumps vs after operands offset has holds leads =
-          safe_to vs after operands (target_of m.top.pc offset) has holds leads
+      safe_jumps vs after operands offset has holds leads = search (arith, safe_to)
 
       pub safe_branches : (vs : List TaggedValue) (after : Types) (operands : List TaggedValue) (taken : Bool)
           → (offset : ℤ)
@@ -218,10 +205,7 @@ module _ {C : Type 0} (s : Surroundings C) (ground : Ground s) where
           → BranchLeads rules placed.typing after (target_of m.top.pc offset)
           → Leads rules placed.typing after next
           → IsSafe s (branches (spot vs) taken offset operands)
-      safe_branches vs after operands true offset has holds leads falls =
-          safe_to vs after operands (target_of m.top.pc offset) has holds leads
-      safe_branches vs after operands false offset has holds leads falls =
-          safe_leaves vs after operands has holds falls
+      safe_branches vs after operands taken offset h1 h2 h3 h4 = grind (arith, safe_to, safe_leaves)
 
 -- room for an operand more, by types
 pub room_left : (world : List Shape) (heap : Heap TaggedValue) (most count : ℕ) (ts : List Ty) (vs : List TaggedValue)

@@ -12,9 +12,7 @@ use Rattle.jc_store.specs.Heap as heaps
 use Rattle.jc_store.specs.Heap.{Heap, object_at, with_new, with_object}
 use Rattle.jc_store.specs.declared.kind.Kind.{Kind}
 use Rattle.jc_store.specs.declared.kind.ObjectType.{ObjectType}
-use Rattle.jc_store.specs.declared.kind.ObjectType.TheVariants.{BooleanArray, ByteArray, ShortArray, ReferenceArray}
 use Rattle.jc_types.specs.declared.ty.Ty.{Ty}
-use Rattle.jc_types.specs.declared.ty.Ty.TheVariants as types
 use Rattle.jc_machine.specs.Lookup.{is_kept_as, is_of_type, leads_to}
 use Rattle.jc_machine.specs.Machine.{Frame, StaticValue}
 use Rattle.jc_machine.specs.Natives.{KeepsObjects}

@@ -11,7 +11,6 @@ use Rattle.jc_base.specs.declared.declared_type.DeclaredType.{DeclaredType}
 use Rattle.jc_base.specs.declared.declared_type.DeclaredType.TheVariants as Declared
 use Rattle.jc_cap.specs.Statics.{StaticImage}
 use Rattle.jc_cap.specs.declared.arrays.StaticArray.{StaticArray}
-use Rattle.jc_cap.specs.declared.arrays.StaticArray.TheVariants as Of
 use Rattle.jc_cap_desc.specs.Shape.{FieldShape, Shape}
 use Rattle.jc_cap_desc.specs.declared.class_row.FieldPlace.{FieldPlace}
 use Rattle.jc_cap_desc.specs.declared.class_row.FieldPlace.TheVariants.{Static}
@@ -133,22 +132,14 @@ found_as x (h ∷ fs) n f at is few = by_static (λ n at few. found_as x fs n f 
 
     -- past one without the offset
     past : is_static_field x.offset h.place ≡ false → FoundAs fs x → FoundAs (h ∷ fs) x
-    past fails later = record {
-      field = later.field;
-      found =
-          ap (λ (b : Bool). cond b (Some h) (find (λ (f : FieldShape). is_static_field x.offset f.place) fs)) fails
-          ∙ later.found;
-      is = later.is;
-    }
+    past fails later = grind (arith, Bool, find)
 
     fewer : count_by (share_a_byte x) (filter_map static_of fs) ≤ 1
     fewer = let more = count_more (share_a_byte x) (static_of h) (filter_map static_of fs) in omega (arith, more, few)
 
     passes : (o : Option StaticField) → static_of h ≡ o → (b : Bool)
         → option_map_or (λ (y : StaticField). y.offset == x.offset) o false ≡ b → is_static_field x.offset h.place ≡ b
-    passes o first b e =
-        tested x.offset h
-        ∙ ap (λ (o : Option StaticField). option_map_or (λ (y : StaticField). y.offset == x.offset) o false) first ∙ e
+    passes o first b e = grind (arith, tested, Option)
 
     by_offset : Later → (y : StaticField) → static_of h ≡ Some y → (b : Bool) → (y.offset == x.offset) ≡ b → (n : ℕ)
         → slice_get (h ∷ fs) n ≡ Some f → FoundAs (h ∷ fs) x
@@ -178,10 +169,7 @@ found_as x (h ∷ fs) n f at is few = by_static (λ n at few. found_as x fs n f 
 
     by_static : Later → (o : Option StaticField) → static_of h ≡ o → (n : ℕ) → slice_get (h ∷ fs) n ≡ Some f
         → FoundAs (h ∷ fs) x
-    by_static later None none zero at =
-        let here : h ≡ f = cc in
-        let again = ap static_of here in
-        absurd cc
+    by_static later None none zero at = search (arith, past, passes, fewer, by_offset)
     by_static later None none (suc n) at = past (passes None none false refl) (later n at fewer)
     by_static later (Some y) first n at = by_offset later y first (y.offset == x.offset) refl n at
 
@@ -210,9 +198,7 @@ none_bad p (y ∷ xs) none i x e = by_test (λ none i e. none_bad p xs none i x 
         → least (map (λ (f : StaticField). f.offset) (cond b (y ∷ filter p xs) (filter p xs))) ≡ None → (i : ℕ)
         → slice_get (y ∷ xs) i ≡ Some x → p x ≡ false
     by_test later true bad none i e = absurd cc
-    by_test later false fine none zero e =
-        let same : y ≡ x = cc in
-        ap p (sym same) ∙ fine
+    by_test later false fine none zero e = search arith
     by_test later false fine none (suc i) e = later none i e
 
 left_false : (a b : Bool) → (a || b) ≡ false → a ≡ false

@@ -1,5 +1,5 @@
 -- A linked package that is loaded leaves what is kept beside frames typed.
-use Rattle.std.proofs.Common.{◌≡◌, ◌⊎◌, ℕ, zero, suc, ◌+◌, ◌-◌, ◌<◌, ◌≤◌, ◌==◌, ◌++◌, ℤ, List, [], ◌∷◌, length, map}
+use Rattle.std.proofs.Common.{◌≡◌, ◌⊎◌, ℕ, zero, suc, ◌+◌, ◌<◌, ◌≤◌, ◌==◌, ◌++◌, ℤ, List, [], ◌∷◌, length, map}
 use Rattle.std.proofs.Common.{take, slice_get, Option, Some, None, Bool, true, false, find, is_some, refl, sym, ap, ◌∙◌}
 use Rattle.std.proofs.Common.{subst, inl, inr, arith, length-append, take_all}
 use Rattle.std.proofs.lemmas.Bool.{le-ltb, lt-ltb}
@@ -9,7 +9,6 @@ use Rattle.std.specs.Option.{option_and_then, option_map, option_or}
 use Rattle.jc_base.specs.declared.declared_type.DeclaredType.{DeclaredType}
 use Rattle.jc_cap.specs.Statics.{StaticImage}
 use Rattle.jc_cap.specs.declared.arrays.StaticArray.{StaticArray}
-use Rattle.jc_cap.specs.declared.arrays.StaticArray.TheVariants as Of
 use Rattle.jc_cap_desc.specs.Shape.{FieldShape, Package, Shape}
 use Rattle.jc_classes.specs.Growth.{LiesWithin, grown}
 use Rattle.jc_link.specs.Found.{type_found}
@@ -340,8 +339,7 @@ module _ (laws : Laws) {C : Type 0} (s : Surroundings C) (m : Machine C) (l : Li
               → option_and_then (field_type_of l.world at) (option_and_then (static_field_in place.offset) o)
               ≡ Some declared
               → is_some o ≡ true
-          by_shape None e = absurd cc
-          by_shape (Some k) e = refl
+          by_shape o h1 = grind arith
 
       by_home : (o : Option Shape) → slice_get l.world place.home ≡ o → is_some o ≡ true
           → is_some (static_at statics place.home place.offset) ≡ true
@@ -364,14 +362,7 @@ module _ (laws : Laws) {C : Type 0} (s : Surroundings C) (m : Machine C) (l : Li
           ]
 
   statics_typed : StaticsTyped after heap statics
-  statics_typed =
-      let many = may.beside.statics.count in
-      let one = length-append m.statics (values ∷ []) in
-      let other = length-append w.bodies (l.body ∷ []) in record {
-        count = omega (arith, many, one, other);
-        typed = typed;
-        present = present;
-      }
+  statics_typed = grind (arith, count, length-append, typed, present)
 
   pub load_typed : IsTypedBeside (around_behind s l) (machine_behind s m l)
   load_typed = record {

@@ -1,7 +1,6 @@
 -- Classes that the code of a package names: they are of the world in which it was linked.
 use Rattle.std.proofs.Common.{◌≡◌, ℕ, List, Option, Some, Bool, true, false, not, slice_get, subst, arith}
 use Rattle.std.specs.Option.{option_map_or}
-use Rattle.jc_api.specs.declared.class.ApiClass.TheVariants as api
 use Rattle.jc_cap_desc.specs.Shape.{Shape}
 use Rattle.jc_classes.specs.Growth.{IsWithin, StandWithin}
 use Rattle.jc_classes.specs.Subtype.{is_class_at}

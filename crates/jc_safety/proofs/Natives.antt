@@ -14,7 +14,7 @@ use Rattle.jc_cap_desc.specs.Shape.{ClassShape, Shape}
 use Rattle.jc_classes.specs.Members.{DeclaredMethod, method_at}
 use Rattle.jc_classes.specs.Methods.{virtual_method_of}
 use Rattle.jc_classes.specs.Subtype.{IsSubtype, is_class_at, is_class_below}
-use Rattle.jc_classes.specs.Subtype.IsSubtype.{by_superclass, object, same}
+use Rattle.jc_classes.specs.Subtype.IsSubtype.{by_superclass, same}
 use Rattle.jc_classes.specs.World.{class_at}
 use Rattle.jc_link.specs.Found.{are_same_types, is_same_class, is_same_return, is_same_signature, is_same_type}
 use Rattle.jc_link.specs.MemberType.{declared_type_of, method_type_of}

@@ -5,10 +5,8 @@ use Rattle.std.proofs.lemmas.Bool.{lt-ltb}
 use Rattle.std.specs.Option.{option_and_then, option_map, option_map_or}
 use Rattle.jc_base.specs.Signature.{Signature}
 use Rattle.jc_base.specs.declared.declared_type.DeclaredType.{DeclaredType}
-use Rattle.jc_base.specs.declared.declared_type.DeclaredType.TheVariants as Declared
 use Rattle.jc_base.specs.declared.declared_type.ReturnType.{ReturnType}
 use Rattle.jc_cap_desc.specs.Shape.{Shape}
-use Rattle.jc_cap.specs.declared.method_header.MethodHeader.{MethodHeader}
 use Rattle.jc_classes.specs.Members.{DeclaredMethod}
 use Rattle.jc_classes.specs.Subtype.{is_class_below}
 use Rattle.jc_link.specs.MemberType.{declared_type_of}
@@ -147,11 +145,7 @@ module _ {C : Type 0} (s : Surroundings C) (ground : Ground s) where
         lt-ltb (length f.operands) its_method.header.max_stack (omega (arith, same, count, few, most))
 
     room_is : room_of s f ≡ Some its_method.header.max_stack
-    room_is =
-        ap (λ (x : Option DeclaredMethod). option_map (λ (h : MethodHeader). h.max_stack)
-        (option_and_then (λ (d : DeclaredMethod). d.method.header) x))
-        its_method.found
-        ∙ ap (option_map (λ (h : MethodHeader). h.max_stack)) its_method.header_is
+    room_is = grind (arith, Option, method, its_method)
 
     behind_is : pc_behind_call s f ≡ Some w.call.next_pc
     behind_is = grind arith

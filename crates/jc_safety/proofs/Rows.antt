@@ -23,8 +23,8 @@ use Rattle.jc_types.specs.State.{Types}
 use Rattle.jc_types.specs.declared.ty.Ty.{Ty}
 use Rattle.jc_machine.specs.Accepted.{linked_as}
 use Rattle.jc_machine.specs.Reading.{Pointwise}
-use Rattle.jc_machine.specs.Going.{Here, accessed, accessed_to_store, asking, branches, gives, leaves_operands}
-use Rattle.jc_machine.specs.Going.{on_target, throws, require, stored_in, storing}
+use Rattle.jc_machine.specs.Going.{Here, accessed, accessed_to_store, branches, gives, leaves_operands}
+use Rattle.jc_machine.specs.Going.{on_target, throws, require, stored_in}
 use Rattle.jc_machine.specs.Lookup.{body_at, target_at}
 use Rattle.jc_machine.specs.Machine.{Machine, Stepped, Surroundings}
 use Rattle.jc_machine.specs.Natives.{IsThrown}
@@ -103,8 +103,7 @@ module _ {C : Type 0} (s : Surroundings C) (ground : Ground s) (m : Machine C) (
 
   pub met_by : (row : Row) (after : Types) → Applied below most row state after
       → Pointwise (Meets world m.heap) (reverse (take (length row.operands) m.top.operands)) row.operands
-  met_by row after a =
-      operands_meet world before orders m.heap most row state after m.top.operands t.top.operands_typed a
+  met_by row after a = search (arith, operands_meet, orders)
 
   -- the entry that an instruction reads
   pub entry : (index : ℕ) (target : PoolTarget) → slice_get (placed s ground m t).body.targets index ≡ Some target
@@ -171,21 +170,15 @@ module _ {C : Type 0} (s : Surroundings C) (ground : Ground s) (m : Machine C) (
 
     -- null has no object
     pub safe_null : (us : List TaggedValue) → IsSafe s (throws (here us) null_pointer_exception)
-    safe_null us = record {
-      fine = throws_at s ground m t us _ (null_pointer s ground m.heap t.beside.runtime_objects);
-    }
+    safe_null us = grind (arith, throws_at, null_pointer)
 
     pub safe_accessed : (us : List TaggedValue) (access : Access) (n : ℕ) (o : heaps.Object TaggedValue)
         → (x : Stepped C) → IsSafe s x → IsSafe s (accessed (here us) access n o x)
-    safe_accessed us access n o x safe =
-        safe_judged s (here us) (asking access n) o (λ switch. x)
-        (throws_at s ground m t us _ (security s ground m.heap t.beside.runtime_objects)) (λ switch. safe)
+    safe_accessed us access n o x safe = search (arith, safe_judged, throws_at, security)
 
     pub safe_to_store : (us : List TaggedValue) (access : Access) (n : ℕ) (o : heaps.Object TaggedValue)
         → (v : TaggedValue) (x : Stepped C) → IsSafe s x → IsSafe s (accessed_to_store (here us) access n o v x)
-    safe_to_store us access n o v x safe =
-        safe_judged s (here us) (storing access n v) o (λ switch. x)
-        (throws_at s ground m t us _ (security s ground m.heap t.beside.runtime_objects)) (λ switch. safe)
+    safe_to_store us access n o v x safe = search (arith, safe_judged, throws_at, security)
 
     pub safe_required : (us : List TaggedValue) (exception : ℕ) (b : Bool) (x : Stepped C)
         → IsThrown s.world m.heap exception → (b ≡ true → IsSafe s x)

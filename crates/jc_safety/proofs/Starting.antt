@@ -1,6 +1,6 @@
 -- Calls of the runtime are safe where they can begin; and they can begin where a virtual member of the API is called on
 -- an object.
-use Rattle.std.proofs.Common.{◌≡◌, ℕ, zero, suc, List, [], ◌∷◌, length, ◌+◌, Option, Some, None, Bool, true, arith}
+use Rattle.std.proofs.Common.{◌≡◌, ℕ, List, ◌∷◌, length, Option, Some, None, Bool, true, arith}
 use Rattle.std.proofs.Common.{false, cond, not, sym, ap, ◌∙◌, subst}
 use Rattle.std.specs.Option.{option_and_then, option_map_or}
 use Rattle.jc_base.specs.Signature.{Signature}
@@ -16,14 +16,14 @@ use Rattle.jc_names.specs.declared.name.MethodName.TheVariants.{Api, Loaded}
 use Rattle.jc_effects.specs.Method.{returned_type}
 use Rattle.jc_store.specs.Heap.{Object}
 use Rattle.jc_types.specs.declared.ty.Ty.{Ty}
-use Rattle.jc_machine.specs.Calls.{VirtualMember, has_room, native_may_begin, native_type, takes}
+use Rattle.jc_machine.specs.Calls.{VirtualMember, native_type, takes}
 use Rattle.jc_machine.specs.Lookup.{class_of, code_at, declared_at, is_given, is_throwable, may_begin_with}
 use Rattle.jc_machine.specs.Machine.{Calls, Frame, Gives, IsStuck, Machine, MethodPlace, NativeAnswer, NativeCall}
 use Rattle.jc_machine.specs.Machine.{NativeEnd, Surroundings, ThrowsObject}
 use Rattle.jc_machine.specs.Natives.{EndsFit, IsFitCall}
-use Rattle.jc_machine.specs.Step.{Called, Gave, RanOut, Start, Threw, WasStuck, after_first_native, begun, begun_by}
-use Rattle.jc_machine.specs.Step.{ended_by, room_lacking, may_begin, native_called, native_ended, native_started}
-use Rattle.jc_machine.specs.Step.{no_frame, runtime_call, standing, started, started_by, steps_of, first_native_call}
+use Rattle.jc_machine.specs.Step.{Called, Start, Threw, WasStuck, after_first_native, begun}
+use Rattle.jc_machine.specs.Step.{native_ended, native_started}
+use Rattle.jc_machine.specs.Step.{no_frame, runtime_call, standing, started, started_by, first_native_call}
 use Rattle.jc_machine.specs.Typed.{HaveTypes, IsTyped, IsTypedBeside}
 use Rattle.jc_words.specs.Values.{Ref, TaggedValue}
 use Rattle.jc_safety.specs.Safety.{EndsTyped}
@@ -90,21 +90,12 @@ module _ {C : Type 0} (s : Surroundings C) (ground : Ground s) (members : HaveMe
 
   begun_typed : (steps : ℕ) (place : MethodPlace) (k : MethodCanBegin s start place)
       → IsTypedBeside s (standing start (no_frame start.owner)) → EndsTyped s (begun s steps start place k.header).ends
-  begun_typed steps place k beside =
-      let f = first_frame start place k.header in
-      if_typed (has_room s [] (length f.locals + (k.header).max_stack)) (steps_of s steps (standing start f))
-      (ended_by (RanOut (standing start f) (room_lacking s []) None))
-      (runs_safely s ground members steps (standing start f) (first_typed place k beside)) (beside_with f beside)
+  begun_typed steps place k beside = grind (arith, if_typed, length, runs_safely, first_typed, beside_with)
 
   method_called : (steps : ℕ) (place : MethodPlace) (k : MethodCanBegin s start place)
       → IsTypedBeside s (standing start (no_frame start.owner))
       → EndsTyped s (started s steps start place (declared_at s.world place)).ends
-  method_called steps place k beside =
-      subst (λ (o : Option DeclaredMethod). EndsTyped s (started s steps start place o).ends) (sym k.found)
-      (subst (λ (o : Option MethodHeader). EndsTyped s (begun_by s steps start place k.declared o).ends)
-      (sym k.header_is)
-      (if_so (may_begin s start k.declared k.header) (begun s steps start place k.header) (ended_by WasStuck) k.begins
-      (begun_typed steps place k beside)))
+  method_called steps place k beside = grind (arith, Option, if_so, begun_typed)
 
   -- ---- a native member
 
@@ -134,18 +125,7 @@ module _ {C : Type 0} (s : Surroundings C) (ground : Ground s) (members : HaveMe
 
     gives_typed : (given : Signature ClassName) → native_type shapes member ≡ Some given → (value : Option TaggedValue)
         → is_given shapes a.heap given.result value ≡ true → EndsTyped s (native_ended s after member (Gives value))
-    gives_typed given declared value is =
-        let P : Option (Signature ClassName) → Type 0 =
-        λ o. EndsTyped s (cond (option_map_or (λ (x : Signature ClassName). is_given shapes a.heap x.result value) o
-        false) (Gave after value) WasStuck) in
-        let Q : Bool → Type 0 = λ b. EndsTyped s (cond b (Gave after value) WasStuck) in
-        subst P (sym declared)
-        (subst Q (sym is)
-        (record {
-          beside = after_typed;
-          written = result_written shapes a.heap value (returned_type given.result)
-              (given_result shapes a.heap given.result value is);
-        }))
+    gives_typed given declared value is = grind (arith, Option, Bool, after_typed, result_written, given_result)
 
     native_typed : (given : Signature ClassName) → native_type shapes member ≡ Some given → (end : NativeEnd)
         → EndsFit s.world call a given end → EndsTyped s (native_ended s after member end)
@@ -163,18 +143,13 @@ module _ {C : Type 0} (s : Surroundings C) (ground : Ground s) (members : HaveMe
     native_typed given declared IsStuck fit = absurd fit
 
     member_called : (steps : ℕ) → EndsTyped s (native_started s steps start member).ends
-    member_called zero = beside
-    member_called (suc n) =
-        let fit = ground.lawful.fit s.world call ground.accepted its_call in
-        if_so (native_may_begin shapes start.heap member start.arguments) (native_called s start member a)
-        (ended_by WasStuck) k.begins (native_typed fit.given fit.declared a.ends fit.ends)
+    member_called steps = grind (arith, its_call, if_so, native_typed)
 
   -- ---- any call
 
   by_name : (steps : ℕ) (name : MethodName) → CanBegin s start name
       → IsTypedBeside s (standing start (no_frame start.owner)) → EndsTyped s (started_by s steps start name).ends
-  by_name steps (Loaded number offset) k beside =
-      method_called steps (record { number = number; offset = offset }) k beside
+  by_name steps (Loaded number offset) k beside = search (arith, method_called, member_called)
   by_name steps (Api member) k beside = member_called member k beside steps
 
   pub called_safely : (steps : ℕ) → IsTypedStart s start → EndsTyped s (runtime_call s steps start).ends

@@ -114,11 +114,7 @@ module _ (w : World) (heap : Heap TaggedValue) (statics : List (List StaticValue
     changed_present p d says = grind (arith, value_there, held, package_still, find_still)
 
     changed_all : StaticsTyped w heap changed
-    changed_all = record {
-      count = changed_count number ∙ typed.count;
-      typed = changed_typed;
-      present = changed_present;
-    }
+    changed_all = grind (arith, changed_count, changed_typed, changed_present)
 
   pub put_typed : StaticsTyped w heap (with_static statics place.home place.offset v)
   put_typed =

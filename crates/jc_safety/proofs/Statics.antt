@@ -1,5 +1,5 @@
 -- Static fields: what an entry of the constant pool says of one, and those with another value in one.
-use Rattle.std.proofs.Common.{◌≡◌, ℕ, suc, ◌-◌, ◌==◌, List, [], ◌∷◌, slice_get, Bool, true, false, cond, Option, Some}
+use Rattle.std.proofs.Common.{◌≡◌, ℕ, suc, ◌==◌, List, [], ◌∷◌, slice_get, Bool, true, false, cond, Option, Some}
 use Rattle.std.proofs.Common.{None, find, refl, ap, ◌∙◌, subst, arith, eqb-true}
 use Rattle.std.proofs.lemmas.Bool.{ltb-false}
 use Rattle.std.specs.Option.{option_and_then, option_map}
@@ -10,7 +10,6 @@ use Rattle.jc_classes.specs.Members.{DeclaredMethod}
 use Rattle.jc_link.specs.Named.{named_by}
 use Rattle.jc_link.specs.Target.{pool_target_of, static_type_of, target_of, target_of_declared}
 use Rattle.jc_link.specs.declared.named.Named.{Named}
-use Rattle.jc_link.specs.declared.named.Named.TheVariants as Names
 use Rattle.jc_link.specs.declared.named.StaticPlace.{StaticPlace}
 use Rattle.jc_link.specs.declared.target.PoolTarget.{PoolTarget}
 use Rattle.jc_link.specs.declared.target.PoolTarget.TheVariants as To

@@ -26,9 +26,9 @@ use Rattle.jc_types.specs.declared.ty.Ty.{Ty}
 use Rattle.jc_names.specs.declared.name.ClassName.{ClassName}
 use Rattle.jc_machine.specs.Going.{Here}
 use Rattle.jc_machine.specs.Lookup.{code_at, declared_at, instruction_at}
-use Rattle.jc_machine.specs.Machine.{Ends, Machine, Next, Outcome, Stuck, Surroundings, Throws, UsedUp}
+use Rattle.jc_machine.specs.Machine.{Machine, Outcome, Surroundings}
 use Rattle.jc_machine.specs.Objects.{act_object}
-use Rattle.jc_machine.specs.Step.{Called, act, act_at, continued, defensive_step, point_of, room_lacking, settled}
+use Rattle.jc_machine.specs.Step.{Called, act, act_at, continued, defensive_step, settled}
 use Rattle.jc_machine.specs.Step.{steps_of}
 use Rattle.jc_machine.specs.declared.stop.Budget.{Budget}
 use Rattle.jc_machine.specs.declared.stop.CodePoint.{CodePoint}
@@ -189,21 +189,14 @@ module _ {C : Type 0} (s : Surroundings C) (ground : Ground s) (m : Machine C) (
         → effect_of set most operation state ≡ Ok after → AllByRecursion (BranchesTo after) (offsets_of operation)
         → (falls_of operation ≡ true → LeadsTo after next) → IsSafe s (act at operation)
     unfolding effect_of
-    act_safe (operations.Word operation) short called e branches falls =
-        word_safe operation (λ value is. short value (ap operations.Word is)) e branches falls
-    act_safe (operations.Object operation) short called e branches falls =
-        object_safe operation (λ invocation is. called invocation (ap operations.Object is)) e branches falls
+    act_safe operation h1 h2 h3 h4 h5 = grind (arith, word_safe, object_safe)
 
 -- ---- a step
 
 module _ {C : Type 0} (s : Surroundings C) (ground : Ground s) (members : HaveMembers s.world.shapes) where
   -- what an instruction came to, with what it throws caught
   settled_fine : (outcome : Outcome C) → safe.IsFine s outcome → StaysTyped s (settled s outcome)
-  settled_fine (Next m) h = h
-  settled_fine (Throws m number) h = settles s ground m number h
-  settled_fine (Ends m value) h = h
-  settled_fine (UsedUp m) h = h
-  settled_fine Stuck h = h
+  settled_fine outcome h1 = grind (arith, settles)
 
   module _ (m : Machine C) (t : IsTyped s m) where
     its_method : MethodOf s.world m.top.method (placed s ground m t).body (placed s ground m t).code
@@ -273,6 +266,4 @@ module _ {C : Type 0} (s : Surroundings C) (ground : Ground s) (members : HaveMe
   pub runs_safely : (n : ℕ) (m : Machine C) → IsTyped s m → EndsTyped s (steps_of s n m).ends
   unfolding steps_of
   runs_safely zero m t = t.beside
-  runs_safely (suc n) m t =
-      goes_on_safely (room_lacking s (m.top ∷ m.waiting)) (Some (point_of m.top)) (steps_of s n)
-      (defensive_step s m).outcome (runs_safely n) (steps_safely m t)
+  runs_safely (suc n) m t = search (arith, goes_on_safely, steps_safely, runs_safely n)

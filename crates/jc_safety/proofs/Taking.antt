@@ -13,7 +13,6 @@ use Rattle.jc_effects.specs.declared.row.Demand.TheVariants.{Array, Below, Bytes
 use Rattle.jc_effects.specs.declared.row.Given.TheVariants.{Exactly, Nothing}
 use Rattle.jc_store.specs.Heap.{Heap}
 use Rattle.jc_store.specs.declared.kind.ObjectType.{ObjectType}
-use Rattle.jc_store.specs.declared.kind.ObjectType.TheVariants.{BooleanArray, ByteArray, ReferenceArray, ShortArray}
 use Rattle.jc_types.specs.State.{Types}
 use Rattle.jc_types.specs.Ty.{is_below}
 use Rattle.jc_types.specs.declared.ty.Ty.{Ty}
@@ -22,7 +21,7 @@ use Rattle.jc_machine.specs.Reading.{Pointwise}
 use Rattle.jc_machine.specs.Arrays.{is_array_of}
 use Rattle.jc_machine.specs.Lookup.{is_array, is_boolean_array, is_byte_array, is_short_array, leads_to}
 use Rattle.jc_machine.specs.Typed.{HoldTypes, IsOperand, has_type}
-use Rattle.jc_words.specs.Values.{Null, TaggedValue, Word}
+use Rattle.jc_words.specs.Values.{TaggedValue, Word}
 use Rattle.jc_safety.proofs.Lists.{both, reversed_points, take_points}
 use Rattle.jc_safety.proofs.Upward.{holds_below, leads_up, null_leads, operand_up}
 
@@ -147,12 +146,7 @@ module _ (world before : List Shape) (orders : Orders world before) (heap : Heap
   pub operands_meet : (most : ℕ) (row : Row) (s t : Types) (vs : List TaggedValue)
       → HoldTypes world heap vs s.operands → Applied (is_class_below before) most row s t
       → Pointwise (Meets world heap) (reverse (take (length row.operands) vs)) row.operands
-  operands_meet most row s t vs h a =
-      meet_all row.operands (reverse (take (length row.operands) vs)) (taken_by row s)
-      (reversed_points (IsOperand world heap) (take (length row.operands) vs)
-      (take (length row.operands) s.operands)
-      (take_points (IsOperand world heap) (length row.operands) vs s.operands h))
-      a.operands_met
+  operands_meet most row s t vs h a = search (arith, meet_all, reverse, take, length, reversed_points, take_points)
 
 -- ---- operands taken off
 

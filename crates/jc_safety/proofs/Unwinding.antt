@@ -84,9 +84,7 @@ thrown_target world (To.Class c) class e = by_below (is_class_below world c thro
   where
     by_below : (b : Bool) → is_class_below world c throwable ≡ b → cond b (Some c) None ≡ Some class
         → IsThrownClass world (To.Class c) class
-    by_below true below e =
-        let same : c ≡ class = cc in
-        subst (λ (x : ClassName). IsThrownClass world (To.Class c) x) same (record { is = refl; below = below })
+    by_below true below e = search arith
     by_below false below e = absurd cc
 thrown_target world (To.InstanceField c cell declared) class e = absurd cc
 thrown_target world (To.StaticField place declared) class e = absurd cc
@@ -305,8 +303,7 @@ module _ {C : Type 0} (s : Surroundings C) (ground : Ground s) where
     unwinds : (result : Option Ty) (fs : List Frame) → WaitTyped s.world m.heap result fs
         → StaysTyped s (unwound s m number thrown fs)
     unwinds result [] wait = beside
-    unwinds result (f ∷ fs) wait =
-        one_frame f (wait.0).placed fs wait.1 (unwound s m number thrown fs) (unwinds (given_by s.world f) fs wait.1)
+    unwinds result (f ∷ fs) wait = search (arith, one_frame, unwinds (given_by s.world f) fs wait.1)
 
   pub settles : (m : Machine C) (number : ℕ) → MayUnwind s m number → StaysTyped s (settled s (Throws m number))
   settles m number u = grind (arith, one_frame, unwinds)

@@ -7,7 +7,7 @@ use Rattle.jc_classes.specs.Subtype.{IsOrder, is_class_below}
 use Rattle.jc_link.specs.MemberType.{counted}
 use Rattle.jc_names.specs.declared.name.ClassName.{ClassName}
 use Rattle.jc_names.specs.declared.name.ClassName.TheVariants.{Api}
-use Rattle.jc_store.specs.Heap.{Heap, Object}
+use Rattle.jc_store.specs.Heap.{Heap}
 use Rattle.jc_store.specs.declared.kind.ObjectType.{ObjectType}
 use Rattle.jc_store.specs.declared.kind.ObjectType.TheVariants.{Instance, BooleanArray, ByteArray, ShortArray}
 use Rattle.jc_store.specs.declared.kind.ObjectType.TheVariants.{ReferenceArray}
@@ -20,7 +20,7 @@ use Rattle.jc_machine.specs.Lookup.{class_of, component_class, is_boolean_array,
 use Rattle.jc_machine.specs.Lookup.{is_short_array, leads_to}
 use Rattle.jc_machine.specs.Objects.{is_null}
 use Rattle.jc_machine.specs.Typed.{HaveTypes, HoldTypes, IsOperand, has_type}
-use Rattle.jc_words.specs.Values.{Null, TaggedValue, Word}
+use Rattle.jc_words.specs.Values.{TaggedValue}
 use Rattle.jc_safety.proofs.Lists.{both}
 
 -- ---- tests of objects

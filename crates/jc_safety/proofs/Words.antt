@@ -210,11 +210,8 @@ module _ {C : Type 0} (s : Surroundings C) (ground : Ground s) (m : Machine C) (
       → Applied below most (takes (word ∷ word ∷ []) (Exactly types.Word)) state after
       → HoldTypes shapes m.heap vs (drop 2 state.operands) → LeadsTo after next
       → IsSafe s (on_result (here us) r (λ n. gives (here us) (Word n) vs))
-  by_result us vs None after small a rest leads = record {
-    fine = throws_at s ground m t us _ (arithmetic s ground m.heap t.beside.runtime_objects);
-  }
-  by_result us vs (Some n) after small a rest leads =
-      gives_word (word ∷ word ∷ []) us vs n after (small n refl) a rest leads
+  by_result us vs None after small a rest leads = search (arith, throws_at, arithmetic, gives_word)
+  by_result us vs (Some n) after small a rest leads = search (arith, throws_at, arithmetic, gives_word)
 
   pub binary : (operator : BinaryOperator) → Owes (ops.Binary operator)
   unfolding word_effect act_word
@@ -359,8 +356,7 @@ module _ {C : Type 0} (s : Surroundings C) (ground : Ground s) (m : Machine C) (
   -- what holds of each offset of a switch holds of the one that it goes on by
   named : (after : Types) (offsets : List ℤ) (offset : ℤ) → AllByRecursion (BranchesTo after) offsets
       → Contains offsets offset → BranchesTo after offset
-  named after offsets offset each there =
-      All-contains (BranchesTo after) offsets offset (All-from_recursion (BranchesTo after) offsets each) there
+  named after offsets offset each there = grind (arith, All-contains, All-from_recursion)
 
   pub stable_switch : (default low : ℤ) (offsets : List ℤ) → Owes (ops.StableSwitch default low offsets)
   unfolding word_effect act_word

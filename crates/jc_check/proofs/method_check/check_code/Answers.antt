@@ -1,13 +1,11 @@
-use Rattle.std.proofs.Common.{map}
+use Rattle.std.proofs.Common.{map, arith}
 use Rattle.std.proofs.lemmas.Result.{err_from_is_err_and}
 use Rattle.jc_cert.specs.Cert.{stated}
 use Rattle.jc_check.proofs.Verdicts.{accepted, refused, refused_handlers, refused_or_memory, stopped}
 use Rattle.jc_check.proofs.method_check.check_code.Goals as goal
 
 pub returns-in_err-mark_starts-clause-refused : goal.returns-in_err-mark_starts-clause-refused
-returns-in_err-mark_starts-clause-refused g c =
-    let p = err_from_is_err_and c.from_residual.result c.from_residual.ensures.1 in
-    rw (p.1, p.2) (stopped (g.R.CheckRules.rules c.args.rules.now) c.args.method.now (map stated c.args.states.now) c.in_err-mark_starts.field-0.0 c.in_err-mark_starts.ensures.err)
+returns-in_err-mark_starts-clause-refused g c = grind (arith, err_from_is_err_and, stopped, map)
 
 pub returns-in_err-stand_handlers-clause-refused : goal.returns-in_err-stand_handlers-clause-refused
 returns-in_err-stand_handlers-clause-refused g c =

@@ -1,4 +1,4 @@
-use Rattle.std.proofs.Common.{length, refl}
+use Rattle.std.proofs.Common.{length, refl, arith}
 use Rattle.std.proofs.lemmas.Option.{slice_get_read}
 use Rattle.std.proofs.lemmas.Result.{err_from_is_err_and}
 use Rattle.jc_check.specs.FirstFault.{all_handle}
@@ -12,6 +12,4 @@ returns-in_err-handle g c listing table =
     rw (p.1, p.2) (handle_told (g.R.CheckRules.rules c.args.rules.now) c.args.input.now.claims.now c.args.pc c.args.state.now.types c.args.handlers.now c.loop-index.index c.index-handlers-index.result c.in_err-handle.field-0.0 (all_handle (g.R.CheckRules.rules c.args.rules.now) c.args.input.now.claims.now c.args.pc c.args.state.now.types c.args.handlers.now) at (c.in_err-handle.ensures listing table) (c.loop-index.invariant listing table))
 
 pub loop-index-preserved : goal.loop-index-preserved
-loop-index-preserved g c listing table =
-    let at = slice_get_read c.args.handlers.now (length c.args.handlers.now) c.loop-index.index c.index-handlers-index.result refl c.loop-index-test.true c.index-handlers-index.is in
-    handle_on (g.R.CheckRules.rules c.args.rules.now) c.args.input.now.claims.now c.args.pc c.args.state.now.types c.args.handlers.now c.loop-index.index c.index-handlers-index.result (all_handle (g.R.CheckRules.rules c.args.rules.now) c.args.input.now.claims.now c.args.pc c.args.state.now.types c.args.handlers.now) at (c.in_ok-handle.ensures listing table) (c.loop-index.invariant listing table)
+loop-index-preserved g c listing table = grind (arith, slice_get_read, length, handle_on)

@@ -1,18 +1,13 @@
-use Rattle.std.proofs.Common.{sym, ◌∙◌}
+use Rattle.std.proofs.Common.{arith}
 use Rattle.jc_check.proofs.Marking.{none_yet, goes_on, is_done}
 use Rattle.jc_check.proofs.Standing.{no_claims}
 use Rattle.jc_check.proofs.table.mark_starts.Goals as goal
 
 pub loop-pc-init : goal.loop-pc-init
-loop-pc-init g c =
-    none_yet (g.R.CheckRules.rules c.args.rules.now).decoder c.args.method.now.code c.args.marks.now c.requires.none
+loop-pc-init g c = grind (arith, none_yet)
 
 pub loop-pc-preserved : goal.loop-pc-preserved
-loop-pc-preserved g c =
-    let at = rw c.code-code.ensures at (sym c.in-Ok.is ∙ c.next_pc.ensures) in
-    let lt = rw c.code-code.ensures at c.loop-pc-test.true in
-    goes_on (g.R.CheckRules.rules c.args.rules.now).decoder c.listing_laws.ensures c.args.method.now.code c.loop-pc.pc
-    c.in-Ok.behind c.loop-pc.marks lt at c.loop-pc.invariant
+loop-pc-preserved g c = grind (arith, goes_on)
 
 pub returns-clause-ok : goal.returns-clause-ok
 returns-clause-ok g c =

@@ -23,5 +23,4 @@ loop-index-preserved g c =
     )
 
 pub returns-clause-ok : goal.returns-clause-ok
-returns-clause-ok g c listing table =
-    all_states (g.R.CheckRules.rules c.args.rules.now) c.args.method.now listing (map stated c.args.states.now) c.loop-index.index c.loop-index.claims.items c.loop-index.marks (rw length-map (omega (arith, c.loop-index-test.false))) (c.loop-index.invariant.0 listing table)
+returns-clause-ok g c listing table = grind (arith, all_states, map, length-map)

@@ -1,4 +1,4 @@
-use Rattle.std.proofs.Common.{◌-◌, arith}
+use Rattle.std.proofs.Common.{arith}
 use Rattle.jc_natives.proofs.Ranges.{appended}
 use Rattle.jc_natives.proofs.bytes.append_bytes_one_by_one.Goals as goal
 

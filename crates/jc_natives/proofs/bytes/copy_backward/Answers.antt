@@ -1,4 +1,4 @@
-use Rattle.std.proofs.Common.{◌-◌, arith}
+use Rattle.std.proofs.Common.{arith}
 use Rattle.jc_natives.proofs.Ranges.{copied_back}
 use Rattle.jc_natives.proofs.bytes.copy_backward.Goals as goal
 

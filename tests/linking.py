@@ -196,6 +196,31 @@ HIDDEN = package(2, cls('A', package=table('m'), methods=[method(abstract=True)]
 row('an abstract method that only another package sees', HIDDEN, LINKED, package(1, cls('B', Imported(2, 0)), imports=IMPORTS_IT), '13 BadClass 0')
 row('an abstract method that only another package sees, in an abstract class', HIDDEN, LINKED, package(1, cls('B', Imported(2, 0), abstract=True), imports=IMPORTS_IT), LINKED)
 
+# ---- what a class inherits that hangs on a circle: it is refused for that alone, and else the first on the circle is
+
+
+def hanging(below, *circle):
+    """A class below the first of two that are each other's superclass."""
+    first, second = circle
+    return package(1, below, replace(first, above='B', abstract=True), replace(second, above='A', abstract=True))
+
+
+PLAIN = cls('B')
+row('nothing, on a circle', hanging(cls('H', 'A'), cls('A'), PLAIN), '13 BadClass 10')
+row('a table as long as the one on a circle', hanging(cls('H', 'A', public=table(ABOVE, ABOVE, base=1)), BASE, PLAIN), '13 BadClass 14')
+row('a table that is shorter than the one on a circle', hanging(cls('H', 'A', public=table(ABOVE, base=1)), BASE, PLAIN), '13 BadClass 0')
+row('a method of the type that the circle has', hanging(cls('H', 'A', public=table('o', ABOVE, base=1), methods=[method('o')]), BASE, PLAIN), '13 BadClass 14')
+row('a method of another type than the circle has', hanging(cls('H', 'A', public=table('o', ABOVE, base=1), methods=[method('o', takes=(SHORT,))]), BASE, PLAIN), '13 BadClass 0')
+FAR = replace(BASE, name='B')
+row('a method of another type than the far side has', hanging(cls('H', 'A', public=table('o', ABOVE, base=1), methods=[method('o', takes=(SHORT,))]), cls('A'), FAR), '13 BadClass 0')
+row('a method that the near side ends', hanging(cls('H', 'A', public=table('o', base=1), methods=[method('o', takes=(SHORT,))]), cls('A', public=table(ABOVE)), FAR), '13 BadClass 12')
+row('an abstract method on a circle', hanging(cls('H', 'A'), ABSTRACT[0], PLAIN), '13 BadClass 0')
+row('an abstract method on a circle, overridden', hanging(cls('H', 'A', public=table('o', base=1), methods=[method('o')]), ABSTRACT[0], PLAIN), '13 BadClass 12')
+row('an abstract method on a circle, that stays abstract', hanging(cls('H', 'A', abstract=True), ABSTRACT[0], PLAIN), '13 BadClass 10')
+UNSEEN = cls('A', package=table('m'), methods=[method(abstract=True)])
+row('an abstract package-visible method on a circle', hanging(cls('H', 'A'), UNSEEN, PLAIN), '13 BadClass 0')
+row('an abstract package-visible method on a circle, overridden', hanging(cls('H', 'A', package=table('o'), methods=[method('o')]), UNSEEN, PLAIN), '13 BadClass 12')
+
 # ---- interfaces
 
 TAKES = Class('I', interface=True, methods=[method(takes=(SHORT,))])
@@ -219,6 +244,15 @@ row('a row above, and its method below', package(1, TAKES, LISTS, cls('B', 'A', 
 row('a row above, and no method below', package(1, TAKES, LISTS, cls('B', 'A')), '13 BadClass 17')
 ABOVE_IT = implementing(tokens=(9,), abstract=True)
 row('a row above that a nearer one hides', package(1, TAKES, ABOVE_IT, cls('B', 'A', interfaces=[('I', [1])])), '13 BadClass 17')
+
+
+def implementing_on_circle(below, implements):
+    return package(1, TAKES, *hanging(below, implements, PLAIN).classes)
+
+
+row('a row on a circle, and its method below', implementing_on_circle(cls('H', 'A', public=table('p', base=1), methods=[method('p', takes=(SHORT,))]), LISTS), '13 BadClass 13')
+row('a row on a circle whose index leads nowhere', implementing_on_circle(cls('H', 'A'), ABOVE_IT), '13 BadClass 1')
+row('a row on a circle whose index leads nowhere, in an abstract class', implementing_on_circle(cls('H', 'A', abstract=True), ABOVE_IT), '13 BadClass 11')
 row('Shareable, which has no methods', of_one_class(cls('A', interfaces=[(SHAREABLE, [])])), LINKED)
 
 # ---- static fields

@@ -1,6 +1,6 @@
 -- Look-ups at all virtual tokens by one walk along superclasses.
 use Rattle.std.proofs.Common.{◌≡◌, ℕ, suc, ◌+◌, ◌-◌, ◌<◌, ◌≤◌, ◌⊎◌, inl, inr, Bool, true, false, List}
-use Rattle.std.proofs.Common.{Option, Some, None, replicate, refl, sym, ap, subst, ◌∙◌, arith, lt-ltb, slice_index_or}
+use Rattle.std.proofs.Common.{Option, Some, None, replicate, refl, sym, ap, subst, ◌∙◌, arith, slice_index_or}
 use Rattle.std.proofs.lemmas.Bool.{cases_lt}
 use Rattle.std.proofs.lemmas.List.{get_or-replicate}
 use Rattle.std.specs.Option.{option_and_then, option_map_or}
@@ -9,8 +9,7 @@ use Rattle.jc_cap_desc.specs.Shape.{ClassShape, Shape}
 use Rattle.jc_classes.proofs.Rounds.{from_start, walk_on, walk_round}
 use Rattle.jc_classes.proofs.Standing.{true_false}
 use Rattle.jc_classes.proofs.Walking.{all_steps, ends, gives, no_steps}
-use Rattle.jc_classes.specs.Methods.{AreMethodsOf, found_at, virtual_method_of, virtual_visit}
-use Rattle.jc_classes.specs.PrivateTables.{IsTabled, Tabled, entry_in}
+use Rattle.jc_classes.specs.Methods.{found_at, virtual_method_of, virtual_visit}
 use Rattle.jc_classes.specs.PrivateWalk.{IsOnWalk, step_from, step_of, step_to}
 use Rattle.jc_classes.specs.PrivateWalked.{asks_above, found_behind, IsAsked, IsSameAt, IsVisited}
 use Rattle.jc_classes.specs.Walk.{most_classes, walk}
@@ -23,24 +22,6 @@ use Rattle.jc_classes.specs.declared.walk.Step.TheVariants.{Ends, Gives}
 use Rattle.jc_classes.specs.declared.walk.Visit.{Visit}
 use Rattle.jc_classes.specs.declared.walk.Visit.TheVariants.{Above, Has, Nothing}
 
--- ---- a public method is found whichever package asks
-
-same_above : {A B : Type 0} (f g : A → Option B) (o : Option A) → ((a : A) → f a ≡ g a)
-    → option_and_then f o ≡ option_and_then g o
-same_above f g o h1 = grind arith
-
-walk_same : (world : List Shape) (one other token n : ℕ) (c : ClassName) → token < 128
-    → walk (virtual_visit world one token) world n c ≡ walk (virtual_visit world other token) world n c
-walk_same world one other token n c h1 = grind (arith, lt-ltb, same_above)
-
-pub asked_by_any : (world : List Shape) (c : ClassName) (one other token : ℕ) → token < 128
-    → virtual_method_of world c token one ≡ virtual_method_of world c token other
-asked_by_any world c one other token less = walk_same world one other token _ c less
-
-pub tabled_for_any : (world : List Shape) (c : ClassName) (table : Tabled) (asker token : ℕ) → IsTabled world c table
-    → token < 128 → entry_in table token asker ≡ virtual_method_of world c token 0
-tabled_for_any world c table asker token is less = grind (arith, lt-ltb)
-
 -- ---- lists of methods
 
 pub repeated : {A : Type 0} (a d : A) (n i : ℕ) → i < n → slice_index_or (replicate n a) i d ≡ a
@@ -49,54 +30,54 @@ repeated a d n i less = get_or-replicate n i a d less
 -- ---- one class more
 
 -- a token at which a walk has n classes to go
-module _ (world : List Shape) (asker : ℕ) (anchor at : ClassName) (n : ℕ) (c : ClassName) (old : Walked) (token : ℕ)
-    (is : IsAsked world asker anchor at n c old token) where
+module _ (world : List Shape) (asker : ℕ) (anchor at : ClassName) (n : ℕ) (c : ClassName) (old : Walked)
+    (place token : ℕ) (is : IsAsked world asker anchor at n c old place token) where
   abbrev look : ClassName → ClassShape → Visit MethodName
   look = virtual_visit world asker token
 
   -- what is found where a walk from here finds nothing
-  known_at_last : (b : Bool) → asks_above old token ≡ b
+  known_at_last : (b : Bool) → asks_above old place ≡ b
       → (IsOnWalk (walk look world) anchor at n (virtual_method_of world c token asker)
       → None ≡ virtual_method_of world c token asker)
-      → found_at old.methods token ≡ virtual_method_of world c token asker
+      → found_at old.methods place ≡ virtual_method_of world c token asker
   known_at_last b h1 h2 = grind arith
 
-  pub without_steps : n ≡ 0 → found_at old.methods token ≡ virtual_method_of world c token asker
+  pub without_steps : n ≡ 0 → found_at old.methods place ≡ virtual_method_of world c token asker
   without_steps e = grind (arith, known_at_last, no_steps)
 
   -- one class was asked, and m are left
   module _ (m : ℕ) (new : Walked) (one : n ≡ suc m) where
-    known_has : (a : MethodName) (b : Bool) → asks_above old token ≡ b → step_of look world at ≡ Gives a
-        → found_behind (Has a) b (found_at old.methods token) ≡ virtual_method_of world c token asker
+    known_has : (a : MethodName) (b : Bool) → asks_above old place ≡ b → step_of look world at ≡ Gives a
+        → found_behind (Has a) b (found_at old.methods place) ≡ virtual_method_of world c token asker
     known_has a true e s = gives look world _ n m at one (is.goes e).so_far a s
     known_has a false e s = is.known e
 
-    known_nothing : step_of look world at ≡ Ends → found_at old.methods token ≡ virtual_method_of world c token asker
+    known_nothing : step_of look world at ≡ Ends → found_at old.methods place ≡ virtual_method_of world c token asker
     known_nothing s = grind (arith, known_at_last, ends)
 
-    ends_at : (v : Visit MethodName) → step_of look world at ≡ step_from world at v → IsVisited v old new token
-        → superclass_of world at ≡ None → found_at new.methods token ≡ virtual_method_of world c token asker
+    ends_at : (v : Visit MethodName) → step_of look world at ≡ step_from world at v → IsVisited v old new place
+        → superclass_of world at ≡ None → found_at new.methods place ≡ virtual_method_of world c token asker
     ends_at v h1 h2 h3 = grind (arith, known_has, known_nothing)
 
     module _ (next : ClassName) where
-      round_at : (v : Visit MethodName) → step_of look world at ≡ step_from world at v → IsVisited v old new token
+      round_at : (v : Visit MethodName) → step_of look world at ≡ step_from world at v → IsVisited v old new place
           → superclass_of world at ≡ Some next → is_same_name next anchor ≡ true
-          → found_at new.methods token ≡ virtual_method_of world c token asker
-      round_at (Has a) s visited up round = visited.found ∙ known_has a (asks_above old token) refl s
+          → found_at new.methods place ≡ virtual_method_of world c token asker
+      round_at (Has a) s visited up round = visited.found ∙ known_has a (asks_above old place) refl s
       round_at Nothing s visited up round = visited.found ∙ known_nothing s
       round_at Above s visited up round =
           visited.found
-          ∙ known_at_last (asks_above old token) refl
+          ∙ known_at_last (asks_above old place) refl
           (λ goes. walk_round look world anchor at next n m _ one goes (s ∙ ap step_to up) round)
 
       goes_to : (kept : ClassName) (v : Visit MethodName) → step_of look world at ≡ step_from world at v
-          → IsVisited v old new token → superclass_of world at ≡ Some next → (kept ≡ next) ⊎ (kept ≡ anchor)
-          → IsAsked world asker kept next m c new token
+          → IsVisited v old new place → superclass_of world at ≡ Some next → (kept ≡ next) ⊎ (kept ≡ anchor)
+          → IsAsked world asker kept next m c new place token
       goes_to kept (Has a) s visited up one_of =
           record {
             none = λ e. absurd (true_false (sym e ∙ visited.asks));
             goes = λ e. absurd (true_false (sym e ∙ visited.asks));
-            known = λ e. visited.found ∙ known_has a (asks_above old token) refl s;
+            known = λ e. visited.found ∙ known_has a (asks_above old place) refl s;
           }
       goes_to kept Nothing s visited up one_of =
           record {
@@ -113,17 +94,17 @@ module _ (world : List Shape) (asker : ℕ) (anchor at : ClassName) (n : ℕ) (c
           }
 
     -- what asking the class leaves: each token is asked if a class stands there, and else nothing changes
-    module _ (visited : (k : ClassShape) → class_at world at ≡ Some k → IsVisited (look at k) old new token)
+    module _ (visited : (k : ClassShape) → class_at world at ≡ Some k → IsVisited (look at k) old new place)
         (unchanged : class_at world at ≡ None → new ≡ old) where
       at_class : (o : Option ClassShape) → class_at world at ≡ o
           → step_of look world at ≡ option_map_or (λ k. step_from world at (look at k)) o Ends
       at_class o e = ap (λ p. option_map_or (λ k. step_from world at (look at k)) p Ends) e
 
-      pub ends_here : superclass_of world at ≡ None → found_at new.methods token ≡ virtual_method_of world c token asker
+      pub ends_here : superclass_of world at ≡ None → found_at new.methods place ≡ virtual_method_of world c token asker
       ends_here up = by_class (class_at world at) refl
         where
           by_class : (o : Option ClassShape) → class_at world at ≡ o
-              → found_at new.methods token ≡ virtual_method_of world c token asker
+              → found_at new.methods place ≡ virtual_method_of world c token asker
           by_class o h1 = grind (arith, known_nothing, at_class, ends_at)
 
       stands : (next : ClassName) → superclass_of world at ≡ Some next → (k : ClassShape) × (class_at world at ≡ Some k)
@@ -137,28 +118,21 @@ module _ (world : List Shape) (asker : ℕ) (anchor at : ClassName) (n : ℕ) (c
           by_class (Some k) e = (k, e)
 
       pub comes_round : (next : ClassName) → superclass_of world at ≡ Some next → is_same_name next anchor ≡ true
-          → found_at new.methods token ≡ virtual_method_of world c token asker
+          → found_at new.methods place ≡ virtual_method_of world c token asker
       comes_round next up round =
           let k = stands next up in
           round_at next (look at k.0) (at_class (Some k.0) k.1) (visited k.0 k.1) up round
 
       pub goes_on : (next kept : ClassName) → superclass_of world at ≡ Some next → (kept ≡ next) ⊎ (kept ≡ anchor)
-          → IsAsked world asker kept next m c new token
+          → IsAsked world asker kept next m c new place token
       goes_on next kept up one_of =
           let k = stands next up in
           goes_to next kept (look at k.0) (at_class (Some k.0) k.1) (visited k.0 k.1) up one_of
 
--- ---- all tokens
-
-pub of_all : (world : List Shape) (c : ClassName) (asker : ℕ) (methods : List (Option MethodName))
-    → ((t : ℕ) → t < 256 → found_at methods t ≡ virtual_method_of world c t asker)
-    → AreMethodsOf world c asker methods
-of_all world c asker methods all = grind (arith, asked_by_any)
-
-pub begins : (world : List Shape) (asker : ℕ) (c : ClassName) (walked : Walked) (token : ℕ)
-    → asks_above walked token ≡ true → found_at walked.methods token ≡ None
-    → IsAsked world asker c c (most_classes - 0) c walked token
-begins world asker c walked token asks none = grind (arith, from_start, all_steps, true_false)
+pub begins : (world : List Shape) (asker : ℕ) (c : ClassName) (walked : Walked)
+    (place token : ℕ) → asks_above walked place ≡ true → found_at walked.methods place ≡ None
+    → IsAsked world asker c c (most_classes - 0) c walked place token
+begins world asker c walked place token asks none = grind (arith, from_start, all_steps, true_false)
 
 -- ---- one token more
 

@@ -1,13 +1,11 @@
 -- How far tables go.
-use Rattle.std.proofs.Common.{◌≡◌, ℕ, ◌+◌, ◌-◌, ◌<◌, ◌≤◌, true, false, List, length}
-use Rattle.std.proofs.Common.{None, sym, ◌∙◌, arith, lt-ltb, le-ltb}
+use Rattle.std.proofs.Common.{◌≡◌, ℕ, ◌+◌, ◌-◌, ◌<◌, ◌≤◌, List, length}
+use Rattle.std.proofs.Common.{None, arith, lt-ltb, le-ltb}
 use Rattle.std.proofs.lemmas.Option.{slice_get_past}
 use Rattle.jc_cap_desc.specs.Shape.{Shape}
-use Rattle.jc_classes.specs.Methods.{package_visible, virtual_method_of}
+use Rattle.jc_classes.specs.Methods.{FindsNothingElse, package_visible, virtual_method_of}
 use Rattle.jc_classes.specs.PrivatePlaces.{place_at}
 use Rattle.jc_classes.specs.PrivateTables.{IsTabled, Tabled, row_at}
-use Rattle.jc_classes.specs.Subtype.{has_whole_chain}
-use Rattle.jc_classes.proofs.Standing.{true_false}
 use Rattle.jc_names.specs.declared.name.ClassName.{ClassName}
 
 module _ (world : List Shape) (c : ClassName) (table : Tabled) (is : IsTabled world c table) where
@@ -19,7 +17,7 @@ module _ (world : List Shape) (c : ClassName) (table : Tabled) (is : IsTabled wo
       → virtual_method_of world c token place ≡ place_at (row_at table.visible place) (token - package_visible)
   visible_at token place least less = grind (arith, le-ltb)
 
-  pub no_asker : (token place : ℕ) → length table.visible ≤ place → 128 ≤ token → token < 256
+  no_asker : (token place : ℕ) → length table.visible ≤ place → 128 ≤ token → token < 256
       → virtual_method_of world c token place ≡ None
   no_asker token place past least less = grind (arith, visible_at, slice_get_past)
 
@@ -28,6 +26,6 @@ module _ (world : List Shape) (c : ClassName) (table : Tabled) (is : IsTabled wo
       → (token : ℕ) → count ≤ token → token < 128 → virtual_method_of world c (128 + token) place ≡ None
   none_visible count place none token past less = grind (arith, visible_at)
 
-pub no_table : (world : List Shape) (c : ClassName) → has_whole_chain world c ≡ true → has_whole_chain world c ≡ false
-    → (token place : ℕ) → virtual_method_of world c token place ≡ None
-no_table world c whole not_whole token place = absurd (true_false (sym whole ∙ not_whole))
+  -- a class with a table finds nothing for a package behind its rows
+  pub none_else : FindsNothingElse world c (record { first = 0; end = length table.visible })
+  none_else token place else least less = grind (arith, no_asker)

@@ -10,6 +10,7 @@ mod Walking
 mod Standing
 mod Below
 mod Rounds
+mod Askers
 mod Asking
 mod Superclasses
 mod Meeting

@@ -1,6 +1,7 @@
 -- Look-ups of methods (Java Card Virtual Machine Specification, Linking; invokevirtual, invokeinterface).
-use Rattle.std.specs.Prelude.{◌≡◌, ℕ, ◌-◌, ◌==◌, ◌<◌, Bool, false, ◌||◌, List, length, Option, Some, None, slice_get, nat_lt}
-use Rattle.std.specs.Prelude.{is_some, slice_index_or, if◌then◌else◌}
+use Rattle.std.specs.Prelude.{◌≡◌, ℕ, ◌+◌, ◌-◌, ◌==◌, ◌<◌, ◌≤◌, Bool, false, ◌||◌, ◌&&◌, List, length, Option, Some}
+use Rattle.std.specs.Prelude.{None}
+use Rattle.std.specs.Prelude.{nat_le, slice_get, nat_lt, is_some, slice_index_or, if◌then◌else◌}
 use Rattle.std.specs.List.{find, list_any}
 use Rattle.std.specs.Option.{option_and_then, option_map_or}
 use Rattle.jc_cap.specs.ClassComponent.{is_class}
@@ -16,6 +17,7 @@ use Rattle.jc_classes.specs.World.{class_named}
 use Rattle.jc_names.specs.declared.name.ClassName.{ClassName}
 use Rattle.jc_classes.specs.declared.walk.Visit.{Visit}
 use Rattle.jc_classes.specs.declared.walk.Visit.TheVariants.{Has, Nothing, Above}
+use Rattle.jc_classes.specs.declared.extent.Places.{Places}
 use Rattle.jc_names.specs.declared.name.MethodName.{MethodName}
 use Rattle.jc_names.specs.declared.name.MethodName.TheVariants.{Api, Loaded}
 
@@ -101,11 +103,19 @@ public_method_of world c token = if nat_lt token package_visible then virtual_me
 abbrev pub found_at : List (Option MethodName) → ℕ → Option MethodName
 found_at methods token = slice_index_or methods token None
 
--- a list has what a class finds at each token, asked for the package that stands there; a public method is found
--- whichever package asks
-pub record AreMethodsOf (world : List Shape) (c : ClassName) (asker : ℕ) (methods : List (Option MethodName)) : Type 0 where
-  pub all : (token : ℕ) → token < 256 → found_at methods token ≡ virtual_method_of world c token asker
-  pub public : (token : ℕ) → token < package_visible → found_at methods token ≡ virtual_method_of world c token 0
+-- a list has what a class finds at the 128 tokens from one on, asked for the package that stands there
+abbrev pub AreMethodsOf : List Shape → ClassName → ℕ → ℕ → List (Option MethodName) → Type 0
+AreMethodsOf world c first asker methods =
+    (i : ℕ) → i < 128 → found_at methods i ≡ virtual_method_of world c (first + i) asker
+
+-- whether a place of a package is among those from the first to in front of the end
+abbrev pub is_among : Places → ℕ → Bool
+is_among places place = nat_le places.first place && nat_lt place places.end
+
+-- no package that stands elsewhere finds a package-visible method of a class
+abbrev pub FindsNothingElse : List Shape → ClassName → Places → Type 0
+FindsNothingElse world c places = (token place : ℕ) → is_among places place ≡ false → package_visible ≤ token
+    → token < 256 → virtual_method_of world c token place ≡ None
 
 -- the method of an object's class that an interface's token leads to: the nearest class that lists the interface says
 -- under which virtual token, and that is looked up from the object's class

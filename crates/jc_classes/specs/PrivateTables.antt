@@ -9,8 +9,8 @@ use Rattle.jc_cap.specs.declared.record.VirtualTable.{VirtualTable}
 use Rattle.jc_cap_desc.specs.Shape.{Shape}
 use Rattle.jc_classes.specs.Limits.{IsSmall}
 use Rattle.jc_classes.specs.Listed.{AreListedBy, ListNothing, Listed, indexes_in}
-use Rattle.jc_classes.specs.Methods.{record_visit, package_visible, virtual_method_of, interface_visit, indexes_visit}
-use Rattle.jc_classes.specs.Methods.{row_for, table_visit}
+use Rattle.jc_classes.specs.Methods.{record_visit, package_visible, virtual_method_of, interface_visit}
+use Rattle.jc_classes.specs.Methods.{table_visit}
 use Rattle.jc_classes.specs.PrivatePlaces.{place_at}
 use Rattle.jc_classes.specs.PrivateSearch.{class_placed}
 use Rattle.jc_classes.specs.Subtype.{comes_to_end, has_whole_chain}
@@ -107,11 +107,6 @@ AreVisibleOver world home table above made =
 -- the same rows, and empty ones behind them
 abbrev pub AreSameRows : List (List (Option MethodName)) → List (List (Option MethodName)) → Type 0
 AreSameRows old new = (asker : ℕ) → row_at new asker ≡ row_at old asker
-
--- and for an interface
-abbrev pub indexes_made : List Shape → Option Tabled → ℕ → List Implemented → ClassName → Option (List ℕ)
-indexes_made world above home rows interface =
-    found_from (indexes_visit (row_for world interface home rows)) (indexes_in (listed_above above) interface)
 
 -- a row of a class's record, by the interface that it names
 abbrev pub listed_row : List Shape → ℕ → Implemented → Option Listed

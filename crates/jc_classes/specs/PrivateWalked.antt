@@ -1,5 +1,5 @@
--- Private. Look-ups at all virtual tokens by one walk along superclasses.
-use Rattle.std.specs.Prelude.{◌≡◌, ℕ, Bool, true, false, List, length, Option, Some, None, slice_index_or}
+-- Private. Look-ups at 128 virtual tokens by one walk along superclasses.
+use Rattle.std.specs.Prelude.{◌≡◌, ℕ, ◌<◌, ◌≤◌, Bool, true, false, List, length, Option, Some, None, slice_index_or}
 use Rattle.jc_cap_desc.specs.Shape.{Shape}
 use Rattle.jc_classes.specs.Methods.{found_at, virtual_method_of, virtual_visit}
 use Rattle.jc_classes.specs.PrivateWalk.{IsOnWalk}
@@ -14,10 +14,12 @@ use Rattle.jc_classes.specs.declared.walk.Visit.TheVariants.{Has, Nothing, Above
 abbrev pub asks_above : Walked → ℕ → Bool
 asks_above walked token = slice_index_or walked.asks token false
 
--- there is a place for each token
+-- there is a place for each token, and from the one told on none is still asked for
 pub record IsFull (walked : Walked) : Type 0 where
-  pub methods : length walked.methods ≡ 256
-  pub asks : length walked.asks ≡ 256
+  pub methods : length walked.methods ≡ 128
+  pub asks : length walked.asks ≡ 128
+  pub most : walked.most ≤ 128
+  pub none : (place : ℕ) → walked.most ≤ place → place < 128 → asks_above walked place ≡ false
 
 -- behind a class that was asked at a token
 abbrev pub asks_behind : Visit MethodName → Bool → Bool
@@ -39,10 +41,11 @@ pub record IsSameAt (old new : Walked) (token : ℕ) : Type 0 where
   pub asks : asks_above new token ≡ asks_above old token
   pub found : found_at new.methods token ≡ found_at old.methods token
 
--- a token on the way up, with so many classes to go: nothing is found yet, or the whole answer
+-- a token on the way up, with so many classes to go: nothing is found yet, or the whole answer. Its place is told
+-- beside it
 pub record IsAsked (world : List Shape) (asker : ℕ) (anchor at : ClassName) (n : ℕ) (c : ClassName) (walked : Walked)
-    (token : ℕ) : Type 0 where
-  pub none : asks_above walked token ≡ true → found_at walked.methods token ≡ None
-  pub goes : asks_above walked token ≡ true
+    (place token : ℕ) : Type 0 where
+  pub none : asks_above walked place ≡ true → found_at walked.methods place ≡ None
+  pub goes : asks_above walked place ≡ true
       → IsOnWalk (walk (virtual_visit world asker token) world) anchor at n (virtual_method_of world c token asker)
-  pub known : asks_above walked token ≡ false → found_at walked.methods token ≡ virtual_method_of world c token asker
+  pub known : asks_above walked place ≡ false → found_at walked.methods place ≡ virtual_method_of world c token asker

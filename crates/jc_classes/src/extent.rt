@@ -2,13 +2,43 @@
 
 ghost use Rattle.std.specs.Prelude.{◌≡◌, ◌+◌, ◌≤◌, ◌<◌, ℕ, None, false, true, IfSome, IfNone};
 ghost use Rattle.jc_classes.specs.Listed.{AreListedBy, ListNothing};
-ghost use Rattle.jc_classes.specs.Methods.{virtual_method_of};
+ghost use Rattle.jc_classes.specs.Methods.{FindsNothingElse, is_among, virtual_method_of};
 ghost use Rattle.jc_classes.specs.Subtype.{has_whole_chain};
 
 use crate::table::ClassTable;
 use crate::tables::ListedInterface;
+use crate::walk::{MOST_CLASSES, anchor_behind};
 use jc_base::Shared;
-use jc_names::ClassName;
+use jc_names::{ClassName, PackagePlace};
+
+/// Places of packages, from the first to in front of the end.
+#[derive(Clone, Copy)]
+pub struct Places {
+    /// The first of them.
+    pub first: usize,
+    /// The one behind the last.
+    pub end: usize,
+}
+
+impl Places {
+    /// These and one more, and all between.
+    fn and(self, place: PackagePlace) -> Places
+        ensures has { is_among result place ≡ true }
+        ensures more { (other : ℕ) → is_among result other ≡ false → is_among self other ≡ false }
+    {
+        Places {
+            first: self.first.min(place.index()),
+            end: self.end.max(place.index() + 1),
+        }
+    }
+
+    /// Whether a place is one of these.
+    pub fn has(self, place: usize) -> bool
+        ensures { result ≡ is_among self place }
+    {
+        self.first <= place && place < self.end
+    }
+}
 
 impl ClassTable {
     /// A number of tokens, at most 128: no public token from there on leads to a virtual method of a class.
@@ -24,17 +54,41 @@ impl ClassTable {
         }
     }
 
-    /// A number of places of packages: no package from there on finds a package-visible method of a class whose
-    /// superclass chain comes to its end.
-    #[tactic(auto, using(crate::proofs::Extending::no_table))]
-    pub fn visible_places(&self, class: ClassName) -> usize
-        requires whole { has_whole_chain self.now class ≡ true }
-        ensures none { (token place : ℕ) → result ≤ place → 128 ≤ token → token < 256
-            → virtual_method_of self.now class token place ≡ None }
+    /// Where the packages of a class and of its superclasses stand, by a walk along these.
+    fn walked_places(&self, class: ClassName) -> Places
+        ensures { FindsNothingElse self.now class result }
+    {
+        let mut places = Places {
+            first: class.home().index(),
+            end: class.home().index(),
+        };
+        let mut at = class;
+        let mut anchor = class;
+        for steps in 0..MOST_CLASSES {
+            places = places.and(at.home());
+            match self.superclass_of(at) {
+                Some(above) => at = above,
+                None => return places,
+            }
+            if at.is(anchor) {
+                return places;
+            }
+            anchor = anchor_behind(steps + 1, at, anchor);
+        }
+        places
+    }
+
+    /// Places of packages: no other package finds a package-visible method of a class.
+    #[tactic(auto, using(crate::proofs::Extending::none_else))]
+    pub fn visible_places(&self, class: ClassName) -> Places
+        ensures { FindsNothingElse self.now class result }
     {
         match self.table_of(class) {
-            Some(table) => table.visible_count(),
-            None => 0,
+            Some(table) => Places {
+                first: 0,
+                end: table.visible_count(),
+            },
+            None => self.walked_places(class),
         }
     }
 

@@ -1,6 +1,6 @@
-//! What the look-ups from a class find at all virtual tokens, gathered at once.
+//! What the look-ups from a class find at all public tokens, or at all package-visible ones, gathered at once.
 
-ghost use Rattle.std.specs.Prelude.{◌≡◌, ◌⊎◌, ◌<◌, ℕ, List, None, Some, true};
+ghost use Rattle.std.specs.Prelude.{◌≡◌, ◌⊎◌, ◌+◌, ◌<◌, ◌≤◌, ℕ, List, None, Some, false, true, slice_index_or};
 ghost use Rattle.jc_cap_desc.specs.Shape.{ClassShape, Shape};
 ghost use Rattle.jc_classes.specs.Methods.{AreMethodsOf, found_at, record_visit, virtual_visit};
 ghost use Rattle.jc_classes.specs.PrivateShape.{record_of};
@@ -9,6 +9,7 @@ ghost use Rattle.jc_classes.specs.PrivateWalked.{asks_above, IsFull, IsSameAt, I
 ghost use Rattle.jc_classes.specs.World.{class_at, superclass_of};
 ghost use Rattle.jc_classes.specs.declared.walk.Visit.TheVariants.{Above};
 
+use crate::methods::PACKAGE_VISIBLE;
 use crate::shape::Body;
 use crate::shapes::Shapes;
 use crate::table::ClassTable;
@@ -17,13 +18,16 @@ use crate::walk::{MOST_CLASSES, Visit, anchor_behind};
 use jc_names::{ClassName, MethodName, PackagePlace};
 use std::marker::Model;
 
-/// How many virtual tokens there are.
-const TOKENS: u16 = 256;
+/// How many public tokens there are, and how many package-visible ones.
+const TOKENS: u8 = 128;
+/// The first public token.
+const PUBLIC: u8 = 0;
 
-/// Methods by their virtual tokens, the package-visible ones as one package finds them.
+/// Methods by their public tokens, or by their package-visible ones, counted from the first of these, as one package
+/// finds them.
 #[derive(Drop)]
 pub struct FoundMethods {
-    methods: [Option<MethodName>; 256],
+    methods: [Option<MethodName>; 128],
 }
 
 impl Model for FoundMethods {
@@ -36,42 +40,46 @@ impl Model for FoundMethods {
 }
 
 impl FoundMethods {
-    /// The method at a token.
-    pub fn at(&self, token: u8) -> Option<MethodName>
-        ensures { result ≡ found_at self.now token }
+    /// The method at a place.
+    pub fn at(&self, place: u8) -> Option<MethodName>
+        ensures { result ≡ found_at self.now place }
     {
-        self.methods[usize::from(token)]
+        *self.methods.get(usize::from(place))?
     }
 }
 
 /// What a walk has found so far, and at which tokens the superclass is still to be asked.
 #[derive(Drop)]
 pub(crate) struct Walked {
-    methods: [Option<MethodName>; 256],
-    asks: [bool; 256],
+    methods: [Option<MethodName>; 128],
+    asks: [bool; 128],
+    most: u8,
 }
 
 impl Walked {
     /// Nothing was asked yet.
     fn new() -> Walked
         ensures full { IsFull result }
-        ensures asks { (token : ℕ) → token < 256 → asks_above result token ≡ true }
-        ensures none { (token : ℕ) → token < 256 → found_at result.methods token ≡ None }
+        ensures asks { (token : ℕ) → token < 128 → asks_above result token ≡ true }
+        ensures none { (token : ℕ) → token < 128 → found_at result.methods token ≡ None }
     {
         Walked {
-            methods: [None; 256],
-            asks: [true; 256],
+            methods: [None; 128],
+            asks: [true; 128],
+            most: TOKENS,
         }
     }
 
-    /// Puts what a class says at a token, if it is still asked for there.
-    fn put(&mut self, token: u8, visit: Visit<MethodName>)
-        requires { IsFull self.old }
+    /// Puts what a class says at a place, if it is still asked for there.
+    fn put(&mut self, place: u8, visit: Visit<MethodName>)
+        requires place { place < 128 }
+        requires full { IsFull self.old }
         ensures full { IsFull self.new }
-        ensures here { IsVisited visit self.old self.new token }
-        ensures others { (other : ℕ) → (other < token) ⊎ (token < other) → IsSameAt self.old self.new other }
+        ensures most { self.new.most ≡ self.old.most }
+        ensures here { IsVisited visit self.old self.new place }
+        ensures others { (other : ℕ) → (other < place) ⊎ (place < other) → IsSameAt self.old self.new other }
     {
-        let place = usize::from(token);
+        let place = usize::from(place);
         match visit {
             Visit::Above => {}
             Visit::Nothing => self.asks[place] = false,
@@ -85,75 +93,113 @@ impl Walked {
     }
 }
 
-/// Whether a record leaves each token to the superclass, asked for the package that stands there.
-fn passes_all(asker: usize, home: PackagePlace, body: &Body) -> bool
-    ensures { result ≡ true
-        → (world : List Shape) (token : ℕ) → record_visit world asker token home (record_of body.now) ≡ Above }
+/// A number of the first places: of these, none from there on is still asked for.
+fn still_asked(asks: &[bool; 128], count: u8) -> u8
+    requires { count ≤ 128 }
+    ensures most { result ≤ count }
+    ensures none { (i : ℕ) → result ≤ i → i < count → slice_index_or asks.now i false ≡ false }
+{
+    for less in 0..count {
+        let most = count - less;
+        if asks[usize::from(most - 1)] {
+            return most;
+        }
+    }
+    0
+}
+
+/// Whether a record leaves the 128 tokens from one on to the superclass, asked for the package that stands there.
+fn passes_all(first: u8, asker: usize, home: PackagePlace, body: &Body) -> bool
+    requires { (first ≡ 0) ⊎ (first ≡ 128) }
+    ensures { result ≡ true → (world : List Shape) (i : ℕ) → i < 128
+        → record_visit world asker (first + i) home (record_of body.now) ≡ Above }
 {
     match body {
         Body::Interface(_) => false,
         Body::Class(class) => {
-            class.public_methods.methods.len() == 0
-                && (home.index() != asker || class.package_methods.methods.len() == 0)
+            if first == PUBLIC {
+                class.public_methods.methods.len() == 0
+            } else {
+                home.index() != asker || class.package_methods.methods.len() == 0
+            }
         }
     }
 }
 
-/// The methods of a class's table, as the package that stands there finds them.
-fn tabled_methods(table: &MethodTable, asker: usize) -> FoundMethods
-    ensures { (token : ℕ) → token < 256 → found_at result token ≡ entry_in table.now token asker }
+/// The methods of a class's table at the 128 tokens from one on, as the package that stands there finds them.
+fn tabled_methods(table: &MethodTable, first: u8, asker: usize) -> FoundMethods
+    requires { first ≤ 128 }
+    ensures { (i : ℕ) → i < 128 → found_at result i ≡ entry_in table.now (first + i) asker }
 {
-    let mut methods = [None; 256];
-    for token in 0..TOKENS {
-        methods[usize::from(token)] = table.method(token as u8, asker);
+    let mut methods = [None; 128];
+    for place in 0..TOKENS {
+        methods[usize::from(place)] = table.method(first + place, asker);
     }
     FoundMethods { methods }
 }
 
 impl Shapes {
-    /// Asks a record at each token, for the package that stands there.
-    fn ask_record(&self, asker: usize, home: PackagePlace, body: &Body, walked: &mut Walked)
-        requires { IsFull walked.old }
+    /// Asks a record at the 128 tokens from one on, for the package that stands there.
+    fn ask_record(
+        &self,
+        first: u8,
+        asker: usize,
+        home: PackagePlace,
+        body: &Body,
+        walked: &mut Walked,
+    )
+        requires first { (first ≡ 0) ⊎ (first ≡ 128) }
+        requires full { IsFull walked.old }
         ensures full { IsFull walked.new }
-        ensures each { (token : ℕ) → token < 256
-            → IsVisited (record_visit self.now asker token home (record_of body.now)) walked.old walked.new token }
+        ensures each { (i : ℕ) → i < 128
+            → IsVisited (record_visit self.now asker (first + i) home (record_of body.now)) walked.old walked.new i }
     {
-        if passes_all(asker, home, body) {
+        if passes_all(first, asker, home, body) {
             return;
         }
-        for token in 0..TOKENS {
-            let visit = self.record_visit(asker, token as u8, home, body);
-            walked.put(token as u8, visit);
+        let count = walked.most;
+        for place in 0..count {
+            let visit = self.record_visit(asker, first + place, home, body);
+            walked.put(place, visit);
         }
+        walked.most = still_asked(&walked.asks, count);
     }
 }
 
 impl ClassTable {
-    /// Asks a class at each token. What is above it, if a class stands there.
-    fn ask_class(&self, at: ClassName, asker: usize, walked: &mut Walked) -> Option<ClassName>
-        requires { IsFull walked.old }
+    /// Asks a class at the 128 tokens from one on. What is above it, if a class stands there.
+    fn ask_class(
+        &self,
+        at: ClassName,
+        first: u8,
+        asker: usize,
+        walked: &mut Walked,
+    ) -> Option<ClassName>
+        requires first { (first ≡ 0) ⊎ (first ≡ 128) }
+        requires full { IsFull walked.old }
         ensures full { IsFull walked.new }
         ensures above { result ≡ superclass_of self.now at }
-        ensures each { (token : ℕ) → token < 256 → (k : ClassShape) → class_at self.now at ≡ Some k
-            → IsVisited (virtual_visit self.now asker token at k) walked.old walked.new token }
+        ensures each { (i : ℕ) → i < 128 → (k : ClassShape) → class_at self.now at ≡ Some k
+            → IsVisited (virtual_visit self.now asker (first + i) at k) walked.old walked.new i }
         ensures none { class_at self.now at ≡ None → walked.new ≡ walked.old }
     {
         let found = self.class_at(at)?;
         self.shapes
-            .ask_record(asker, at.home(), &found.body, walked);
+            .ask_record(first, asker, at.home(), &found.body, walked);
         self.superclass_of(at)
     }
 
-    /// What a class finds at each token, by a walk along the superclasses. Where it comes again to a class that it
-    /// remembers, nothing more is found.
-    fn walked_methods(&self, class: ClassName, asker: usize) -> FoundMethods
-        ensures { AreMethodsOf self.now class asker result }
+    /// What a class finds at the 128 tokens from one on, by a walk along the superclasses. Where it comes again to a
+    /// class that it remembers, nothing more is found.
+    fn walked_methods(&self, class: ClassName, first: u8, asker: usize) -> FoundMethods
+        requires { (first ≡ 0) ⊎ (first ≡ 128) }
+        ensures { AreMethodsOf self.now class first asker result }
     {
         let mut walked = Walked::new();
         let mut at = class;
         let mut anchor = class;
         for steps in 0..MOST_CLASSES {
-            match self.ask_class(at, asker, &mut walked) {
+            match self.ask_class(at, first, asker, &mut walked) {
                 Some(above) => at = above,
                 None => return FoundMethods {
                     methods: walked.methods,
@@ -171,13 +217,28 @@ impl ClassTable {
         }
     }
 
-    /// What a class finds at each virtual token, asked for the package that stands there.
-    pub fn virtual_methods(&self, class: ClassName, asker: usize) -> FoundMethods
-        ensures { AreMethodsOf self.now class asker result }
+    /// What a class finds at the 128 tokens from one on, for the package that stands there.
+    fn methods_from(&self, class: ClassName, first: u8, asker: usize) -> FoundMethods
+        requires { (first ≡ 0) ⊎ (first ≡ 128) }
+        ensures { AreMethodsOf self.now class first asker result }
     {
         match self.table_of(class) {
-            Some(table) => tabled_methods(table, asker),
-            None => self.walked_methods(class, asker),
+            Some(table) => tabled_methods(table, first, asker),
+            None => self.walked_methods(class, first, asker),
         }
+    }
+
+    /// What a class finds at each public token, whichever package asks.
+    pub fn public_methods(&self, class: ClassName) -> FoundMethods
+        ensures { (asker : ℕ) → AreMethodsOf self.now class 0 asker result }
+    {
+        self.methods_from(class, PUBLIC, 0)
+    }
+
+    /// What a class finds at each package-visible token, asked for the package that stands there.
+    pub fn visible_methods(&self, class: ClassName, asker: usize) -> FoundMethods
+        ensures { AreMethodsOf self.now class 128 asker result }
+    {
+        self.methods_from(class, PACKAGE_VISIBLE, asker)
     }
 }

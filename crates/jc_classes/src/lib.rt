@@ -21,6 +21,7 @@ mod table;
 mod tables;
 mod walk;
 
+pub use extent::Places;
 pub use found::FoundMethods;
 pub use growth::{adding_keeps_lookups, growing_keeps_lookups};
 pub use members::DeclaredMethod;

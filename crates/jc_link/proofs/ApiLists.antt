@@ -151,10 +151,6 @@ mapped_from f [] i y e = absurd (none_some y e)
 mapped_from f (x ∷ xs) zero y e = (x, sym (the_some (f x) y e))
 mapped_from f (x ∷ xs) (suc i) y e = mapped_from f xs i y e
 
-mapped_count : {A : Type 0} (f : ℕ → A) (from n : ℕ) → length (map f (range_with_len from n)) ≡ n
-mapped_count f from zero = refl
-mapped_count f from (suc n) = ap suc (mapped_count f (from + 1) n)
-
 pub each_there : {A : Type 0} (f : ℕ → A) (room t : ℕ) → t < room → slice_get (each_below room f) t ≡ Some (f t)
 unfolding each_below
 each_there f room t h = let e : 0 + t ≡ t = omega arith in mapped_there f 0 room t h ∙ ap (λ m. Some (f m)) e

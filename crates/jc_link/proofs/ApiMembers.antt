@@ -31,7 +31,7 @@ use Rattle.jc_link.proofs.ApiLists.{all_numbered, any_found, none_of, numbered_w
 use Rattle.jc_link.proofs.GrownParts.{chosen_of, mapped, none_some, some_of, the_some}
 use Rattle.jc_link.proofs.Nones.{found_at, found_passes, left_true, not_true, right_true, there_some}
 use Rattle.jc_link.specs.ApiClasses.{counted_name}
-use Rattle.jc_link.specs.Classes.{has_other_nargs, has_unknown_type, words_of}
+use Rattle.jc_link.specs.Classes.{has_other_nargs, has_unknown_type, argument_count}
 use Rattle.jc_link.specs.Found.{return_found, signature_found, type_found, types_found}
 use Rattle.jc_link.specs.MemberType.{counted, member_type_of, type_class}
 
@@ -129,9 +129,6 @@ return_seen seen (Value type) = type_seen seen type
 abbrev signature_seen : (ApiClass → Bool) → Signature ApiClass → Bool
 signature_seen seen s = list_all (type_seen seen) s.parameters && return_seen seen s.result
 
-abbrev the_signature : List (DeclaredType ClassName) → ReturnType ClassName → Signature ClassName
-the_signature parameters result = record { parameters = parameters; result = result }
-
 -- where each class that is seen is found, so is each type of such classes
 module _ (find : ClassRef → Option ClassName) (spell : ApiClass → ClassRef) (seen : ApiClass → Bool)
     (finds : (c : ApiClass) → seen c ≡ true → find (spell c) ≡ Some (counted_name c)) where
@@ -195,8 +192,9 @@ as_many f (x ∷ xs) = ap suc (as_many f xs)
 
 pub words_right : (bound : Bound) (c : ApiClass) → has_other_nargs (class_in_api bound c) ≡ false
 words_right bound c =
-    none_of (λ (x : MethodShape). option_map_or (λ header. not (header.nargs == words_of x)) x.header false) (those_to last_member (method_of bound c)) each
+    none_of (λ (x : MethodShape). option_map_or (λ header. not (header.nargs == argument_count x)) x.header false)
+    (those_to last_member (method_of bound c)) each
   where
     each : (i : ℕ) (x : MethodShape) → slice_get (those_to last_member (method_of bound c)) i ≡ Some x
-        → option_map_or (λ header. not (header.nargs == words_of x)) x.header false ≡ false
+        → option_map_or (λ header. not (header.nargs == argument_count x)) x.header false ≡ false
     each i x e = grind (arith, those_from, method_is, not, eq-eqb, as_many)

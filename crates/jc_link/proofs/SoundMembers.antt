@@ -21,7 +21,7 @@ use Rattle.jc_names.specs.declared.name.MethodName.{MethodName}
 use Rattle.jc_link.proofs.GrownParts.{some_of, the_some, none_some, chosen_of, chosen_true}
 use Rattle.jc_link.proofs.GrownWithin.{class_home}
 use Rattle.jc_link.proofs.Nones.{true_false, left_false, right_false, not_false, some_there, none_at, found_at, found_passes}
-use Rattle.jc_link.specs.Classes.{instance_token, words_of}
+use Rattle.jc_link.specs.Classes.{instance_token, argument_count}
 use Rattle.jc_link.specs.MemberType.{field_type_of, member_type_of}
 use Rattle.jc_link.specs.Named.{is_instance_field, cells_above, is_static_field, instance_field_in, instance_field_at, size_of, static_field_at, static_field_in}
 use Rattle.jc_link.specs.PrivateFit.{AreFit, AreAllFit, IsFit}
@@ -44,7 +44,8 @@ module _ (world : List Shape) (c : ClassName) (k : ClassShape) (fit : IsFit worl
   pub method_typed : (m : MethodShape) (n : ℕ) → slice_get k.methods n ≡ Some m → IsSome (member_type_of world (home_of c) m.signature)
   method_typed m n e = some_there _ (not_false _ (none_at no_method k.methods n m (right_false (list_any no_field k.fields) (list_any no_method k.methods) fit.types) e))
 
-  pub method_words : (m : MethodShape) (n : ℕ) (h : MethodHeader) → slice_get k.methods n ≡ Some m → m.header ≡ Some h → h.nargs ≡ words_of m
+  pub method_words : (m : MethodShape) (n : ℕ) (h : MethodHeader) → slice_get k.methods n ≡ Some m → m.header ≡ Some h
+      → h.nargs ≡ argument_count m
   method_words m n h e at = grind (arith, not, none_at, eqb-true, not_false)
 
 -- ---- cells

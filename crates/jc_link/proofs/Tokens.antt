@@ -1,10 +1,16 @@
 -- Loops over tokens, up to the first that passes a test.
-use Rattle.std.proofs.Common.{◌≡◌, ℕ, zero, suc, ◌+◌, ◌-◌, ◌<◌, ◌≤◌, ◌||◌, Bool, true, false, List, None, refl, ap, ◌∙◌, arith}
+use Rattle.std.proofs.Common.{◌≡◌, ℕ, zero, suc, ◌+◌, ◌-◌, ◌<◌, ◌≤◌, ◌||◌, ◌&&◌, Bool, true, false, List, None, refl}
+use Rattle.std.proofs.Common.{ap, ◌∙◌}
+use Rattle.std.proofs.Common.{arith}
+use Rattle.std.proofs.Math.Path.{fun_ext}
 use Rattle.std.specs.List.{list_any, range_with_len}
+use Rattle.std.specs.Option.{option_map_or}
 use Rattle.jc_cap_desc.specs.Shape.{Shape}
-use Rattle.jc_classes.specs.Methods.{virtual_method_of}
+use Rattle.jc_classes.specs.Methods.{FindsNothingElse, is_among, virtual_method_of}
+use Rattle.jc_classes.specs.declared.extent.Places.{Places}
 use Rattle.jc_names.specs.declared.name.ClassName.{ClassName}
-use Rattle.jc_link.specs.Inherited.{leaves_at, package_tokens, public_tokens, virtual_tokens}
+use Rattle.jc_link.specs.Inherited.{is_abstract_at, leaves_at, leaves_package_abstract, package_tokens, public_tokens}
+use Rattle.jc_link.specs.Inherited.{virtual_tokens}
 
 -- the tokens from one on up to an end
 module _ (test : ℕ → Bool) (total : Bool) (token end : ℕ)
@@ -57,3 +63,17 @@ all_public = refl
 pub all_package : range_with_len 128 (256 - 128) ≡ package_tokens
 unfolding package_tokens
 all_package = refl
+
+-- a package that finds nothing isn't asked
+pub left_within : (world : List Shape) (c : ClassName) (places : Places) (count : ℕ) → FindsNothingElse world c places
+    → list_any (λ asker. is_among places asker && leaves_package_abstract world c asker) (range_with_len 0 count)
+    ≡ list_any (leaves_package_abstract world c) (range_with_len 0 count)
+left_within world c places count nothing =
+    ap (λ test. list_any test (range_with_len 0 count)) (fun_ext (λ asker. by_place asker (is_among places asker) refl))
+  where
+    by_place : (asker : ℕ) (b : Bool) → is_among places asker ≡ b
+        → (b && leaves_package_abstract world c asker) ≡ leaves_package_abstract world c asker
+    by_place asker true e = refl
+    by_place asker false e =
+        rest_fails (leaves_at world c asker) _ 128 256 (ap (list_any (leaves_at world c asker)) all_package)
+        (λ m least less. ap (λ o. option_map_or (is_abstract_at world) o false) (nothing m asker e least less))

@@ -71,9 +71,10 @@ has_bad_entry world home c k =
     || list_any (is_bad_entry world home c) (package_entries k.body)
 
 -- how many words of arguments a method takes by its type, `this` among them
-abbrev pub words_of : MethodShape → ℕ
-words_of m = if m.is_static then length m.signature.parameters else length m.signature.parameters + 1
+abbrev pub argument_count : MethodShape → ℕ
+argument_count m = if m.is_static then length m.signature.parameters else length m.signature.parameters + 1
 
 -- a method whose header says another number
 abbrev pub has_other_nargs : ClassShape → Bool
-has_other_nargs k = list_any (λ m. option_map_or (λ header. not (header.nargs == words_of m)) m.header false) k.methods
+has_other_nargs k =
+    list_any (λ m. option_map_or (λ header. not (header.nargs == argument_count m)) m.header false) k.methods

@@ -133,9 +133,9 @@ refusal_of before (Err fault) = Some fault
 refusal_of before (Ok p) = fault_behind before p
 
 -- a refusal: of what is no package what is wrong with it; of a package why it isn't well-formed, or that memory is out
-abbrev pub IsRefusal : List Shape → Result Package LoadFault → LoadFault → Type 0
-IsRefusal before (Err why) fault = fault ≡ why
-IsRefusal before (Ok p) fault = (fault ≡ Memory) ⊎ (fault_behind before p ≡ Some fault)
+abbrev pub IsLinkRefusal : List Shape → Result Package LoadFault → LoadFault → Type 0
+IsLinkRefusal before (Err why) fault = fault ≡ why
+IsLinkRefusal before (Ok p) fault = (fault ≡ Memory) ⊎ (fault_behind before p ≡ Some fault)
 
 -- a package was bound to a world as it stands
 abbrev pub IsBoundTo : World → Linked → Type 0

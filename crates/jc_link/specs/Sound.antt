@@ -17,7 +17,7 @@ use Rattle.jc_classes.specs.World.{class_at, superclass_of}
 use Rattle.jc_names.specs.declared.name.ClassName.{ClassName}
 use Rattle.jc_names.specs.declared.name.ClassName.TheVariants.{Api}
 use Rattle.jc_names.specs.declared.name.MethodName.{MethodName}
-use Rattle.jc_link.specs.Classes.{words_of}
+use Rattle.jc_link.specs.Classes.{argument_count}
 use Rattle.jc_link.specs.Found.{is_same_signature}
 use Rattle.jc_link.specs.MemberType.{declared_type_of, member_type_of, method_type_of}
 use Rattle.jc_link.specs.Named.{cells_above, instance_field_at, is_concrete, size_of, static_field_at}
@@ -54,7 +54,7 @@ pub record HaveFields (world : List Shape) : Type 0 where
 pub record HaveMethods (world : List Shape) : Type 0 where
   pub types : (m : MethodName) (d : DeclaredMethod) → method_at world m ≡ Some d → IsSome (declared_type_of world d)
   pub words : (m : MethodName) (d : DeclaredMethod) (h : MethodHeader) → method_at world m ≡ Some d
-      → d.method.header ≡ Some h → h.nargs ≡ words_of d.method
+      → d.method.header ≡ Some h → h.nargs ≡ argument_count d.method
 
 -- a method that a class finds is there, isn't static, and is declared by the class or above it
 pub record IsInstanceMethod (world : List Shape) (c : ClassName) (m : MethodName) : Type 0 where

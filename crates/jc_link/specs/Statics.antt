@@ -32,15 +32,15 @@ abbrev pub static_fields : Shape → List StaticField
 static_fields shape = filter_map static_of (flat_map (λ k. k.fields) shape.classes)
 
 -- whether it holds a reference
-abbrev pub is_reference : {C : Type 0} → DeclaredType C → Bool
-is_reference Declared.Boolean = false
-is_reference Declared.Byte = false
-is_reference Declared.Short = false
-is_reference (Declared.Reference c) = true
-is_reference Declared.BooleanArray = true
-is_reference Declared.ByteArray = true
-is_reference Declared.ShortArray = true
-is_reference (Declared.ReferenceArray c) = true
+abbrev pub holds_reference : {C : Type 0} → DeclaredType C → Bool
+holds_reference Declared.Boolean = false
+holds_reference Declared.Byte = false
+holds_reference Declared.Short = false
+holds_reference (Declared.Reference c) = true
+holds_reference Declared.BooleanArray = true
+holds_reference Declared.ByteArray = true
+holds_reference Declared.ShortArray = true
+holds_reference (Declared.ReferenceArray c) = true
 
 -- how many bytes it takes
 abbrev pub width_of : {C : Type 0} → DeclaredType C → ℕ
@@ -63,7 +63,7 @@ leaves_image image f = nat_lt image.size (behind f)
 -- a reference that isn't one of the references in front, or a primitive that isn't behind them
 abbrev pub is_misplaced : StaticImage → StaticField → Bool
 is_misplaced image f =
-    if is_reference f.type then not (f.offset % 2 == 0 && nat_lt f.offset (2 * image.references))
+    if holds_reference f.type then not (f.offset % 2 == 0 && nat_lt f.offset (2 * image.references))
     else nat_lt f.offset (2 * image.references)
 
 -- whether two fields share a byte; each shares its own with itself

@@ -9,7 +9,7 @@ ghost use Rattle.jc_classes.specs.Subtype.{is_class_at, is_interface_at};
 ghost use Rattle.jc_link.specs.MemberType.{field_type_of, member_type_of};
 ghost use Rattle.jc_link.specs.Classes.{lacks_superclass, leads_round, lists_no_interface, has_unknown_type};
 ghost use Rattle.jc_link.specs.Classes.{instance_token, has_field_twice, has_field_past_size, is_inherited};
-ghost use Rattle.jc_link.specs.Classes.{is_bad_entry, has_bad_entry, words_of, has_other_nargs};
+ghost use Rattle.jc_link.specs.Classes.{is_bad_entry, has_bad_entry, argument_count, has_other_nargs};
 
 use crate::types::{is_known_field, is_known_method};
 use jc_base::ClassRef;
@@ -235,8 +235,8 @@ pub(crate) fn has_field_past_size(found: &Class) -> bool
 }
 
 /// How many words of arguments a method takes by its type, `this` among them.
-fn words_of(method: &Method) -> usize
-    ensures { result ≡ words_of method.now }
+fn argument_count(method: &Method) -> usize
+    ensures { result ≡ argument_count method.now }
 {
     let parameters = method.parameters().len();
     if method.is_static() {
@@ -248,10 +248,11 @@ fn words_of(method: &Method) -> usize
 
 /// Whether a method's header says another number.
 fn has_other_words(method: &Method) -> bool
-    ensures { result ≡ option_map_or (λ header. not (header.nargs == words_of method.now)) method.now.header false }
+    ensures { result
+        ≡ option_map_or (λ header. not (header.nargs == argument_count method.now)) method.now.header false }
 {
     match method.header() {
-        Some(header) => usize::from(header.nargs) != words_of(method),
+        Some(header) => usize::from(header.nargs) != argument_count(method),
         None => false,
     }
 }

@@ -1,6 +1,7 @@
 //! What makes a class unfit for its world by what it inherits.
 
-ghost use Rattle.std.specs.Prelude.{◌≡◌, ◌≤◌, false};
+ghost use Rattle.std.specs.Prelude.{◌≡◌, ◌≤◌, ◌&&◌, false};
+ghost use Rattle.jc_classes.specs.Methods.{is_among};
 ghost use Rattle.std.specs.List.{list_any, range_with_len};
 ghost use Rattle.std.specs.Option.{option_map_or};
 ghost use Rattle.jc_link.specs.Inherited.{loses_at, loses_method, is_same_method, is_other_type, retypes_at};
@@ -15,7 +16,7 @@ use crate::classes::MOST_CLASSES;
 use crate::methods::ClassMethods;
 use crate::pool::{is_abstract_method, is_concrete};
 use crate::types::{implements_type, is_known_method, same_method_type};
-use jc_classes::{Class, ClassTable, ImplementedInterface, Method, anchor_behind};
+use jc_classes::{Class, ClassTable, ImplementedInterface, Method, Places, anchor_behind};
 use jc_names::{ClassName, MethodName, PackagePlace};
 
 /// Tokens from here on are package-visible.
@@ -126,24 +127,39 @@ fn leaves_public_abstract(class: &ClassMethods<'_>) -> bool
 fn leaves_package_abstract(table: &ClassTable, class: ClassName, asker: usize) -> bool
     ensures { result ≡ leaves_package_abstract table.now class asker }
 {
-    let end = 128 + u16::from(table.visible_tokens(class, asker));
-    if end == 128 {
+    let count = table.visible_tokens(class, asker);
+    if count == 0 {
         return false;
     }
-    let methods = table.virtual_methods(class, asker);
-    for token in 128..end {
-        if is_left(table, methods.at(token as u8)) {
+    let methods = table.visible_methods(class, asker);
+    for place in 0..count {
+        if is_left(table, methods.at(place)) {
             return true;
         }
     }
     false
 }
 
+/// Whether a class leaves a package-visible method abstract of the package that stands there, if it is one of some.
+fn leaves_among(table: &ClassTable, class: ClassName, places: Places, asker: usize) -> bool
+    ensures { result ≡ (is_among places asker && leaves_package_abstract table.now class asker) }
+{
+    places.has(asker) && leaves_package_abstract(table, class, asker)
+}
+
+/// Whether a class leaves a package-visible method abstract of one of so many packages, of those that may find some.
+fn leaves_for_one(table: &ClassTable, class: ClassName, places: Places, count: usize) -> bool
+    ensures { result ≡ list_any (λ asker. is_among places asker && leaves_package_abstract table.now class asker)
+        (range_with_len 0 count) }
+{
+    (0..count).any(|asker| leaves_among(table, class, places, asker))
+}
+
 /// Whether a class leaves a package-visible method abstract of one of so many packages.
 fn leaves_any_package_abstract(table: &ClassTable, class: ClassName, count: usize) -> bool
     ensures { result ≡ list_any (leaves_package_abstract table.now class) (range_with_len 0 count) }
 {
-    (0..count).any(|asker| leaves_package_abstract(table, class, asker))
+    leaves_for_one(table, class, table.visible_places(class), count)
 }
 
 /// Whether a class leaves a method abstract: a public one, or a package-visible one of any package.

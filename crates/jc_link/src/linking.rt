@@ -10,7 +10,7 @@ ghost use Rattle.jc_link.specs.Growth.{HasApi};
 ghost use Rattle.jc_link.specs.Kept.{kept_of};
 ghost use Rattle.jc_link.specs.Target.{target_of};
 ghost use Rattle.jc_link.specs.Sound.{LeadSomewhere};
-ghost use Rattle.jc_link.specs.Linked.{IsBoundTo, IsLinked, IsLinkedFrom, IsRefusal};
+ghost use Rattle.jc_link.specs.Linked.{IsBoundTo, IsLinked, IsLinkedFrom, IsLinkRefusal};
 ghost use Rattle.jc_link.specs.PrivateFaults.{class_fault, fault_behind_names, IsTold};
 ghost use Rattle.jc_link.specs.PrivateNames.{AreNamed, NamesLead};
 ghost use Rattle.jc_link.specs.WellFormed.{IsWellFormed, linking_fault};
@@ -170,7 +170,7 @@ pub fn link_package(alloc: Global, read: &Package, world: &World) -> Result<Link
     requires installs { InstallMethods read.now }
     ensures bound { IfOk result (IsBoundTo world.now) }
     ensures linked { IfOk result (IsLinked world.now.shapes read.now) }
-    ensures refused { IfErr result (IsRefusal world.now.shapes (Ok read.now)) }
+    ensures refused { IfErr result (IsLinkRefusal world.now.shapes (Ok read.now)) }
 {
     let Ok(table) = with_package(alloc, world.table(), read) else {
         return Err(LoadFault::Memory);
@@ -191,7 +191,7 @@ pub fn link_package(alloc: Global, read: &Package, world: &World) -> Result<Link
 pub fn link(alloc: Global, parts: &Parts, world: &World) -> Result<Linked, LoadFault>
     ensures bound { IfOk result (IsBoundTo world.now) }
     ensures linked { IfOk result (IsLinkedFrom world.now.shapes parts.now) }
-    ensures refused { IfErr result (IsRefusal world.now.shapes (package_of parts.now)) }
+    ensures refused { IfErr result (IsLinkRefusal world.now.shapes (package_of parts.now)) }
 {
     link_package(alloc, &read_package(parts)?, world)
 }

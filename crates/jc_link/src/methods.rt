@@ -4,7 +4,7 @@ ghost use Rattle.std.specs.Prelude.{◌≡◌, Some};
 ghost use Rattle.jc_classes.specs.Methods.{public_method_of, virtual_method_of};
 ghost use Rattle.jc_classes.specs.World.{superclass_of};
 ghost use Rattle.jc_link.specs.Named.{method_above};
-ghost use Rattle.jc_link.specs.PrivateMethods.{AreMethodsAbove};
+ghost use Rattle.jc_link.specs.PrivateMethods.{AreAllMethodsOf, AreMethodsAbove, method_in};
 ghost use Rattle.jc_names.specs.declared.name.ClassName.{ClassName};
 
 use jc_classes::{ClassTable, FoundMethods};
@@ -14,6 +14,37 @@ use std::marker::Model;
 /// Tokens from here on are package-visible.
 const PACKAGE_VISIBLE: u8 = 128;
 
+/// What a class finds at all virtual tokens, the package-visible ones for one package.
+#[derive(Drop)]
+struct Methods {
+    public: FoundMethods,
+    visible: FoundMethods,
+}
+
+impl Methods {
+    /// Looks them up, for the package that stands there.
+    #[tactic(auto, using(crate::proofs::Looking::all_methods))]
+    fn new(table: &ClassTable, class: ClassName, asker: usize) -> Methods
+        ensures { AreAllMethodsOf table.now class asker result }
+    {
+        Methods {
+            public: table.public_methods(class),
+            visible: table.visible_methods(class, asker),
+        }
+    }
+
+    /// The method at a token.
+    fn at(&self, token: u8) -> Option<MethodName>
+        ensures { result ≡ method_in self.now token }
+    {
+        if token < PACKAGE_VISIBLE {
+            self.public.at(token)
+        } else {
+            self.visible.at(token - PACKAGE_VISIBLE)
+        }
+    }
+}
+
 /// A class of the package that stands at a place, with the methods that it finds for that package, and those that the
 /// class above it finds.
 #[derive(Drop)]
@@ -21,28 +52,27 @@ pub(crate) struct ClassMethods<'t> {
     table: &'t ClassTable,
     home: PackagePlace,
     class: ClassName,
-    own: FoundMethods,
-    above: Option<FoundMethods>,
+    own: Methods,
+    above: Option<Methods>,
 }
 
 impl<'t> Model for ClassMethods<'t> {
-    ghost use Rattle.jc_classes.specs.Methods.{AreMethodsOf};
-    ghost use Rattle.jc_link.specs.PrivateMethods.{AreMethodsAbove, Asked};
+    ghost use Rattle.jc_link.specs.PrivateMethods.{AreAllMethodsOf, AreMethodsAbove, Asked};
 
     ghost Value = { Asked };
 
     ghost view = { λ m. record { world = m.table.now; home = m.home; class = m.class } };
 
-    ghost invariant = { λ m. AreMethodsOf m.table.now m.class m.home m.own
+    ghost invariant = { λ m. AreAllMethodsOf m.table.now m.class m.home m.own
         × AreMethodsAbove m.table.now m.home m.class m.above };
 }
 
 /// The methods of the class above, if there is one.
-fn methods_above(table: &ClassTable, home: PackagePlace, class: ClassName) -> Option<FoundMethods>
+fn methods_above(table: &ClassTable, home: PackagePlace, class: ClassName) -> Option<Methods>
     ensures { AreMethodsAbove table.now home class result }
 {
     let above = table.superclass_of(class)?;
-    Some(table.virtual_methods(above, home.index()))
+    Some(Methods::new(table, above, home.index()))
 }
 
 impl<'t> ClassMethods<'t> {
@@ -54,7 +84,7 @@ impl<'t> ClassMethods<'t> {
             table,
             home,
             class,
-            own: table.virtual_methods(class, home.index()),
+            own: Methods::new(table, class, home.index()),
             above: methods_above(table, home, class),
         }
     }

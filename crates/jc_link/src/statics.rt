@@ -6,7 +6,7 @@ ghost use Rattle.jc_base.specs.NumberSet.{has_number};
 ghost use Rattle.jc_link.specs.PrivateStatics.{earlier, bad_offset, first_bad_among, second_byte};
 ghost use Rattle.jc_link.specs.PrivateStatics.{AreTaken, WereTaken, HaveTaken, AreAmong};
 ghost use Rattle.jc_link.specs.Statics.{StaticField as Shaped};
-ghost use Rattle.jc_link.specs.Statics.{static_of, static_fields, is_reference, width_of, behind, leaves_image};
+ghost use Rattle.jc_link.specs.Statics.{static_of, static_fields, holds_reference, width_of, behind, leaves_image};
 ghost use Rattle.jc_link.specs.Statics.{is_misplaced, overlaps_another, is_of_type, is_of_another_array};
 ghost use Rattle.jc_link.specs.Statics.{is_bad_static, first_bad_static};
 
@@ -45,8 +45,8 @@ fn static_of(field: &Field) -> Option<StaticField>
 }
 
 /// Whether a field of a type holds a reference.
-fn is_reference(declared: DeclaredType<ClassRef>) -> bool
-    ensures { result ≡ is_reference declared }
+fn holds_reference(declared: DeclaredType<ClassRef>) -> bool
+    ensures { result ≡ holds_reference declared }
 {
     match declared {
         DeclaredType::Boolean | DeclaredType::Byte | DeclaredType::Short => false,
@@ -95,7 +95,7 @@ impl StaticField {
         ensures { result ≡ is_misplaced statics.now self.now }
     {
         let in_front = usize::from(self.offset) < 2 * usize::from(statics.reference_count());
-        if is_reference(self.declared) {
+        if holds_reference(self.declared) {
             !(self.offset % 2 == 0 && in_front)
         } else {
             in_front

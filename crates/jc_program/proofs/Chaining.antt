@@ -3,7 +3,7 @@ use Rattle.std.proofs.Common.{◌≡◌, ℕ, false, true, List, Option, Some, N
 use Rattle.std.proofs.Common.{refl, ap}
 use Rattle.std.specs.Option.{option_and_then}
 use Rattle.jc_cap_desc.specs.Shape.{ClassShape, Shape}
-use Rattle.jc_classes.specs.Methods.{interface_visit, virtual_method_of, virtual_visit}
+use Rattle.jc_classes.specs.Methods.{interface_visit}
 use Rattle.jc_classes.specs.Subtype.{has_whole_chain}
 use Rattle.jc_classes.specs.Walk.{found, most_classes, walk}
 use Rattle.jc_classes.specs.World.{class_at}
@@ -21,12 +21,6 @@ nothing : {A B : Type 0} (f : A → Option B) (o : Option A) → o ≡ None → 
 nothing f o none = ap (option_and_then f) none
 
 module _ (world : List Shape) (c : ClassName) (none : class_at world c ≡ None) where
-  pub no_method : (token asker : ℕ) → virtual_method_of world c token asker ≡ None
-  no_method token asker = within most_classes
-    where
-      within : (n : ℕ) → walk (virtual_visit world asker token) world n c ≡ None
-      within n = grind (arith, nothing)
-
   pub not_listed : (interface : ClassName) → found (interface_visit world interface) world c ≡ None
   not_listed interface = within most_classes
     where
@@ -37,7 +31,7 @@ module _ (world : List Shape) (c : ClassName) (none : class_at world c ≡ None)
 
 module _ (world : List Shape) (c : ClassName) (sound : IsSound world) where
   -- in a sound world the chain of each class that is there comes to its end
-  pub whole_chain : (k : ClassShape) → class_at world c ≡ Some k → has_whole_chain world c ≡ true
+  whole_chain : (k : ClassShape) → class_at world c ≡ Some k → has_whole_chain world c ≡ true
   whole_chain k there = grind (arith, Option, is_some)
 
   pub not_there : has_whole_chain world c ≡ false → class_at world c ≡ None

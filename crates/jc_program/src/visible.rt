@@ -1,9 +1,8 @@
 //! The package-visible virtual methods of a world's classes, by number, token and package.
 
 ghost use Rattle.std.specs.Prelude.{◌≡◌, ◌+◌, ◌≤◌, ◌==◌, [], length, take, IfOk};
-ghost use Rattle.jc_link.specs.Sound.{IsSound};
 ghost use Rattle.jc_program.specs.Called.{AreVisible, visible_at};
-ghost use Rattle.jc_program.specs.PrivateCalled.{AreListed, HasNoPlaceFrom, HasPlaces, HasVisible};
+ghost use Rattle.jc_program.specs.PrivateCalled.{AreListed, HasPlaces, HasVisible};
 
 use crate::called::{Called, PACKAGE_VISIBLE, table_made};
 use crate::classes::{ClassNumber, Classes};
@@ -11,22 +10,10 @@ use crate::keyed::KeyedLists;
 use crate::methods::Methods;
 use crate::tables::short_of;
 use jc_classes::ClassTable;
-use jc_link::{World, built_worlds_are_sound};
+use jc_link::World;
 use jc_names::{ClassName, PackagePlace};
 use std::alloc::{AllocError, Global};
 use std::marker::Model;
-
-/// A number of places of packages: none from there on finds a package-visible method of a class.
-#[tactic(auto, using(crate::proofs::Chaining::no_method, crate::proofs::Chaining::whole_chain))]
-fn places_of(table: &ClassTable, class: ClassName) -> usize
-    requires sound { IsSound table.now }
-    ensures { HasNoPlaceFrom table.now class result }
-{
-    match table.class_at(class) {
-        Some(_) => table.visible_places(class),
-        None => 0,
-    }
-}
 
 /// Makes a class's table for the package that stands at a place, if it finds a method there.
 fn put_place(
@@ -59,12 +46,11 @@ fn put_visible(
     methods: &Methods,
     class: ClassName,
 ) -> Result<(), AllocError>
-    requires sound { IsSound table.now }
     requires first { lists.old.last ≡ [] }
     ensures whole { lists.new.whole ≡ lists.old.whole }
     ensures last { IfOk result (λ u. HasVisible table.now methods.now class lists.new.last) }
 {
-    let places = short_of(places_of(table, class))?;
+    let places = short_of(table.visible_places(class).end)?;
     for place in 0..places {
         put_place(alloc, lists, table, methods, class, place)?;
     }
@@ -79,7 +65,6 @@ fn put_lists(
     methods: &Methods,
     names: &[ClassName],
 ) -> Result<(), AllocError>
-    requires sound { IsSound table.now }
     requires first { AreListed (HasVisible table.now methods.now) names.now (length lists.old.whole) lists.old.whole }
     requires few { length lists.old.whole ≤ length names.now }
     ensures done { IfOk result (λ u. AreListed (HasVisible table.now methods.now)
@@ -123,9 +108,6 @@ impl VisibleMethods {
         ensures count { IfOk result (λ made. length made ≡ length classes.now) }
     {
         let table = world.table();
-        // Only its contract counts: what always holds of a table.
-        let _count = table.len();
-        built_worlds_are_sound();
         let mut lists = KeyedLists::new(alloc);
         put_lists(alloc, &mut lists, table, methods, classes.names())?;
         Ok(VisibleMethods { lists })
@@ -140,7 +122,6 @@ impl VisibleMethods {
         methods: &Methods,
         classes: &Classes,
     ) -> Result<(), AllocError>
-        requires sound { IsSound table.now }
         requires first { AreListed (HasVisible table.now methods.now) classes.now (length self.old) self.old }
         requires few { length self.old ≤ length classes.now }
         ensures visible { IfOk result (λ u. AreVisible table.now methods.now classes.now self.new) }

@@ -1,20 +1,19 @@
 -- Reading goes forward: what is left behind an operation on words is no more than there was. What it pushes is a short.
-use Rattle.std.proofs.Common.{ℕ, ◌+◌, ◌-◌, ◌*◌, ◌/◌, ◌%◌, ◌==◌, ◌≤◌, List, [], ◌∷◌, length, take, drop, Bool}
-use Rattle.std.proofs.Common.{true, false, cond, nat_lt, Option, Some, None, Result, Ok, Err, pos, negsuc, arith}
+use Rattle.std.proofs.Common.{ℕ, ◌*◌, ◌==◌, ◌≤◌, List, length, take, drop, Bool}
+use Rattle.std.proofs.Common.{cond, nat_lt, Option, Some, None, Result, Ok, Err, arith}
 use Rattle.std.proofs.Common.{length-drop, rules}
-use Rattle.std.specs.Int.{cast_signed, w16, w8}
+use Rattle.std.specs.Int.{w16}
 use Rattle.std.specs.Int.RustNames.{FitsSigned}
-use Rattle.std.specs.Prelude.{◌-ℤ◌, unsigned_abs, int_lt}
 use Rattle.jc_base.specs.Cursor.{Read, next_u1, next_u2, next_s1, next_s2, next_bytes}
 use Rattle.jc_base.specs.Results.{◌>>=◌}
 use Rattle.jc_code.specs.declared.fault.CodeFault.{CodeFault}
-use Rattle.jc_code.specs.declared.fault.CodeFault.TheVariants.{BadOpcode, BadOperand, CutShort}
+use Rattle.jc_code.specs.declared.fault.CodeFault.TheVariants.{BadOpcode}
 use Rattle.jc_code.specs.declared.instr.WordOperation.{WordOperation}
 use Rattle.jc_code.specs.declared.instr.WordOperation.TheVariants.{Push}
 use Rattle.jc_code.specs.Tables.{operand, next_offsets, next_cases, offsets_of_bytes, cases_of_bytes}
-use Rattle.jc_code.specs.Decoding.{done, is_duplicate, is_swap, listed, next_arithmetic, next_branch, next_constant}
+use Rattle.jc_code.specs.Decoding.{done, listed, next_arithmetic, next_branch, next_constant}
 use Rattle.jc_code.specs.Decoding.{next_control, next_local, next_lookup_switch, next_shuffle, next_stable_switch}
-use Rattle.jc_code.specs.Decoding.{next_wide_branch, next_wide_increment, operator_of, when_of}
+use Rattle.jc_code.specs.Decoding.{next_wide_branch, next_wide_increment}
 
 -- what is left is no longer than n, and P holds of what was read
 abbrev pub Left : {A : Type 0} → (A → Type 0) → ℕ → Result (Read A) CodeFault → Type 0

@@ -1,7 +1,7 @@
 -- Where an opcode tells its instruction's length, decoding comes to the pc so many bytes behind.
 use Rattle.std.proofs.lemmas.List.{drop_all, drop_more}
-use Rattle.std.proofs.Common.{◌≡◌, ◌≢◌, ◌≤◌, get_or, ℕ, zero, suc, ◌+◌, ◌-◌, ◌<◌, List, [], ◌∷◌, length, drop, Result}
-use Rattle.std.proofs.Common.{Ok, Err, refl, ap, ◌∙◌, arith, length-drop}
+use Rattle.std.proofs.Common.{◌≡◌, ◌≢◌, ◌≤◌, get_or, ℕ, suc, ◌+◌, ◌-◌, ◌<◌, List, [], ◌∷◌, length, drop, Result}
+use Rattle.std.proofs.Common.{Ok, Err, ap, ◌∙◌, arith, length-drop}
 use Rattle.jc_base.specs.Cursor.{Read}
 use Rattle.jc_base.specs.Results.{◌>>=◌}
 use Rattle.jc_code.specs.declared.fault.CodeFault.{CodeFault}

@@ -1,8 +1,10 @@
 -- What is left behind an operation on references is no more than there was.
-use Rattle.std.proofs.Common.{ℕ, ◌-◌, ◌==◌, ◌≤◌, List, length, arith}
-use Rattle.jc_base.specs.Cursor.{next_u1, next_u2, next_s1, next_s2}
+use Rattle.std.proofs.Common.{ℕ, ◌==◌, ◌≤◌, List, length, arith}
+use Rattle.jc_base.specs.Cursor.{next_u1, next_u2}
 use Rattle.jc_code.specs.declared.fault.CodeFault.TheVariants.{BadOpcode, BadOperand}
-use Rattle.jc_code.specs.Objects.{word_kind_of, next_tested_type, next_creation, next_interface, next_invocation, narrow_field_of, wide_field_of, next_narrow_field, next_field, reference_condition_of, next_wide_condition, next_condition, next_array, next_reference}
+use Rattle.jc_code.specs.Objects.{word_kind_of, next_tested_type, next_creation, next_interface, next_invocation}
+use Rattle.jc_code.specs.Objects.{next_narrow_field, next_field, next_wide_condition, next_condition, next_array}
+use Rattle.jc_code.specs.Objects.{next_reference}
 use Rattle.jc_code.proofs.Advance.{IsLeft, field, read_on, chosen, either, none, same, u1_left, s1_left, u2_left, s2_left}
 
 tested_type_left : (n : ℕ) (bytes : List ℕ) → length bytes ≤ n → IsLeft n (next_tested_type bytes)

@@ -3,6 +3,7 @@
 
 mod decoding;
 mod fault;
+mod flow;
 mod instr;
 mod instructions;
 mod lengths;
@@ -11,10 +12,10 @@ mod object;
 mod objects;
 mod operands;
 mod tables;
-mod targets;
 
 pub use decoding::{next_lookup_switch, next_stable_switch, when_of};
 pub use fault::CodeFault;
+pub use flow::Targets;
 pub use instr::{
     BinaryOperator, Condition, Instr, Operation, Shuffle, UnaryOperator, When, WordOperation,
 };
@@ -27,4 +28,3 @@ pub use object::{
 };
 pub use operands::{next_at, s1_at, s2_at, u1_at};
 pub use tables::{Case, Cases, LookupTable, Offsets, StableTable};
-pub use targets::Targets;

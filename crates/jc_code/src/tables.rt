@@ -27,6 +27,13 @@ impl<'a> Model for Offsets<'a> {
 }
 
 impl<'a> Offsets<'a> {
+    /// The same.
+    pub(crate) fn lent(&self) -> Offsets<'a>
+        ensures { result ≡ self.now }
+    {
+        Offsets { bytes: self.bytes }
+    }
+
     /// How many offsets there are.
     pub fn len(&self) -> usize
         ensures count { result ≡ length self.now }
@@ -90,6 +97,13 @@ impl<'a> Model for Cases<'a> {
 }
 
 impl<'a> Cases<'a> {
+    /// The same.
+    pub(crate) fn lent(&self) -> Cases<'a>
+        ensures { result ≡ self.now }
+    {
+        Cases { bytes: self.bytes }
+    }
+
     /// How many cases there are.
     pub fn len(&self) -> usize
         ensures count { result ≡ length self.now }

@@ -15,6 +15,7 @@ use Rattle.jc_code.specs.Instructions.{either_operation, instr_at, instr_of, nex
 use Rattle.jc_code.specs.Listing.{PlacedInstr}
 use Rattle.jc_code.specs.Objects.{next_object}
 use Rattle.jc_code.specs.Tables.{operand}
+use Rattle.jc_code.specs.Targets.{is_end_of}
 use Rattle.jc_code.specs.declared.fault.CodeFault.{CodeFault}
 use Rattle.jc_code.specs.declared.fault.CodeFault.TheVariants.{BadOpcode, BadOperand, CutShort}
 use Rattle.jc_code.specs.declared.instr.BinaryOperator.{BinaryOperator}
@@ -40,7 +41,7 @@ use Rattle.jc_machine.specs.Words.{act_word}
 use Rattle.jc_words.specs.Shorts.{binary_of}
 use Rattle.jc_words.specs.Values.{Word}
 use Rattle.jc_eval.specs.Alone.{EndsAs, act_alone, alone_call, alone_step, alone_steps, first_machine, here_alone}
-use Rattle.jc_eval.specs.PrivateRuns.{end_of, is_return}
+use Rattle.jc_eval.specs.PrivateRuns.{end_of}
 use Rattle.jc_eval.specs.TypedCode.{IsTypedAlone, StandsAt, StepsTyped}
 use Rattle.jc_eval.specs.declared.run.CodeEnd.TheVariants as ends
 
@@ -242,7 +243,8 @@ module _ (code : List ℕ) (typing : Typing) (t : IsTyping word_rules (word_meth
     ends_by : (operation : WordOperation) (o : WordOutcome) → done_by w.pc place.next_pc operation w ≡ o
         → onward o ≡ None → alone_step listing before ≡ act_word place operation
         → ComesTo place (act_word place operation) o
-        → EndsAs (if is_return (operations.Word operation) then ends.Gave (slice_index w.operands 0) else ends.Divided) end
+        → EndsAs (if is_end_of (operations.Word operation) then ends.Gave (slice_index w.operands 0) else ends.Divided)
+        end
     ends_by operation (Continues v) is none acts_are comes = absurd (let no : Some v ≡ None = none in cc)
     ends_by operation Divides is none acts_are comes = divides operation is
       where
@@ -252,19 +254,12 @@ module _ (code : List ℕ) (typing : Typing) (t : IsTyping word_rules (word_meth
             (step_ends (Throws before arithmetic_exception) (ap (λ (x : Stepped ⊤). x.outcome) acts_are ∙ comes)) refl
 
         divides : (it : WordOperation) → done_by w.pc place.next_pc it w ≡ Divides
-            → EndsAs (if is_return (operations.Word it) then ends.Gave (slice_index w.operands 0) else ends.Divided) end
-        divides ops.Nop e = divided
-        divides (ops.Push value) e = divided
-        divides (ops.Load local) e = divided
-        divides (ops.Store local) e = divided
-        divides (ops.Increment local by) e = divided
-        divides (ops.Shuffle shuffle) e = divided
-        divides (ops.Binary operator) e = divided
-        divides (ops.Unary operator) e = divided
-        divides (ops.Branch when offset) e = divided
-        divides (ops.StableSwitch default low offsets) e = divided
-        divides (ops.LookupSwitch default cases) e = divided
+            → EndsAs (if is_end_of (operations.Word it) then ends.Gave (slice_index w.operands 0) else ends.Divided) end
         divides ops.ReturnWord e = absurd (let no : Yields (slice_index w.operands 0) ≡ Divides = e in cc)
+        divides (ops.Branch Always offset) e = divided
+        divides (ops.Branch (Zero condition) offset) e = divided
+        divides (ops.Branch (Compare condition) offset) e = divided
+        divides it e = divided
     ends_by operation (Yields n) is none acts_are comes = yields operation is
       where
         safe_return : (returns_value place (Word n)).outcome ≢ Stuck
@@ -288,24 +283,16 @@ module _ (code : List ℕ) (typing : Typing) (t : IsTyping word_rules (word_meth
         the_word a b e = cc
 
         yields : (it : WordOperation) → done_by w.pc place.next_pc it w ≡ Yields n
-            → EndsAs (if is_return (operations.Word it) then ends.Gave (slice_index w.operands 0) else ends.Divided) end
-        yields ops.Nop e = absurd cc
-        yields (ops.Push value) e = absurd cc
-        yields (ops.Load local) e = absurd cc
-        yields (ops.Store local) e = absurd cc
-        yields (ops.Increment local by) e = absurd cc
-        yields (ops.Shuffle shuffle) e = absurd cc
+            → EndsAs (if is_end_of (operations.Word it) then ends.Gave (slice_index w.operands 0) else ends.Divided) end
         yields (ops.Binary operator) e =
             absurd (result operator (binary_of operator (slice_index w.operands 1) (slice_index w.operands 0)) e)
-        yields (ops.Unary operator) e = absurd cc
         yields (ops.Branch Always offset) e = absurd cc
         yields (ops.Branch (Zero condition) offset) e = absurd cc
         yields (ops.Branch (Compare condition) offset) e = absurd cc
-        yields (ops.StableSwitch default low offsets) e = absurd cc
-        yields (ops.LookupSwitch default cases) e = absurd cc
         yields ops.ReturnWord e =
             let same : slice_index w.operands 0 ≡ n = the_word (slice_index w.operands 0) n e in
             subst (λ (k : ℕ). EndsAs (ends.Gave k) end) (sym same) gave
+        yields it e = absurd cc
 
     stopped_by : (r : Result (Read WordOperation) CodeFault) → word_at code w.pc ≡ r
         → IsDecoded code stands.instr.instr r → frame_behind code w r ≡ None
@@ -319,7 +306,8 @@ module _ (code : List ℕ) (typing : Typing) (t : IsTyping word_rules (word_meth
         let none_here : onward (done_by w.pc place.next_pc read.value w) ≡ None =
         ap (λ (n : ℕ). onward (done_by w.pc n read.value w)) next_is ∙ none in
         subst (λ (r : Result Instr CodeFault). EndsAs (end_of r (slice_index w.operands 0)) end) (sym spelled)
-        (subst (λ (o : Operation). EndsAs (if is_return o then ends.Gave (slice_index w.operands 0) else ends.Divided) end)
+        (subst
+        (λ (o : Operation). EndsAs (if is_end_of o then ends.Gave (slice_index w.operands 0) else ends.Divided) end)
         (sym operation_is)
         (ends_by read.value (done_by w.pc place.next_pc read.value w) refl none_here
         (acts_is w (suc left) end g read.value operation_is) f.comes))

@@ -1,73 +1,119 @@
 -- A step of a well-typed machine is safe, whichever instruction it makes; so is a run.
-use Rattle.std.proofs.Common.{◌≡◌, ℕ, zero, suc, ℤ, List, [], true, None, Some, Ok, replicate}
-use Rattle.std.proofs.Common.{refl, sym, ap, subst, arith}
+use Rattle.std.proofs.Common.{◌≡◌, ℕ, zero, suc, ℤ, ◌<◌, List, [], ◌∷◌, map, replicate, Bool, true, Option, None, Some}
+use Rattle.std.proofs.Common.{Ok, refl, sym, ap, subst, arith}
+use Rattle.std.proofs.lemmas.Bool.{lt-ltb}
+use Rattle.std.proofs.lemmas.List.Elements.{All-contains, All-from_recursion}
 use Rattle.std.specs.Int.{w16}
 use Rattle.std.specs.Int.RustNames.{FitsSigned}
 use Rattle.std.specs.List.{AllByRecursion}
 use Rattle.std.specs.Prelude.{⊤}
 use Rattle.jc_check.specs.Method.{entry_of, word_locals, word_max_stack, word_method}
 use Rattle.jc_check.specs.Rules.{word_rules}
-use Rattle.jc_check.specs.Typing.{BranchLeads, IsFineAt, IsTyping, Typing}
+use Rattle.jc_check.specs.Typing.{BranchLeads, IsFineAt, IsTyping, Leads, Typing}
 use Rattle.jc_code.specs.Instructions.{word_instr_at}
-use Rattle.jc_code.specs.Listing.{ListingLaws, PlacedInstr, placed_at}
+use Rattle.jc_code.specs.Listing.{ListingLaws, PlacedInstr}
 use Rattle.jc_code.specs.Targets.{falls_of, offsets_of, target_of, targets_of}
 use Rattle.jc_code.specs.declared.instr.Operation.{Operation}
 use Rattle.jc_code.specs.declared.instr.Operation.TheVariants as operations
-use Rattle.jc_code.specs.declared.instr.Shuffle.TheVariants.{Duplicate, Pop, Swap}
-use Rattle.jc_code.specs.declared.instr.When.TheVariants.{Always, Compare, Zero}
 use Rattle.jc_code.specs.declared.instr.WordOperation.{WordOperation}
 use Rattle.jc_code.specs.declared.instr.WordOperation.TheVariants as ops
 use Rattle.jc_types.specs.State.{Types, all_below}
 use Rattle.jc_types.specs.declared.ty.Ty.TheVariants as types
-use Rattle.jc_words.specs.Laws.{WordLaws}
-use Rattle.jc_words.specs.Values.{Unset}
-use Rattle.jc_machine.specs.Machine.{Ends, Machine, Next, Outcome, Stuck, Throws, UsedUp}
+use Rattle.jc_words.specs.Values.{TaggedValue, Unset, Word}
+use Rattle.jc_machine.specs.Going.{Here, check, jumps, moved, on_some, with_top}
+use Rattle.jc_machine.specs.Machine.{Ends, Frame, Machine, Next, Outcome, Stepped, Stuck, Throws, UsedUp}
+use Rattle.jc_machine.specs.Returns.{returns_to, returns_value}
 use Rattle.jc_machine.specs.Step.{Called, continued}
+use Rattle.jc_machine.specs.TypedWords.{LeavesTyped, KeepWordsTyped, branching, going, returning, throwing}
+use Rattle.jc_machine.specs.Words.{act_word}
 use Rattle.jc_machine.specs.declared.stop.Budget.TheVariants.{FrameWords}
-use Rattle.jc_eval.specs.Alone.{act_alone, alone_call, alone_step, alone_steps, first_machine, here_alone}
-use Rattle.jc_eval.specs.TypedCode.{EndsTypedAlone, IsTypedAlone, StandsAt, StepsTyped}
-use Rattle.jc_eval.proofs.Lists.{both, unmapped}
-use Rattle.jc_eval.proofs.Safe as safe
-use Rattle.jc_eval.proofs.Safe.{IsSafe, safe_some}
-use Rattle.jc_eval.proofs.Values.{Have, below, operands_up, types_up}
-use Rattle.jc_eval.proofs.Words as words
-use Rattle.jc_eval.proofs.Words.{Owes}
+use Rattle.jc_eval.specs.Alone.{act_alone, alone_call, alone_method, alone_step, alone_steps, first_machine, here_alone}
+use Rattle.jc_eval.specs.Alone.{nothing_around}
+use Rattle.jc_eval.specs.TypedCode.{EndsTypedAlone, GoesOnTyped, IsTypedAlone, StandsAt, StepsTyped}
+use Rattle.jc_eval.proofs.Values.{Have, Hold, below, both, operands_up, types_up}
 
--- ---- any instruction
+-- what holds of each member's image
+unmapped : {A B : Type 0} (P : B → Type 0) (f : A → B) (xs : List A) → AllByRecursion P (map f xs)
+    → AllByRecursion (λ x. P (f x)) xs
+unmapped P f [] h = tt
+unmapped P f (x ∷ xs) h = (h.0, unmapped P f xs h.1)
 
-module _ (laws : WordLaws) (typing : Typing) (m : Machine ⊤) (t : IsTypedAlone typing m) (next : ℕ) where
-  word_safe : (operation : WordOperation) → ((value : ℤ) → operation ≡ ops.Push value → FitsSigned w16 value)
-      → Owes typing m t next operation
-  word_safe ops.Nop short = words.nop typing m t next
-  word_safe (ops.Push value) short = words.push typing m t next value (short value refl)
-  word_safe (ops.Load local) short = words.load typing m t next local
-  word_safe (ops.Store local) short = words.store typing m t next local
-  word_safe (ops.Increment local by) short = words.increment typing m t next laws local by
-  word_safe (ops.Shuffle (Pop count)) short = words.shuffle_pop typing m t next count
-  word_safe (ops.Shuffle (Duplicate count depth)) short = words.shuffle_duplicate typing m t next count depth
-  word_safe (ops.Shuffle (Swap upper lower)) short = words.shuffle_swap typing m t next upper lower
-  word_safe (ops.Binary operator) short = words.binary typing m t next laws operator
-  word_safe (ops.Unary operator) short = words.unary typing m t next laws operator
-  word_safe (ops.Branch Always offset) short = words.goto typing m t next offset
-  word_safe (ops.Branch (Zero condition) offset) short = words.branch_zero typing m t next condition offset
-  word_safe (ops.Branch (Compare condition) offset) short = words.branch_compare typing m t next condition offset
-  word_safe (ops.StableSwitch default low offsets) short = words.stable_switch typing m t next laws default low offsets
-  word_safe (ops.LookupSwitch default cases) short = words.lookup_switch typing m t next laws default cases
-  word_safe ops.ReturnWord short = words.return_word typing m t next
+-- ---- an instruction
 
-  act_safe : (operation : Operation) (after : Types)
+module _ (typing : Typing) (m : Machine ⊤) (t : IsTypedAlone typing m) (next : ℕ) where
+  abbrev here : Here ⊤
+  here = record {
+    around = nothing_around;
+    machine = m;
+    method = alone_method;
+    max_stack = word_max_stack;
+    next_pc = next;
+  }
+
+  abbrev BranchesTo : Types → ℤ → Type 0
+  BranchesTo after offset = BranchLeads word_rules typing after (target_of m.top.pc offset)
+
+  moves : (pc : ℕ) (locals operands : List TaggedValue) (after : Types) → Have locals after.locals
+      → Hold operands after.operands → Leads word_rules typing after pc
+      → GoesOnTyped typing m (with_top m (moved m.top pc locals operands))
+  moves pc locals operands after has holds leads =
+      let b = both (all_below below after.locals leads.state.locals)
+      (all_below below after.operands leads.state.operands) leads.below in record {
+        typed = record {
+          heap = t.heap;
+          statics = t.statics;
+          waiting = t.waiting;
+          state = leads.state;
+          stated = leads.typed;
+          locals = types_up locals after.locals leads.state.locals b.0 has;
+          operands = operands_up operands after.operands leads.state.operands b.1 holds;
+        };
+        frame_alone = refl;
+      }
+
+  jumped : (place : ℤ) (operands : List TaggedValue) (after : Types) → Have m.top.locals after.locals
+      → Hold operands after.operands → BranchLeads word_rules typing after place
+      → StepsTyped typing m (jumps here place operands).outcome
+  jumped place operands after has holds leads =
+      subst (λ (z : ℤ). StepsTyped typing m (jumps here z operands).outcome) (sym leads.is)
+      (moves leads.pc m.top.locals operands after has holds leads.leads)
+
+  -- no frame waits for what is given
+  gives_word : (n : ℕ) → n < 65536 → StepsTyped typing m (returns_value here (Word n)).outcome
+  gives_word n small =
+      let given = returns_to here (Some (Word n)) in
+      subst (λ (b : Bool). StepsTyped typing m (check b (given m.waiting)).outcome) (sym (lt-ltb n 65536 small))
+      (subst (λ (waiting : List Frame). StepsTyped typing m (given waiting).outcome) (sym t.waiting)
+      (record { same = refl; word = n; small = small; is = refl }))
+
+  word_comes : (operation : WordOperation) (after : Types)
+      → AllByRecursion (BranchesTo after) (offsets_of (operations.Word operation))
+      → (falls_of (operations.Word operation) ≡ true → Leads word_rules typing after next) → (x : Stepped ⊤)
+      → LeavesTyped [] [] here (Some types.Word) operation after x → StepsTyped typing m x.outcome
+  word_comes operation after branches falls _ (going locals operands on has holds) =
+      moves next locals operands after has holds (falls on)
+  word_comes operation after branches falls _ (branching offset operands there has holds) =
+      jumped (target_of m.top.pc offset) operands after has holds
+      (All-contains (BranchesTo after) (offsets_of (operations.Word operation)) offset
+      (All-from_recursion (BranchesTo after) (offsets_of (operations.Word operation)) branches) there)
+  word_comes operation after branches falls _ throwing = record { same = refl; arithmetic = refl }
+  word_comes operation after branches falls _ (returning word small is) = gives_word word small
+
+  act_safe : KeepWordsTyped ⊤ → (operation : Operation) (after : Types)
       → ((value : ℤ) → operation ≡ operations.Word (ops.Push value) → FitsSigned w16 value)
       → word_rules.effect word_max_stack (Some types.Word) operation t.state ≡ Ok after
-      → AllByRecursion (safe.BranchesTo typing m.top.pc after) (offsets_of operation)
-      → (falls_of operation ≡ true → safe.LeadsTo typing after next)
-      → IsSafe typing m (act_alone (safe.here typing m t next m.top.operands) operation)
-  act_safe (operations.Word operation) after short e branches falls =
-      word_safe operation (λ value is. short value (ap operations.Word is)) after e branches falls
-  act_safe (operations.Object operation) after short e branches falls = absurd cc
+      → AllByRecursion (BranchesTo after) (offsets_of operation)
+      → (falls_of operation ≡ true → Leads word_rules typing after next)
+      → StepsTyped typing m (act_alone here operation).outcome
+  act_safe words (operations.Word operation) after short e branches falls =
+      word_comes operation after branches falls (act_word here operation)
+      (words [] [] below here (Some types.Word) t.state after t.locals t.operands operation
+      (λ value is. short value (ap operations.Word is)) e)
+  act_safe words (operations.Object operation) after short e branches falls = absurd cc
 
 -- ---- a step
 
-module _ (laws : ListingLaws word_instr_at) (word_laws : WordLaws) (code : List ℕ) (typing : Typing)
+module _ (laws : ListingLaws word_instr_at) (words : KeepWordsTyped ⊤) (code : List ℕ) (typing : Typing)
     (t : IsTyping word_rules (word_method code) typing) where
   module _ (m : Machine ⊤) (typed : IsTypedAlone typing m) where
     its_instruction : IsFineAt word_rules (word_method code) typing t.listing m.top.pc typed.state
@@ -85,24 +131,23 @@ module _ (laws : ListingLaws word_instr_at) (word_laws : WordLaws) (code : List 
           spelled = has.1;
         }
 
-    acts : IsSafe typing m (alone_step t.listing m)
+    pub steps_safely : StepsTyped typing m (alone_step t.listing m).outcome
     unfolding alone_step stands_at
-    acts =
+    steps_safely =
         let x = its_instruction in
         let at = stands_at in
         let operation = x.instr.instr.operation in
         let branches = subst
         (λ (pc : ℕ). AllByRecursion (BranchLeads word_rules typing x.fine.after) (targets_of pc operation))
         at.begins x.fine.branches in
-        safe_some typing m (placed_at t.listing m.top.pc) x.instr
-        (λ (y : PlacedInstr). act_alone (here_alone m y.instr) y.instr.operation) x.stands
-        (act_safe word_laws typing m typed x.instr.instr.next_pc operation x.fine.after
+        subst
+        (λ (o : Option PlacedInstr).
+        StepsTyped typing m (on_some o (λ y. act_alone (here_alone m y.instr) y.instr.operation)).outcome)
+        (sym x.stands)
+        (act_safe typing m typed x.instr.instr.next_pc words operation x.fine.after
         (λ value is. laws.pushes code m.top.pc x.instr.instr value at.spelled is) x.fine.effect
         (unmapped (BranchLeads word_rules typing x.fine.after) (target_of m.top.pc) (offsets_of operation) branches)
         x.fine.falls)
-
-    pub steps_safely : StepsTyped typing m (alone_step t.listing m).outcome
-    steps_safely = acts.fine
 
   -- ---- many steps
 
@@ -154,8 +199,8 @@ begins_typed code typing t =
       operands = operands_up [] [] s.state.operands b.1 tt;
     }
 
-pub calls_safely : ListingLaws word_instr_at → WordLaws → (code : List ℕ) (typing : Typing)
+pub calls_safely : ListingLaws word_instr_at → KeepWordsTyped ⊤ → (code : List ℕ) (typing : Typing)
     → (t : IsTyping word_rules (word_method code) typing) (steps : ℕ)
     → EndsTypedAlone typing (alone_call t.listing steps).ends
-calls_safely laws word_laws code typing t steps =
-    runs_safely laws word_laws code typing t steps first_machine (begins_typed code typing t)
+calls_safely laws words code typing t steps =
+    runs_safely laws words code typing t steps first_machine (begins_typed code typing t)

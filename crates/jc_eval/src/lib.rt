@@ -14,7 +14,7 @@ mod run;
 
 pub use examples::{code_runs, stuck_code_runs};
 use jc_code::listing_laws;
-use jc_words::word_laws;
+use jc_machine::{IdleNatives, operations_on_words_keep_types};
 pub use run::{CodeEnd, run_code};
 
 /// Code alone that is well typed is type-safe. The machine is well typed where it begins. Where it is well typed, an
@@ -35,5 +35,5 @@ pub fn carried_code_is_safe()
         → (steps : ℕ) → EndsTypedAlone typing (alone_call t.listing steps).ends }
 {
     listing_laws();
-    word_laws();
+    operations_on_words_keep_types(&IdleNatives);
 }

@@ -2,7 +2,7 @@
 
 ghost use Rattle.std.specs.Prelude.{◌≡◌, ◌≤◌, length, reverse, slice_index, take};
 ghost use Rattle.jc_eval.specs.Alone.{EndsAs, alone_call};
-ghost use Rattle.jc_eval.specs.PrivateRuns.{end_of, is_return};
+ghost use Rattle.jc_eval.specs.PrivateRuns.{end_of};
 ghost use Rattle.jc_code.specs.Instructions.{word_instr_at};
 ghost use Rattle.jc_check.specs.Method.{word_method};
 ghost use Rattle.jc_check.specs.Rules.{word_rules};
@@ -10,7 +10,7 @@ ghost use Rattle.jc_check.specs.Typing.{IsTyping, Typing};
 
 use crate::carried_code_is_safe;
 use jc_check::{CheckedWords, WORD_LOCALS, WORD_MAX_STACK};
-use jc_code::{Operation, WordOperation, decode_words};
+use jc_code::decode_words;
 use jc_follow::words_follow;
 use jc_loop::{Place, run_words, words_are_decoded};
 use jc_machine::IdleNatives;
@@ -24,22 +24,6 @@ pub enum CodeEnd {
     Divided,
     /// The code hadn't ended after so many steps.
     UsedUp,
-}
-
-fn returns(operation: &Operation<'_>) -> bool
-    ensures { result ≡ is_return operation.now }
-{
-    match operation {
-        Operation::Word(operation) => match operation {
-            WordOperation::ReturnWord => true,
-            WordOperation::Nop | WordOperation::Push(_) | WordOperation::Load(_) => false,
-            WordOperation::Store(_) | WordOperation::Increment { .. } => false,
-            WordOperation::Shuffle(_) | WordOperation::Binary(_) | WordOperation::Unary(_) => false,
-            WordOperation::Branch { .. } | WordOperation::StableSwitch { .. } => false,
-            WordOperation::LookupSwitch { .. } => false,
-        },
-        Operation::Object(_) => false,
-    }
 }
 
 /// The top operand; 0 where there is none.
@@ -60,7 +44,7 @@ fn end_at(code: &[u8], slots: &[u16], place: Place) -> CodeEnd
 {
     match decode_words(code, usize::from(place.pc)) {
         Ok(instr) => {
-            if returns(&instr.operation) {
+            if instr.ends() {
                 return CodeEnd::Gave(top_of(slots, place.depth));
             }
             CodeEnd::Divided

@@ -22,7 +22,7 @@ use Rattle.jc_machine.specs.Guarded.{AreGuarded, AreMade, IsJudged, KeepsStatics
 use Rattle.jc_machine.specs.Guarded.{by_frame, denied, one_written, is_allowed, machine_of, setting_of}
 use Rattle.jc_machine.specs.Machine.{Asked, Machine, Next, Outcome, Stepped, Surroundings, Throws, Touch}
 use Rattle.jc_machine.specs.Runtime.{security_exception}
-use Rattle.jc_words.specs.Values.{Null, Ref, TaggedValue, Unset, Word, is_reference}
+use Rattle.jc_words.specs.Values.{Null, Ref, TaggedValue, Unset, Word, is_tagged_reference}
 use Rattle.jc_machine.proofs.StayingApart.{IsApartIn, IsApartPart, IsKeptIn, LeadsApart, is_apart_itself}
 use Rattle.jc_machine.proofs.StayingApart.{moved_apart, own_spares}
 use Rattle.jc_machine.proofs.Switching.{switched_by}
@@ -189,7 +189,7 @@ pub at_reference : {C : Type 0} {around : Surroundings C} {m : Machine C} {befor
     → ((v : TaggedValue) (rest : List TaggedValue) → KeepsLaw around m before (go v rest))
     → KeepsLaw around m before (on_reference vs go)
 at_reference [] go k = is_stuck
-at_reference (v ∷ vs) go k = at_check (is_reference v) (go v vs) (k v vs)
+at_reference (v ∷ vs) go k = at_check (is_tagged_reference v) (go v vs) (k v vs)
 
 pub at_operands : {C : Type 0} {around : Surroundings C} {m : Machine C} {before : List Touch} (count : ℕ)
     (vs : List TaggedValue)
@@ -215,7 +215,7 @@ pub at_reference_local : {C : Type 0} {around : Surroundings C} {m : Machine C} 
     (go : TaggedValue → Stepped C) → ((v : TaggedValue) → KeepsLaw around m before (go v))
     → KeepsLaw around m before (on_reference_local v go)
 at_reference_local None go k = is_stuck
-at_reference_local (Some v) go k = at_check (is_reference v) (go v) (k v)
+at_reference_local (Some v) go k = at_check (is_tagged_reference v) (go v) (k v)
 
 -- ---- tests that throw
 

@@ -88,7 +88,7 @@ record IsAsWas {C : Type 0} (m : Machine C) (a : NativeAnswer C) : Type 0 where
   heap : a.heap ≡ m.heap
   runtime : a.runtime ≡ m.runtime
 
-record IsRefusal {C : Type 0} (m : Machine C) (a : NativeAnswer C) : Type 0 where
+record IsNativeRefusal {C : Type 0} (m : Machine C) (a : NativeAnswer C) : Type 0 where
   unchanged : IsAsWas m a
   throws : a.ends ≡ ThrowsObject security_exception
 
@@ -101,20 +101,17 @@ record IsFineApart {C : Type 0} (keeps : C → Bool) (m : Machine C) (a : Native
 record IsFineAnswer {C : Type 0} (around : Surroundings C) (m : Machine C) (before : List Touch) (a : NativeAnswer C)
     : Type 0 where
   made : AllByRecursion (IsJudged (setting_of around m)) before → AreMade around m (before ++ a.touches)
-  guarded : AreGuarded a.touches (IsRefusal m a)
+  guarded : AreGuarded a.touches (IsNativeRefusal m a)
   changes : KeepsHeap m.top.active a.touches m.heap a.heap
   apart : (keeps : C → Bool) → IsApartIn keeps around m → IsFineApart keeps m a
   remembers : (keeps : C → Bool) → IsKeptIn keeps around m → keeps a.runtime ≡ true
-
-abbrev answer_to : {C : Type 0} → Here C → NativeCall C → NativeAnswer C
-answer_to h call = h.around.natives.answer h.around.world call
 
 refused_as : {C : Type 0} (h : Here C) (active : Owner) (previous : Option Owner) (member : ℕ)
     (arguments : List TaggedValue)
     → IsGuardedAnswer h.around.natives h.around.world (native_call h.around h.machine active previous member arguments)
     (native_answer h active previous member arguments)
     → AreGuarded (native_answer h active previous member arguments).touches
-    (IsRefusal h.machine (native_answer h active previous member arguments))
+    (IsNativeRefusal h.machine (native_answer h active previous member arguments))
 refused_as h active previous member arguments h1 = grind (arith, mapped)
 
 apart_as : {C : Type 0} (h : Here C) (active : Owner) (previous : Option Owner) (member : ℕ)
@@ -309,7 +306,7 @@ threw_keeps : {C : Type 0} {before : List Touch} (h : Here C) (a : NativeAnswer 
     → KeepsLaw h.around h.machine before (touched a.touches (throws (after_native h a) number))
 threw_keeps {C = C} {before = before} h a number fine e =
     ends_behind h a (throws (after_native h a) number) refl fine
-    (mapped a.touches (IsRefusal h.machine a)
+    (mapped a.touches (IsNativeRefusal h.machine a)
     (throws (after_native h a) number ≡ plain (Throws h.machine security_exception)) (λ r.
     ap (λ (m : Machine C). plain (Throws m number)) (same_machine h a r.unchanged)
     ∙ ap (λ n. plain (Throws h.machine n)) (same_thrown a.ends number e r.throws)) fine.guarded)

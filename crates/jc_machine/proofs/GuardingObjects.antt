@@ -1,15 +1,12 @@
 -- Objects that are made, cast and thrown, and references that are moved, keep the law of accesses.
-use Rattle.std.proofs.Common.{ℕ, ℤ, Bool, true, false, cond, not, List, [], ◌∷◌, length, Some, None, ◌≡◌, inr, arith}
-use Rattle.std.proofs.Common.{int_lt, nat_lt, refl, replicate, slice_get, slice_set}
+use Rattle.std.proofs.Common.{ℕ, ℤ, Bool, true, false, cond, not, List, [], ◌∷◌, None, ◌≡◌, inr, arith}
+use Rattle.std.proofs.Common.{int_lt, refl, replicate}
 use Rattle.std.proofs.lemmas.Option.{same_Some}
 use Rattle.jc_code.specs.declared.object.Creation.{Creation}
 use Rattle.jc_code.specs.declared.object.Creation.TheVariants as Creations
 use Rattle.jc_code.specs.declared.instr.Operation.TheVariants as operations
 use Rattle.jc_code.specs.declared.object.ObjectOperation.{ObjectOperation}
-use Rattle.jc_code.specs.declared.object.ObjectOperation.TheVariants.{PushNull, Load, Store, LoadComponent}
-use Rattle.jc_code.specs.declared.object.ObjectOperation.TheVariants.{StoreComponent, ArrayLength, Branch, Field}
-use Rattle.jc_code.specs.declared.object.ObjectOperation.TheVariants.{Invoke, Create, CheckCast, InstanceOf, Throw}
-use Rattle.jc_code.specs.declared.object.ObjectOperation.TheVariants.{ReturnReference, ReturnVoid}
+use Rattle.jc_code.specs.declared.object.ObjectOperation.TheVariants.{Field, Invoke}
 use Rattle.jc_code.specs.declared.object.ReferenceCondition.{ReferenceCondition}
 use Rattle.jc_code.specs.declared.object.ReferenceCondition.TheVariants as Conditions
 use Rattle.jc_code.specs.declared.object.TestedType.{TestedType}
@@ -189,22 +186,23 @@ branch_keeps h Conditions.Different offset = search (arith, at_known, branches_s
 pub object_keeps : {C : Type 0} (h : Here C) → AreNativesGuarded h.around.natives → (operation : ObjectOperation)
     → StandsAt h.around h.machine (operations.Object operation) → KeepsLaw h.around h.machine [] (act_object h operation)
 unfolding act_object
-object_keeps h natives PushNull at = gives_still h Null h.machine.top.operands
-object_keeps h natives (Load local) at =
-    at_reference_local (slice_get h.machine.top.locals local) _ (λ v. gives_still h v h.machine.top.operands)
-object_keeps h natives (Store local) at =
-    at_reference h.machine.top.operands _ (λ v vs. at_check (nat_lt local (length h.machine.top.locals)) _
-    (goes_behind h (slice_set h.machine.top.locals local v) vs))
-object_keeps h natives (LoadComponent form) at = load_keeps h form
-object_keeps h natives (StoreComponent form) at = store_keeps h form
-object_keeps h natives ArrayLength at = length_keeps h
-object_keeps h natives (Branch when offset) at = branch_keeps h when offset
 object_keeps h natives (Field access index) at = field_keeps h access index at
 object_keeps h natives (Invoke invocation) at = call_keeps h natives invocation
-object_keeps h natives (Create creation) at = create_keeps h creation
-object_keeps h natives (CheckCast type) at = check_cast_keeps h type
-object_keeps h natives (InstanceOf type) at = instance_of_keeps h type
-object_keeps h natives Throw at = throw_keeps h
-object_keeps h natives ReturnReference at =
-    at_reference h.machine.top.operands _ (λ v vs. at_returns h (Some v))
-object_keeps h natives ReturnVoid at = at_returns h None
+object_keeps h natives operation at =
+    search (
+      arith,
+      gives_still,
+      goes_behind,
+      at_reference_local,
+      at_reference,
+      at_check,
+      at_returns,
+      load_keeps,
+      store_keeps,
+      length_keeps,
+      branch_keeps,
+      create_keeps,
+      check_cast_keeps,
+      instance_of_keeps,
+      throw_keeps,
+    )

@@ -1,19 +1,16 @@
 -- Instructions on words, and those that move operands, keep the law of accesses.
-use Rattle.std.proofs.Common.{◌+◌, List, length, drop, max, Option, Some, None, ℕ, true, nat_le, nat_lt, slice_get}
-use Rattle.std.proofs.Common.{slice_set}
+use Rattle.std.proofs.Common.{arith, ◌+◌, List, length, drop, max, Option, Some, None, ℕ, true, nat_le}
 use Rattle.jc_base.specs.Stack.{duplicated, swapped}
 use Rattle.jc_code.specs.declared.instr.Shuffle as shuffles
 use Rattle.jc_code.specs.declared.instr.Shuffle.TheVariants.{Pop, Duplicate, Swap}
 use Rattle.jc_code.specs.declared.instr.When.TheVariants.{Always, Zero, Compare}
 use Rattle.jc_code.specs.declared.instr.WordOperation.{WordOperation}
-use Rattle.jc_code.specs.declared.instr.WordOperation.TheVariants.{Nop, Push, Load, Store, Increment, Shuffle, Binary}
-use Rattle.jc_code.specs.declared.instr.WordOperation.TheVariants.{Unary, Branch, StableSwitch, LookupSwitch}
-use Rattle.jc_code.specs.declared.instr.WordOperation.TheVariants.{ReturnWord}
+use Rattle.jc_code.specs.declared.instr.WordOperation.TheVariants.{Shuffle, Branch}
 use Rattle.jc_machine.specs.Going.{Here}
 use Rattle.jc_machine.specs.Machine.{Stepped, Touch}
 use Rattle.jc_machine.specs.Words.{act_word, on_result, shuffled}
-use Rattle.jc_words.specs.Shorts.{binary_of, holds, incremented, lookup_offset, short, stable_offset, unary_of, word_of}
-use Rattle.jc_words.specs.Values.{TaggedValue, Word}
+use Rattle.jc_words.specs.Shorts.{holds}
+use Rattle.jc_words.specs.Values.{TaggedValue}
 use Rattle.jc_machine.proofs.Guarding.{KeepsLaw, at_check, at_operands, at_word, at_word_local, branches_still}
 use Rattle.jc_machine.proofs.Guarding.{gives_still, goes_behind, leaves_still, throws_still}
 use Rattle.jc_machine.proofs.GuardingReturns.{at_returns}
@@ -35,30 +32,22 @@ shuffle_keeps h (Swap upper lower) vs =
 pub word_keeps : {C : Type 0} {before : List Touch} (h : Here C) (operation : WordOperation)
     → KeepsLaw h.around h.machine before (act_word h operation)
 unfolding act_word
-word_keeps h Nop = leaves_still h h.machine.top.operands
-word_keeps h (Push value) = gives_still h (Word (word_of value)) h.machine.top.operands
-word_keeps h (Load local) =
-    at_word_local (slice_get h.machine.top.locals local) _ (λ n. gives_still h (Word n) h.machine.top.operands)
-word_keeps h (Store local) =
-    at_word h.machine.top.operands _ (λ n vs. at_check (nat_lt local (length h.machine.top.locals)) _
-    (goes_behind h (slice_set h.machine.top.locals local (Word n)) vs))
-word_keeps h (Increment local by) =
-    at_word_local (slice_get h.machine.top.locals local) _ (λ n.
-    goes_behind h (slice_set h.machine.top.locals local (Word (incremented n by))) h.machine.top.operands)
 word_keeps h (Shuffle shuffle) = shuffle_keeps h shuffle h.machine.top.operands
-word_keeps h (Binary operator) =
-    at_word h.machine.top.operands _ (λ b us. at_word us _ (λ a vs. at_arithmetic h (binary_of operator a b) _ (λ n.
-    gives_still h (Word n) vs)))
-word_keeps h (Unary operator) =
-    at_word h.machine.top.operands _ (λ a vs. gives_still h (Word (unary_of operator a)) vs)
 word_keeps h (Branch Always offset) = branches_still h true offset h.machine.top.operands
 word_keeps h (Branch (Zero condition) offset) =
     at_word h.machine.top.operands _ (λ a vs. branches_still h (holds condition a 0) offset vs)
 word_keeps h (Branch (Compare condition) offset) =
     at_word h.machine.top.operands _ (λ b us. at_word us _ (λ a vs. branches_still h (holds condition a b) offset vs))
-word_keeps h (StableSwitch default low offsets) =
-    at_word h.machine.top.operands _ (λ key vs.
-    branches_still h true (stable_offset default low offsets (short key)) vs)
-word_keeps h (LookupSwitch default cases) =
-    at_word h.machine.top.operands _ (λ key vs. branches_still h true (lookup_offset default cases (short key)) vs)
-word_keeps h ReturnWord = at_word h.machine.top.operands _ (λ n vs. at_returns h (Some (Word n)))
+word_keeps h operation =
+    search (
+      arith,
+      leaves_still,
+      gives_still,
+      goes_behind,
+      at_word_local,
+      at_word,
+      at_check,
+      at_arithmetic,
+      branches_still,
+      at_returns,
+    )

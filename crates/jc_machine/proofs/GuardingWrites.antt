@@ -2,7 +2,7 @@
 use Rattle.std.proofs.Common.{◌≡◌, ◌⊎◌, inl, inr, ℕ, zero, suc, ◌||◌, Bool, true, false, cond, refl, sym, arith}
 use Rattle.std.proofs.Common.{ap, ◌∙◌, subst, eqb-true, List, [], ◌∷◌, Some, length-set, slice_get, set}
 use Rattle.std.proofs.lemmas.Option.{none-some, same_Some}
-use Rattle.jc_firewall.specs.Verdict.{Row, components, fields, is_own, row_of, runtime_context}
+use Rattle.jc_firewall.specs.Verdict.{AccessRow, components, fields, is_own, row_of, runtime_context}
 use Rattle.jc_firewall.specs.Verdict.{verdict_in as verdict_in_row, verdict_of}
 use Rattle.jc_firewall.specs.declared.access.Access.{Access}
 use Rattle.jc_firewall.specs.declared.access.Facts.{Facts}
@@ -41,7 +41,7 @@ own_component : (out own : Bool)
     → own ≡ true
 own_component out own h1 = grind arith
 
-by_row : (active : ℕ) (f : Facts) (r : Row) → (r ≡ fields) ⊎ (r ≡ components) → f.mark ≡ Plain
+by_row : (active : ℕ) (f : Facts) (r : AccessRow) → (r ≡ fields) ⊎ (r ≡ components) → f.mark ≡ Plain
     → is_allowed (verdict_in_row r active f) ≡ true → is_own active f ≡ true
 by_row active f r h1 h2 h3 = grind (arith, own_field, own_component)
 

@@ -1,14 +1,10 @@
 -- Native members that do nothing keep the law of native members.
-use Rattle.std.proofs.Common.{◌≡◌, ◌&&◌, Bool, true, cond, Option, Some, arith}
+use Rattle.std.proofs.Common.{◌≡◌, ◌&&◌, Bool, true, Option, Some, arith}
 use Rattle.std.proofs.lemmas.Option.{none-some}
-use Rattle.jc_base.specs.Signature.{Signature}
-use Rattle.jc_classes.specs.Members.{DeclaredMethod}
-use Rattle.jc_names.specs.declared.name.ClassName.{ClassName}
 use Rattle.jc_link.specs.Linked.{World}
 use Rattle.jc_store.specs.Heap.{Object}
 use Rattle.jc_machine.specs.Accepted.{IsAccepted}
 use Rattle.jc_machine.specs.Idle.{idle}
-use Rattle.jc_machine.specs.Lookup.{are_of_instance, are_of_types, may_begin_with}
 use Rattle.jc_machine.specs.Machine.{NativeCall}
 use Rattle.jc_machine.specs.Natives.{IsFitAnswer, IsFitCall, IsGuardedAnswer, IsLawful}
 use Rattle.jc_machine.proofs.ApiResults.{idle_fits, passed_some}
@@ -22,15 +18,6 @@ same found o p e f = cc
 -- nothing is accessed, and nothing changes
 idle_is_guarded : (w : World) (call : NativeCall (Unit {0})) → IsGuardedAnswer idle w call (idle.answer w call)
 idle_is_guarded w call = grind (arith, same, none-some)
-
--- a method may begin with the arguments of a call; and these are of the types of a signature
-abbrev may_begin : World → NativeCall (Unit {0}) → DeclaredMethod → Bool
-may_begin w call d = may_begin_with w.shapes call.heap d call.arguments
-
-abbrev takes : World → NativeCall (Unit {0}) → DeclaredMethod → Signature ClassName → Bool
-takes w call d signature =
-    cond d.method.is_static (are_of_types w.shapes call.heap signature.parameters call.arguments)
-    (are_of_instance w.shapes call.heap d.class signature.parameters call.arguments)
 
 -- what is given is of the declared type
 idle_is_fit : (w : World) (call : NativeCall (Unit {0})) → IsAccepted w → IsFitCall idle w call

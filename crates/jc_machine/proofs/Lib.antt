@@ -26,3 +26,4 @@ mod SmallWorlds
 mod Staying
 mod StayingApart
 mod Switching
+mod TypingWords

@@ -12,7 +12,7 @@ use Rattle.jc_api.specs.declared.class.ApiClass.TheVariants as tables
 use Rattle.jc_cap_desc.specs.Shape.{Shape}
 use Rattle.jc_classes.specs.Methods.{interface_method_of, public_method_of, virtual_method_of}
 use Rattle.jc_classes.specs.Walk.{found}
-use Rattle.jc_firewall.specs.Verdict.{Row, runtime, runtime_context, verdict_in, verdict_of}
+use Rattle.jc_firewall.specs.Verdict.{AccessRow, runtime, runtime_context, verdict_in, verdict_of}
 use Rattle.jc_firewall.specs.declared.access.Access.{Access}
 use Rattle.jc_firewall.specs.declared.access.Facts.{Facts}
 use Rattle.jc_firewall.specs.declared.access.Verdict.{Verdict}
@@ -67,7 +67,7 @@ to_runtime f h owner e = inr h
 to_owner : (f : Facts) → Switches f (AllowedSwitch f.owner)
 to_owner f owner e = inl (same_Some owner f.owner (sym e))
 
-by_row : (r : Row) (active : ℕ) (f : Facts) → Switches f (verdict_in r active f)
+by_row : (r : AccessRow) (active : ℕ) (f : Facts) → Switches f (verdict_in r active f)
 by_row r active f = grind (arith, stays_on, allowed_or, either, to_runtime, not_plain, to_owner)
 
 -- of an access that isn't in the runtime's name

@@ -12,6 +12,7 @@ pub mod Step
 pub mod Reading
 pub mod Accepted
 pub mod Typed
+pub mod TypedWords
 pub mod Storable
 pub mod Guarded
 pub mod Natives

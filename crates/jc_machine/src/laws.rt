@@ -21,6 +21,7 @@ ghost use Rattle.jc_machine.specs.Natives.{AreNativesGuarded, KeepsObjects};
 ghost use Rattle.jc_machine.specs.Runtime.{HasRuntimeObjects};
 ghost use Rattle.jc_machine.specs.Step.{Start, defensive_step, runtime_call};
 ghost use Rattle.jc_machine.specs.Storable.{FieldsHoldStorable, HoldStorable, may_be_held};
+ghost use Rattle.jc_machine.specs.TypedWords.{KeepWordsTyped};
 ghost use Rattle.jc_machine.specs.Uncounted.{HaveCells, IsInstructionAt};
 ghost use Rattle.jc_link.specs.Linked.{IsBoundTo, IsLast, IsWorld, Linked, LinkedBody, World, with_linked};
 ghost use Rattle.jc_names.specs.declared.owner.Owner.{Owner};
@@ -31,6 +32,7 @@ use crate::natives::Natives;
 use jc_classes::growing_keeps_lookups;
 use jc_code::listing_laws;
 use jc_link::{built_worlds_are_sound, built_worlds_have_the_api, growing_keeps_linking};
+use jc_words::word_laws;
 
 /// In a world each method of a loaded package's classes that isn't abstract has code. It does nothing.
 #[tactic(auto, using(crate::proofs::HavingCode::have_code))]
@@ -132,4 +134,14 @@ pub fn cells_follow_superclasses()
 {
     built_worlds_are_sound();
     built_worlds_have_the_api();
+}
+
+/// Where an operation on words has an effect on the types of a frame's values, the frame goes on with values of the
+/// types behind it, at the next instruction or where one of the operation's offsets leads, throws the arithmetic
+/// exception, or returns a word. So it is in any world, with any objects, and beside any order of classes. What the
+/// runtime keeps may be of any type. It does nothing.
+pub fn operations_on_words_keep_types<N: Natives>(_natives: &N)
+    ensures { KeepWordsTyped N.Kept }
+{
+    word_laws();
 }

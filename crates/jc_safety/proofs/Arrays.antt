@@ -34,7 +34,7 @@ use Rattle.jc_machine.specs.Machine.{Machine, Surroundings}
 use Rattle.jc_machine.specs.Runtime.{array_index_exception, array_store_exception}
 use Rattle.jc_machine.specs.Typed.{CellsTyped, HoldTypes, IsTyped, has_type}
 use Rattle.jc_words.specs.Shorts.{low_byte}
-use Rattle.jc_words.specs.Values.{Null, Ref, TaggedValue, Word, is_reference}
+use Rattle.jc_words.specs.Values.{Null, Ref, TaggedValue, Word, is_tagged_reference}
 use Rattle.jc_safety.proofs.Below.{instance_below}
 use Rattle.jc_safety.proofs.Ground.{Ground}
 use Rattle.jc_safety.proofs.Lists.{both, each_at, each_set, get_within}
@@ -273,7 +273,7 @@ module _ {C : Type 0} (s : Surroundings C) (ground : Ground s) (m : Machine C) (
       leads))))))))
 
   -- a reference, or null
-  leads_reference : (v : TaggedValue) → leads_to m.heap any_object v ≡ true → is_reference v ≡ true
+  leads_reference : (v : TaggedValue) → leads_to m.heap any_object v ≡ true → is_tagged_reference v ≡ true
   leads_reference v h1 = grind arith
 
   -- with a reference in place of a component the array is still typed
@@ -298,13 +298,13 @@ module _ {C : Type 0} (s : Surroundings C) (ground : Ground s) (m : Machine C) (
       ref_case m.heap (holds_below shapes (Api api.Object))
       (λ x. IsSafe s (act_store_reference (at (w ∷ Word index ∷ x ∷ vs)))) u
       array_is.type
-      (safe_check s (is_reference w) _ (leads_reference w value_is)
+      (safe_check s (is_tagged_reference w) _ (leads_reference w value_is)
       (safe_check s (leads_to m.heap any_object w) _ value_is
       (safe_null s ground m t d next (w ∷ Word index ∷ Null ∷ vs))))
       (λ n o found is.
       let us = w ∷ Word index ∷ Ref n ∷ vs in
       let array = holds_references shapes (Api api.Object) o.kind.object is in
-      safe_check s (is_reference w) _ (leads_reference w value_is)
+      safe_check s (is_tagged_reference w) _ (leads_reference w value_is)
       (safe_check s (leads_to m.heap any_object w) _ value_is
       (safe_some s (object_at m.heap n) o _ found
       (safe_some s (component_class o.kind.object) array.class _ (ap component_class array.is)

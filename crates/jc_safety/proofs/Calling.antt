@@ -52,7 +52,7 @@ use Rattle.jc_machine.specs.Lookup.{are_of_types, body_at, class_of, instruction
 use Rattle.jc_machine.specs.Machine.{Machine, Stepped, Surroundings}
 use Rattle.jc_machine.specs.Runtime.{class_cast_exception}
 use Rattle.jc_machine.specs.Typed.{HoldTypes, IsEffect, IsOperand, IsTyped, with_result_type}
-use Rattle.jc_words.specs.Values.{Ref, TaggedValue, is_reference}
+use Rattle.jc_words.specs.Values.{Ref, TaggedValue, is_tagged_reference}
 use Rattle.jc_safety.proofs.Callees.{MayCall, and_then, got_within}
 use Rattle.jc_safety.proofs.Entering.{Site, as_it_was}
 use Rattle.jc_safety.proofs.Goes.{placed, throws_at}
@@ -236,7 +236,7 @@ module _ {C : Type 0} (s : Surroundings C) (ground : Ground s) (m : Machine C) (
         (receiver ∷ given_to signature) number object operands))) in
         safe_check s (are_of_types shapes m.heap signature.parameters (given_to signature)) _ fit
         (subst P (sym sp.below)
-        (safe_check s (is_reference sp.value) _
+        (safe_check s (is_tagged_reference sp.value) _
         (leads_reference m.heap sp.value (leads_up m.heap test any_object sp.value (λ o x. refl) lead))
         (ref_case m.heap test
         (λ x. IsSafe s (on_object (at ops) x (λ number object. go

@@ -33,7 +33,7 @@ use Rattle.jc_machine.specs.Machine.{Machine, Stepped, Surroundings}
 use Rattle.jc_machine.specs.Objects.{Test, act_check_cast, act_instance_of, bit, is_array_of_words, on_test, tested}
 use Rattle.jc_machine.specs.Runtime.{class_cast_exception}
 use Rattle.jc_machine.specs.Typed.{IsOperand, IsTyped, has_type}
-use Rattle.jc_words.specs.Values.{Null, Ref, TaggedValue, is_reference}
+use Rattle.jc_words.specs.Values.{Null, Ref, TaggedValue, is_tagged_reference}
 use Rattle.jc_safety.proofs.Below.{counted_below, counted_reflexive, instance_below}
 use Rattle.jc_safety.proofs.FieldRows.{from_entry}
 use Rattle.jc_safety.proofs.Goes.{placed, throws_at}
@@ -187,7 +187,7 @@ module _ {C : Type 0} (s : Surroundings C) (ground : Ground s) (m : Machine C) (
       m.top.operands state.operands t.top.operands_typed a.enough
       (rows.met_by s ground m t (takes (Reference ∷ []) (Exactly x.0)) after_it a)
       (λ v vs is rest.
-      safe_check s (is_reference v) _ (leads_reference m.heap v is)
+      safe_check s (is_tagged_reference v) _ (leads_reference m.heap v is)
       (tested_safe accesses.CheckCast type x.0 x.1 m.top.operands v is (λ v. gives (at m.top.operands) v vs)
       (λ v passes. require (at m.top.operands) class_cast_exception passes (gives (at m.top.operands) v vs))
       (λ h.
@@ -217,7 +217,7 @@ module _ {C : Type 0} (s : Surroundings C) (ground : Ground s) (m : Machine C) (
       m.top.operands state.operands t.top.operands_typed a.enough
       (rows.met_by s ground m t (takes (Reference ∷ []) (Exactly types.Word)) after_it a)
       (λ v vs is rest.
-      safe_check s (is_reference v) _ (leads_reference m.heap v is)
+      safe_check s (is_tagged_reference v) _ (leads_reference m.heap v is)
       (tested_safe accesses.InstanceOf type x.0 x.1 m.top.operands v is
       (λ v. gives (at m.top.operands) (bit false) vs) (λ v passes. gives (at m.top.operands) (bit passes) vs)
       (λ h.

@@ -8,7 +8,7 @@ use Rattle.jc_base.specs.declared.declared_type.DeclaredType.{DeclaredType}
 use Rattle.jc_cap_desc.specs.Shape.{Shape}
 use Rattle.jc_cap.specs.declared.method_header.MethodHeader.{MethodHeader}
 use Rattle.jc_classes.specs.Members.{DeclaredMethod, method_at}
-use Rattle.jc_link.specs.Classes.{words_of}
+use Rattle.jc_link.specs.Classes.{argument_count}
 use Rattle.jc_link.specs.Found.{type_found, types_found}
 use Rattle.jc_link.specs.MemberType.{declared_type_of}
 use Rattle.jc_link.specs.Sound.{HaveMethods}
@@ -51,7 +51,7 @@ module _ (world : List Shape) (heap : Heap TaggedValue) where
   instance_count c ts vs h1 = grind (arith, values_count, both)
 
   begins_count : (d : DeclaredMethod) (vs : List TaggedValue) → may_begin_with world heap d vs ≡ true
-      → length vs ≡ words_of d.method
+      → length vs ≡ argument_count d.method
   begins_count d vs e = by_type (declared_type_of world d) refl e
     where
       by_static : (x : Signature ClassName) → length x.parameters ≡ length d.method.signature.parameters
@@ -64,7 +64,7 @@ module _ (world : List Shape) (heap : Heap TaggedValue) where
       by_type : (o : Option (Signature ClassName)) → declared_type_of world d ≡ o
           → option_map_or (λ (x : Signature ClassName). cond d.method.is_static
           (are_of_types world heap x.parameters vs) (are_of_instance world heap d.class x.parameters vs)) o false ≡ true
-          → length vs ≡ words_of d.method
+          → length vs ≡ argument_count d.method
       by_type o h1 h2 = grind (arith, by_static, parameters_count)
 
   pub takes_them : HaveMethods world → (name : MethodName) (d : DeclaredMethod) (header : MethodHeader)

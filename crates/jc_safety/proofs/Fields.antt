@@ -34,7 +34,7 @@ use Rattle.jc_machine.specs.Going.{Here, check, on_reference, on_reference_local
 use Rattle.jc_machine.specs.Lookup.{fields_of, is_byte, is_kept_as, is_of_class, is_of_type, is_word, leads_to}
 use Rattle.jc_machine.specs.Machine.{Machine, Surroundings}
 use Rattle.jc_machine.specs.Typed.{CellsTyped, HaveTypes, HoldTypes, IsTyped, has_type, is_cell}
-use Rattle.jc_words.specs.Values.{TaggedValue, is_reference}
+use Rattle.jc_words.specs.Values.{TaggedValue, is_tagged_reference}
 use Rattle.jc_safety.proofs.Blank.{no_field}
 use Rattle.jc_safety.proofs.Goes.{placed, room_left, safe_gives}
 use Rattle.jc_safety.proofs.Locals.{local_there, local_type, reads_nothing, reads_one}
@@ -90,7 +90,7 @@ module _ (world : List Shape) (heap : Heap TaggedValue) where
 
 leads_is_reference : (heap : Heap TaggedValue) (test : ObjectType → Bool) (v : TaggedValue)
     → leads_to heap test v ≡ true
-    → is_reference v ≡ true
+    → is_tagged_reference v ≡ true
 leads_is_reference heap test v h1 = grind arith
 
 within_length : (xs : List TaggedValue) (n : ℕ) (x : TaggedValue) → slice_get xs n ≡ Some x
@@ -210,7 +210,7 @@ module _ {C : Type 0} (s : Surroundings C) (ground : Ground s) (m : Machine C) (
         (rows.met_by s ground m t (takes (Below (types.Class class) ∷ []) (Exactly (type_of_declared declared)))
         after_it a)
         (λ v vs is rest.
-        safe_check s (is_reference v) _ (leads_is_reference m.heap (is_of_class shapes class) v is.type)
+        safe_check s (is_tagged_reference v) _ (leads_is_reference m.heap (is_of_class shapes class) v is.type)
         (gets_safe form m.top.operands vs v is.type (λ x kept.
         let l = loaded_typed shapes m.heap form declared x of_form kept in
         safe_loads s (at m.top.operands) form x vs shapes m.heap (type_of_declared declared) l
@@ -231,7 +231,7 @@ module _ {C : Type 0} (s : Surroundings C) (ground : Ground s) (m : Machine C) (
         t.top.operands_typed a.enough (rows.met_by s ground m t (takes ds Nothing) after_it a)
         (λ x v vs x_is is rest.
         safe_check s (is_of_type shapes m.heap declared x) _ (of_declared shapes m.heap declared x x_is.type)
-        (safe_check s (is_reference v) _ (leads_is_reference m.heap (is_of_class shapes class) v is.type)
+        (safe_check s (is_tagged_reference v) _ (leads_is_reference m.heap (is_of_class shapes class) v is.type)
         (puts_safe form m.top.operands vs v x after_it of_form x_is.type is.type
         (rows.locals_still s ground m t after_it.locals l.locals_are)
         (rows.held s ground m t (drop 2 state.operands) after_it.operands vs l.operands_are rest) leads)))
@@ -262,7 +262,7 @@ module _ {C : Type 0} (s : Surroundings C) (ground : Ground s) (m : Machine C) (
         let P : Option TaggedValue → Type 0 =
         λ o. IsSafe s (on_reference_local o (λ v. gets (at m.top.operands) form field v m.top.operands)) in
         subst P (sym l.1)
-        (safe_check s (is_reference l.0) _ (leads_is_reference m.heap (is_of_class shapes class) l.0 l.2)
+        (safe_check s (is_tagged_reference l.0) _ (leads_is_reference m.heap (is_of_class shapes class) l.0 l.2)
         (gets_safe form m.top.operands m.top.operands l.0 l.2 (λ x kept.
         let l = loaded_typed shapes m.heap form declared x of_form kept in
         safe_loads s (at m.top.operands) form x m.top.operands shapes m.heap (type_of_declared declared) l
@@ -292,7 +292,7 @@ module _ {C : Type 0} (s : Surroundings C) (ground : Ground s) (m : Machine C) (
         λ o. IsSafe s (on_reference_local o (λ v. puts (at m.top.operands) form field v x vs)) in
         safe_check s (is_of_type shapes m.heap declared x) _ (of_declared shapes m.heap declared x x_is.type)
         (subst P (sym l.1)
-        (safe_check s (is_reference l.0) _ (leads_is_reference m.heap (is_of_class shapes class) l.0 l.2)
+        (safe_check s (is_tagged_reference l.0) _ (leads_is_reference m.heap (is_of_class shapes class) l.0 l.2)
         (puts_safe form m.top.operands vs l.0 x after_it of_form x_is.type l.2
         (rows.locals_still s ground m t after_it.locals r.locals_are)
         (rows.held s ground m t (drop 1 state.operands) after_it.operands vs r.operands_are rest) leads))))

@@ -41,7 +41,7 @@ use Rattle.jc_machine.specs.Lookup.{body_at, code_at, declared_at, fields_of, in
 use Rattle.jc_machine.specs.Machine.{MethodPlace, Surroundings}
 use Rattle.jc_machine.specs.Natives.{IsLawful, KeepsObjects}
 use Rattle.jc_machine.specs.Runtime.{HasRuntimeObjects}
-use Rattle.jc_words.specs.Laws.{WordLaws}
+use Rattle.jc_machine.specs.TypedWords.{KeepWordsTyped}
 use Rattle.jc_words.specs.Values.{TaggedValue}
 
 -- ---- packages
@@ -86,7 +86,7 @@ pub record Ground {C : Type 0} (s : Surroundings C) : Type 0 where
   pub listed : (code : List ℕ) (listing : List PlacedInstr) (pc : ℕ) (x : PlacedInstr)
       → IsListing instr_at code listing → placed_at listing pc ≡ Some x → instruction_at code pc ≡ Some x.instr
   pub listing : ListingLaws instr_at
-  pub words : WordLaws
+  pub words : KeepWordsTyped C
   pub objects_stay : (before after : Heap TaggedValue) → KeepsObjects before after → HasRuntimeObjects before
       → HasRuntimeObjects after
   pub typed_methods : (place : MethodPlace) (body : LinkedBody) (code : MethodBody)

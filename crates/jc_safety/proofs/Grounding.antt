@@ -7,6 +7,7 @@ use Rattle.jc_link.specs.Built.{IsBuilt}
 use Rattle.jc_link.specs.Linked.{IsKnown, LinkedBody, World}
 use Rattle.jc_machine.specs.Accepted.{IsAccepted, linked_as}
 use Rattle.jc_machine.specs.Running.{MayRun}
+use Rattle.jc_machine.specs.TypedWords.{KeepWordsTyped}
 use Rattle.jc_machine.specs.Lookup.{body_at}
 use Rattle.jc_machine.specs.Machine.{Surroundings}
 use Rattle.jc_safety.proofs.Ground.{Ground, Stands}
@@ -53,8 +54,8 @@ module _ (laws : Laws) (w : World) (accepted : IsAccepted w) where
             (laws.names before small first).targets (suc (suc n)) entry.entry target (sym same ∙ entry.leads);
       }
 
-pub grounded : Laws → {C : Type 0} (s : Surroundings C) → MayRun s → Ground s
-grounded laws s may =
+pub grounded : Laws → {C : Type 0} → KeepWordsTyped C → (s : Surroundings C) → MayRun s → Ground s
+grounded laws words s may =
     let w = s.world in
     let accepted = may.accepted in
     let is_built = accepted.world.built in
@@ -80,7 +81,7 @@ grounded laws s may =
       listed = λ code listing pc x whole there.
           laws.listed code listing pc whole ∙ ap (option_map (λ (x : PlacedInstr). x.instr)) there;
       listing = laws.listing;
-      words = laws.words;
+      words = words;
       objects_stay = laws.stay;
       typed_methods = laws.typed w accepted;
       tokens = λ number body index ref loaded there. (accepted.packages number body loaded).tokens index ref there;

@@ -38,6 +38,5 @@ mod Taking
 mod Thrown
 mod Unwinding
 mod Upward
-mod Words
 mod Writing
 mod Zeroed

@@ -62,11 +62,6 @@ last_or_before [] y x (suc n) e = absurd cc
 last_or_before (z ∷ xs) y x zero e = inl (e, omega arith)
 last_or_before (z ∷ xs) y x (suc n) e = grind (arith, last_or_before xs y x n e)
 
-within_list : {A : Type 0} (xs : List A) (n : ℕ) (x : A) → slice_get xs n ≡ Some x → n < length xs
-within_list [] n x e = absurd cc
-within_list (y ∷ xs) zero x e = omega arith
-within_list (y ∷ xs) (suc n) x e = let k = within_list xs n x e in omega (arith, k)
-
 -- the number of the package that stands behind the API's two and some more
 number_here : (n : ℕ) → number_at (2 + n) ≡ Some (suc n)
 number_here n = grind (arith, le-ltb)

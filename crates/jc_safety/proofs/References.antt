@@ -25,7 +25,7 @@ use Rattle.jc_machine.specs.Machine.{Machine, Surroundings}
 use Rattle.jc_machine.specs.Arrays.{is_there}
 use Rattle.jc_machine.specs.Objects.{act_branch, act_throw, is_null, is_same, on_known}
 use Rattle.jc_machine.specs.Typed.{IsOperand, IsTyped}
-use Rattle.jc_words.specs.Values.{Null, Ref, TaggedValue, is_reference, is_written}
+use Rattle.jc_words.specs.Values.{Null, Ref, TaggedValue, is_tagged_reference, is_written}
 use Rattle.jc_safety.proofs.Goes.{placed, room_left, safe_gives, safe_on, throws_at}
 use Rattle.jc_safety.proofs.Ground.{Ground}
 use Rattle.jc_safety.proofs.Locals.{local_there, local_type, reads_local, stored}
@@ -36,7 +36,7 @@ use Rattle.jc_safety.proofs.Writing.{ref_case}
 
 -- a reference, or null; and it was written
 pub leads_reference : (heap : Heap TaggedValue) (v : TaggedValue) → leads_to heap any_object v ≡ true
-    → is_reference v ≡ true
+    → is_tagged_reference v ≡ true
 leads_reference heap v h1 = grind arith
 
 pub leads_written : (heap : Heap TaggedValue) (test : ObjectType → Bool) (v : TaggedValue) → leads_to heap test v ≡ true
@@ -90,7 +90,7 @@ module _ {C : Type 0} (s : Surroundings C) (ground : Ground s) (m : Machine C) (
       let P : Option TaggedValue → Type 0 =
       λ o. IsSafe s (on_reference_local o (λ v. gives (at m.top.operands) v m.top.operands)) in
       subst P (sym l.there)
-      (safe_check s (is_reference l.value) _ (leads_reference m.heap l.value leads_any)
+      (safe_check s (is_tagged_reference l.value) _ (leads_reference m.heap l.value leads_any)
       (safe_gives s ground m t d most next m.top.operands after l.value m.top.operands
       (room_left shapes m.heap most 0 state.operands m.top.operands a.enough a.room t.top.operands_typed)
       (rows.locals_still s ground m t after.locals r.locals_are)
@@ -110,7 +110,7 @@ module _ {C : Type 0} (s : Surroundings C) (ground : Ground s) (m : Machine C) (
       λ us. IsSafe s (on_reference us (λ v vs. check (nat_lt local (length m.top.locals))
       (goes_on (at m.top.operands) (set m.top.locals local v) vs))) in
       subst P (sym x.is)
-      (safe_check s (is_reference x.value) _ (leads_reference m.heap x.value x.meets)
+      (safe_check s (is_tagged_reference x.value) _ (leads_reference m.heap x.value x.meets)
       (safe_check s (nat_lt local (length m.top.locals)) _ x.within
       (safe_on s ground m t d most next m.top.operands after (set m.top.locals local x.value) x.rest x.has x.holds
       leads)))
@@ -130,7 +130,7 @@ module _ {C : Type 0} (s : Surroundings C) (ground : Ground s) (m : Machine C) (
       m.top.operands state.operands t.top.operands_typed a.enough
       (rows.met_by s ground m t (takes (Reference ∷ []) Nothing) after a)
       (λ v vs is rest.
-      safe_check s (is_reference v) _ (leads_reference m.heap v is)
+      safe_check s (is_tagged_reference v) _ (leads_reference m.heap v is)
       (safe_check s (is_there (at m.top.operands) v) _ is
       (rows.branch_it s ground m t d next offset (Reference ∷ []) m.top.operands vs (taken v) after a rest goes leads)))
 
@@ -146,9 +146,9 @@ module _ {C : Type 0} (s : Surroundings C) (ground : Ground s) (m : Machine C) (
       m.top.operands state.operands t.top.operands_typed a.enough
       (rows.met_by s ground m t (takes (Reference ∷ Reference ∷ []) Nothing) after a)
       (λ w v vs is one rest.
-      safe_check s (is_reference w) _ (leads_reference m.heap w is)
+      safe_check s (is_tagged_reference w) _ (leads_reference m.heap w is)
       (safe_check s (is_there (at m.top.operands) w) _ is
-      (safe_check s (is_reference v) _ (leads_reference m.heap v one)
+      (safe_check s (is_tagged_reference v) _ (leads_reference m.heap v one)
       (safe_check s (is_there (at m.top.operands) v) _ one
       (rows.branch_it s ground m t d next offset (Reference ∷ Reference ∷ []) m.top.operands vs (taken v w) after a
       rest goes leads)))))

@@ -1,6 +1,6 @@
 -- Returns are safe: to the frame that waits, or out of the call.
 use Rattle.std.proofs.Common.{◌≡◌, ℕ, List, [], ◌∷◌, length, Option, Some, None, Bool}
-use Rattle.std.proofs.Common.{true, false, not, nat_lt, is_some, refl, sym, ap, ◌∙◌, subst, arith}
+use Rattle.std.proofs.Common.{true, not, nat_lt, is_some, refl, sym, ap, ◌∙◌, subst, arith}
 use Rattle.std.proofs.lemmas.Bool.{lt-ltb}
 use Rattle.std.specs.Option.{option_and_then, option_map, option_map_or}
 use Rattle.jc_base.specs.Signature.{Signature}
@@ -13,29 +13,28 @@ use Rattle.jc_link.specs.MemberType.{declared_type_of}
 use Rattle.jc_names.specs.declared.name.ClassName.{ClassName}
 use Rattle.jc_effects.specs.Method.{result_of, returned_type}
 use Rattle.jc_effects.specs.Objects.{if_form, return_row}
-use Rattle.jc_effects.specs.Words.{takes, word}
+use Rattle.jc_effects.specs.Words.{takes}
 use Rattle.jc_effects.specs.declared.row.Demand.TheVariants.{Below}
 use Rattle.jc_effects.specs.declared.row.Given.TheVariants.{Nothing}
 use Rattle.jc_store.specs.Heap.{Heap}
 use Rattle.jc_types.specs.State.{Types, all_below}
-use Rattle.jc_types.specs.Ty.{is_word, type_of_declared}
+use Rattle.jc_types.specs.Ty.{type_of_declared}
 use Rattle.jc_types.specs.declared.ty.Ty.{Ty}
-use Rattle.jc_types.specs.declared.ty.Ty.TheVariants as types
-use Rattle.jc_machine.specs.Going.{Here, on_reference, on_word}
+use Rattle.jc_machine.specs.Going.{Here, on_reference}
 use Rattle.jc_machine.specs.Lookup.{declared_at, is_given, is_of_type}
 use Rattle.jc_machine.specs.Machine.{Frame, Machine, Surroundings}
 use Rattle.jc_machine.specs.Returns as returns
 use Rattle.jc_machine.specs.Returns.{pc_behind_call, resumed, returns_to, room_of}
-use Rattle.jc_machine.specs.Typed.{HaveTypes, HoldTypes, IsOperand, IsTyped, IsTypedBeside, WaitTyped, WaitsTyped, given_by, has_type}
-use Rattle.jc_machine.specs.Typed.{with_result_type}
-use Rattle.jc_words.specs.Values.{TaggedValue, Word, is_reference, is_written}
+use Rattle.jc_machine.specs.Typed.{HaveTypes, HoldTypes, IsOperand, IsTyped, IsTypedBeside, WaitTyped, WaitsTyped}
+use Rattle.jc_machine.specs.Typed.{given_by, has_type, with_result_type}
+use Rattle.jc_words.specs.Values.{TaggedValue, is_tagged_reference, is_written}
 use Rattle.jc_names.specs.declared.name.MethodName.TheVariants.{Loaded}
 use Rattle.jc_safety.proofs.Goes.{method}
 use Rattle.jc_safety.proofs.Ground.{Ground, MethodOf, method_of_code}
 use Rattle.jc_safety.proofs.Lists.{both, same_length}
 use Rattle.jc_safety.proofs.References.{leads_reference}
 use Rattle.jc_safety.proofs.Rows as rows
-use Rattle.jc_safety.proofs.Taking.{Applied, meets_reference, take_one, word_case}
+use Rattle.jc_safety.proofs.Taking.{Applied, meets_reference, take_one}
 use Rattle.jc_safety.proofs.Safe.{IsSafe, safe_check, safe_some}
 use Rattle.jc_safety.proofs.Unwinding.{below_lengths}
 use Rattle.jc_safety.proofs.Upward.{operands_up, types_up}
@@ -234,9 +233,6 @@ module _ {C : Type 0} (s : Surroundings C) (ground : Ground s) where
 
       -- ---- the instructions
 
-      a_type : (r : Option Ty) → option_map_or is_word r false ≡ true → r ≡ Some types.Word
-      a_type r h1 = grind arith
-
       no_result : (r : Option Ty) → not (is_some r) ≡ true → r ≡ None
       no_result r h1 = grind arith
 
@@ -244,25 +240,6 @@ module _ {C : Type 0} (s : Surroundings C) (ground : Ground s) where
           → Applied below most (if_form (not (is_some (method s ground m t).returned)) (takes [] Nothing)) state after
           → IsSafe s (returns.returns_nothing (at m.top.operands))
       return_void after a = gives_nothing m.top.operands (no_result (method s ground m t).returned a.fits)
-
-      pub return_word : (after : Types)
-          → Applied below most (record (takes (word ∷ []) Nothing) {
-            fits = option_map_or is_word (method s ground m t).returned false;
-          }) state after
-          → IsSafe s (on_word m.top.operands (λ n vs. returns.returns_value (at m.top.operands) (Word n)))
-      return_word after a =
-          take_one shapes m.heap
-          (λ us. IsSafe s (on_word us (λ n vs. returns.returns_value (at m.top.operands) (Word n)))) word m.top.operands
-          state.operands t.top.operands_typed a.enough
-          (rows.met_by s ground m t (record (takes (word ∷ []) Nothing) {
-            fits = option_map_or is_word (method s ground m t).returned false;
-          }) after a)
-          (λ v vs is rest.
-          word_case shapes m.heap
-          (λ x. IsSafe s (on_word (x ∷ vs) (λ n vs. returns.returns_value (at m.top.operands) (Word n)))) v is
-          (λ n small.
-          gives_back m.top.operands (Word n) types.Word (a_type (method s ground m t).returned a.fits)
-          (record { type = small; written = refl })))
 
       by_returned : (r : Option Ty) → (method s ground m t).returned ≡ r → (after : Types)
           → Applied below most (return_row r) state after
@@ -274,7 +251,7 @@ module _ {C : Type 0} (s : Surroundings C) (ground : Ground s) where
           m.top.operands state.operands t.top.operands_typed a.enough
           (rows.met_by s ground m t (return_row (Some u)) after a)
           (λ v vs has rest.
-          safe_check s (is_reference v) _
+          safe_check s (is_tagged_reference v) _
           (leads_reference m.heap v
           (meets_reference shapes (rows.before s ground m t) (rows.orders s ground m t) m.heap v u a.fits has.type))
           (gives_back m.top.operands v u is has))

@@ -32,7 +32,7 @@ use Rattle.jc_machine.specs.Runtime.{null_pointer_exception}
 use Rattle.jc_machine.specs.Typed.{CellsTyped, HaveTypes, HoldTypes, IsOperand, IsTyped}
 use Rattle.jc_words.specs.Values.{TaggedValue}
 use Rattle.jc_safety.proofs.Goes.{arrives, method, orders_of, placed, room_left, rules, safe_branches}
-use Rattle.jc_safety.proofs.Goes.{safe_gives, safe_jumps, safe_leaves, spot, throws_at}
+use Rattle.jc_safety.proofs.Goes.{safe_gives, spot, throws_at}
 use Rattle.jc_safety.proofs.Ground.{Ground}
 use Rattle.jc_safety.proofs.Growing.{operands_still, statics_still, types_still}
 use Rattle.jc_safety.proofs.Safe.{IsSafe, safe_judged, safe_require, safe_some}
@@ -141,15 +141,6 @@ module _ {C : Type 0} (s : Surroundings C) (ground : Ground s) (m : Machine C) (
         (held (u ∷ drop (length ds) state.operands) after.operands (v ∷ vs) l.operands_are (has, rest))
         leads
 
-    pub leaves_them : (ds : List Demand) (us vs : List TaggedValue) (after : Types)
-        → Applied below most (takes ds Nothing) state after
-        → HoldTypes world m.heap vs (drop (length ds) state.operands) → LeadsTo after next
-        → IsSafe s (leaves_operands (here us) vs)
-    leaves_them ds us vs after a rest leads =
-        let l = leaves_nothing below most ds state after a in
-        safe_leaves s ground m t d most next us after vs (locals_still after.locals l.locals_are)
-        (held (drop (length ds) state.operands) after.operands vs l.operands_are rest) leads
-
     -- nothing more, and a component of an object is another value
     pub leaves_stored : (us vs : List TaggedValue) (after : Types) (number : ℕ)
         → (o : heaps.Object TaggedValue) (index : ℕ) (v : TaggedValue) → object_at m.heap number ≡ Some o
@@ -194,12 +185,3 @@ module _ {C : Type 0} (s : Surroundings C) (ground : Ground s) (m : Machine C) (
         let l = leaves_nothing below most ds state after a in
         safe_branches s ground m t d most next us after vs taken offset (locals_still after.locals l.locals_are)
         (held (drop (length ds) state.operands) after.operands vs l.operands_are rest) goes falls
-
-    pub jump_it : (offset : ℤ) (ds : List Demand) (us vs : List TaggedValue) (after : Types)
-        → Applied below most (takes ds Nothing) state after
-        → HoldTypes world m.heap vs (drop (length ds) state.operands) → BranchesTo after offset
-        → IsSafe s (branches (here us) true offset vs)
-    jump_it offset ds us vs after a rest goes =
-        let l = leaves_nothing below most ds state after a in
-        safe_jumps s ground m t d most next us after vs offset (locals_still after.locals l.locals_are)
-        (held (drop (length ds) state.operands) after.operands vs l.operands_are rest) goes

@@ -1,15 +1,16 @@
 -- A step of a well-typed machine is safe, whichever instruction it makes.
-use Rattle.std.proofs.Common.{◌≡◌, ℕ, zero, suc, ℤ, List, [], ◌∷◌, map, Bool, true, Option, Some, Ok, refl, ap, subst, arith}
+use Rattle.std.proofs.Common.{◌≡◌, ℕ, zero, suc, ℤ, List, [], ◌∷◌, map, Bool, true, Option, Some, Ok, refl, ap, subst}
+use Rattle.std.proofs.Common.{arith}
+use Rattle.std.proofs.lemmas.Bool.{lt-ltb}
+use Rattle.std.proofs.lemmas.List.Elements.{All-contains, All-from_recursion}
 use Rattle.std.specs.Int.{w16}
 use Rattle.std.specs.Int.RustNames.{FitsSigned}
 use Rattle.std.specs.List.{AllByRecursion}
 use Rattle.jc_check.specs.Typing.{BranchLeads, IsFineAt}
 use Rattle.jc_classes.specs.Members.{DeclaredMethod}
-use Rattle.jc_code.specs.Targets.{falls_of, object_falls, object_offsets, offsets_of, target_of, targets_of, word_falls, word_offsets}
+use Rattle.jc_code.specs.Targets.{falls_of, offsets_of, target_of, targets_of}
 use Rattle.jc_code.specs.declared.instr.Operation.{Operation}
 use Rattle.jc_code.specs.declared.instr.Operation.TheVariants as operations
-use Rattle.jc_code.specs.declared.instr.Shuffle.TheVariants.{Duplicate, Pop, Swap}
-use Rattle.jc_code.specs.declared.instr.When.TheVariants.{Always, Compare, Zero}
 use Rattle.jc_code.specs.declared.instr.WordOperation.{WordOperation}
 use Rattle.jc_code.specs.declared.instr.WordOperation.TheVariants as ops
 use Rattle.jc_code.specs.declared.object.Form.TheVariants as Forms
@@ -23,16 +24,20 @@ use Rattle.jc_effects.specs.Words.{word_effect}
 use Rattle.jc_effects.specs.Method.{result_of}
 use Rattle.jc_types.specs.State.{Types}
 use Rattle.jc_types.specs.declared.ty.Ty.{Ty}
+use Rattle.jc_types.specs.declared.ty.Ty.TheVariants as types
+use Rattle.jc_words.specs.Values.{Word}
 use Rattle.jc_names.specs.declared.name.ClassName.{ClassName}
 use Rattle.jc_machine.specs.Going.{Here}
 use Rattle.jc_machine.specs.Lookup.{code_at, declared_at, instruction_at}
-use Rattle.jc_machine.specs.Machine.{Machine, Outcome, Surroundings}
+use Rattle.jc_machine.specs.Machine.{Machine, Outcome, Stepped, Surroundings}
 use Rattle.jc_machine.specs.Objects.{act_object}
 use Rattle.jc_machine.specs.Step.{Called, act, act_at, continued, defensive_step, settled}
 use Rattle.jc_machine.specs.Step.{steps_of}
 use Rattle.jc_machine.specs.declared.stop.Budget.{Budget}
 use Rattle.jc_machine.specs.declared.stop.CodePoint.{CodePoint}
+use Rattle.jc_machine.specs.Runtime.{arithmetic_exception}
 use Rattle.jc_machine.specs.Typed.{IsTyped}
+use Rattle.jc_machine.specs.TypedWords.{LeavesTyped, branching, going, returning, throwing}
 use Rattle.jc_machine.specs.Words.{act_word}
 use Rattle.jc_safety.proofs.Arrays as arrays
 use Rattle.jc_safety.proofs.Calling.{IsCall, call_safe}
@@ -44,13 +49,13 @@ use Rattle.jc_safety.proofs.Ground.{Ground, MethodOf, method_of_code}
 use Rattle.jc_safety.proofs.Making.{create, setting}
 use Rattle.jc_safety.proofs.Members.{HaveMembers}
 use Rattle.jc_safety.proofs.References as references
-use Rattle.jc_safety.proofs.Returning as returning
+use Rattle.jc_safety.proofs.Returning as returns
 use Rattle.jc_safety.proofs.Rows as rows
 use Rattle.jc_safety.proofs.Safe.{IsSafe, safe_some}
 use Rattle.jc_safety.proofs.Safe as safe
 use Rattle.jc_safety.proofs.Taking.{has_row, row_applied}
 use Rattle.jc_safety.proofs.Unwinding.{settles}
-use Rattle.jc_safety.proofs.Words as words
+use Rattle.jc_safety.proofs.Thrown.{arithmetic}
 use Rattle.jc_safety.specs.Safety.{EndsTyped, StaysTyped}
 
 unmapped : {A B : Type 0} (P : B → Type 0) (f : A → B) (xs : List A) → AllByRecursion P (map f xs)
@@ -85,41 +90,34 @@ module _ {C : Type 0} (s : Surroundings C) (ground : Ground s) (m : Machine C) (
       (gives : returned ≡ result_of s.world.shapes d) (after : Types) where
     -- ---- instructions on words
 
+    word_comes : (operation : WordOperation)
+        → AllByRecursion (BranchesTo after) (offsets_of (operations.Word operation))
+        → (falls_of (operations.Word operation) ≡ true → LeadsTo after next) → (x : Stepped C)
+        → LeavesTyped s.world.shapes m.heap at returned operation after x → IsSafe s x
+    word_comes operation branches falls _ (going locals operands on has holds) =
+        goes.safe_on s ground m t d most next m.top.operands after locals operands has holds (falls on)
+    word_comes operation branches falls _ (branching offset operands there has holds) =
+        goes.safe_jumps s ground m t d most next m.top.operands after operands offset has holds
+        (All-contains (BranchesTo after) (offsets_of (operations.Word operation)) offset
+        (All-from_recursion (BranchesTo after) (offsets_of (operations.Word operation)) branches) there)
+    word_comes operation branches falls _ throwing =
+        record {
+          fine =
+              goes.throws_at s ground m t m.top.operands arithmetic_exception
+              (arithmetic s ground m.heap t.beside.runtime_objects);
+        }
+    word_comes operation branches falls _ (returning word small is) =
+        returns.gives_back s ground m t d next found gives m.top.operands (Word word) types.Word is
+        (record { type = lt-ltb word 65536 small; written = refl })
+
     word_safe : (operation : WordOperation) → ((value : ℤ) → operation ≡ ops.Push value → FitsSigned w16 value)
         → word_effect below most returned operation state ≡ Ok after
-        → AllByRecursion (BranchesTo after) (word_offsets operation)
-        → (word_falls operation ≡ true → LeadsTo after next) → IsSafe s (act_word at operation)
-    unfolding word_effect act_word
-    word_safe ops.Nop short e branches falls = words.nop s ground m t d next after e branches falls
-    word_safe (ops.Push value) short e branches falls =
-        words.push s ground m t d next value (short value refl) after e branches falls
-    word_safe (ops.Load local) short e branches falls = words.load s ground m t d next local after e branches falls
-    word_safe (ops.Store local) short e branches falls = words.store s ground m t d next local after e branches falls
-    word_safe (ops.Increment local by) short e branches falls =
-        words.increment s ground m t d next local by after e branches falls
-    word_safe (ops.Shuffle (Pop count)) short e branches falls =
-        words.shuffle_pop s ground m t d next count after e branches falls
-    word_safe (ops.Shuffle (Duplicate count depth)) short e branches falls =
-        words.shuffle_duplicate s ground m t d next count depth after e branches falls
-    word_safe (ops.Shuffle (Swap upper lower)) short e branches falls =
-        words.shuffle_swap s ground m t d next upper lower after e branches falls
-    word_safe (ops.Binary operator) short e branches falls =
-        words.binary s ground m t d next operator after e branches falls
-    word_safe (ops.Unary operator) short e branches falls =
-        words.unary s ground m t d next operator after e branches falls
-    word_safe (ops.Branch Always offset) short e branches falls =
-        words.goto s ground m t d next offset after e branches falls
-    word_safe (ops.Branch (Zero condition) offset) short e branches falls =
-        words.branch_zero s ground m t d next condition offset after e branches falls
-    word_safe (ops.Branch (Compare condition) offset) short e branches falls =
-        words.branch_compare s ground m t d next condition offset after e branches falls
-    word_safe (ops.StableSwitch default low offsets) short e branches falls =
-        words.stable_switch s ground m t d next default low offsets after e branches falls
-    word_safe (ops.LookupSwitch default cases) short e branches falls =
-        words.lookup_switch s ground m t d next default cases after e branches falls
-    word_safe ops.ReturnWord short e branches falls =
-        returning.return_word s ground m t d next found gives after
-        (row_applied below most _ state after e)
+        → AllByRecursion (BranchesTo after) (offsets_of (operations.Word operation))
+        → (falls_of (operations.Word operation) ≡ true → LeadsTo after next) → IsSafe s (act_word at operation)
+    word_safe operation short e branches falls =
+        word_comes operation branches falls (act_word at operation)
+        (ground.words s.world.shapes m.heap below at returned state after (placed s ground m t).locals_typed
+        t.top.operands_typed operation short e)
 
     -- ---- instructions on objects
 
@@ -130,11 +128,9 @@ module _ {C : Type 0} (s : Surroundings C) (ground : Ground s) (m : Machine C) (
         → ((invocation : Invocation) → operation ≡ objects.Invoke invocation
         → IsCall s ground m t invocation after next)
         → applied below most (object_row set operation) state ≡ Ok after
-        → AllByRecursion (BranchesTo after) (object_offsets operation)
-        → (object_falls operation ≡ true → LeadsTo after next) → IsSafe s (act_object at operation)
+        → AllByRecursion (BranchesTo after) (offsets_of (operations.Object operation))
+        → (falls_of (operations.Object operation) ≡ true → LeadsTo after next) → IsSafe s (act_object at operation)
     unfolding object_row act_object
-    object_safe objects.PushNull called e branches falls =
-        references.push_null s ground m t d next after (row_applied below most _ state after e) (falls refl)
     object_safe (objects.Load local) called e branches falls =
         references.load s ground m t d next local after (row_applied below most _ state after e) (falls refl)
     object_safe (objects.Store local) called e branches falls =
@@ -156,29 +152,28 @@ module _ {C : Type 0} (s : Surroundings C) (ground : Ground s) (m : Machine C) (
     object_safe (objects.StoreComponent Forms.Short) called e branches falls =
         arrays.store_number s ground m t d next Forms.Short after refl (row_applied below most _ state after e)
         (falls refl)
-    object_safe objects.ArrayLength called e branches falls =
-        arrays.array_length s ground m t d next after (row_applied below most _ state after e) (falls refl)
-    object_safe (objects.Branch when offset) called e branches falls =
-        references.branch s ground m t d next when offset after (row_applied below most _ state after e) branches.0
-        (falls refl)
-    object_safe (objects.Field access index) called e branches falls =
-        field_safe s ground m t d next access index after (has_row below most _ state after e) (falls refl)
     object_safe (objects.Invoke invocation) called e branches falls =
         let h = has_row below most (invocation_row set invocation) state after e in
         call_safe s ground m t d next members set refl refl invocation h.found after h.is h.applied
         (called invocation refl)
-    object_safe (objects.Create creation) called e branches falls =
-        create s ground m t d next creation after (has_row below most _ state after e) (falls refl)
-    object_safe (objects.CheckCast type) called e branches falls =
-        casts.check_cast s ground m t d next type after (has_row below most _ state after e) (falls refl)
-    object_safe (objects.InstanceOf type) called e branches falls =
-        casts.instance_of s ground m t d next type after (has_row below most _ state after e) (falls refl)
-    object_safe objects.Throw called e branches falls =
-        references.throw s ground m t d next after (row_applied below most _ state after e)
     object_safe objects.ReturnReference called e branches falls =
-        returning.return_reference s ground m t d next found gives after (row_applied below most _ state after e)
+        returns.return_reference s ground m t d next found gives after (row_applied below most _ state after e)
     object_safe objects.ReturnVoid called e branches falls =
-        returning.return_void s ground m t d next found gives after (row_applied below most _ state after e)
+        returns.return_void s ground m t d next found gives after (row_applied below most _ state after e)
+    object_safe operation called e branches falls =
+        search (
+          arith,
+          row_applied,
+          has_row,
+          references.push_null,
+          references.branch,
+          references.throw,
+          arrays.array_length,
+          field_safe,
+          create,
+          casts.check_cast,
+          casts.instance_of,
+        )
 
     -- ---- any instruction
 

@@ -26,7 +26,6 @@ use Rattle.jc_machine.specs.Machine.{MethodPlace}
 use Rattle.jc_machine.specs.Natives.{KeepsObjects}
 use Rattle.jc_machine.specs.Runtime.{HasRuntimeObjects}
 use Rattle.jc_machine.specs.Uncounted.{HaveCells}
-use Rattle.jc_words.specs.Laws.{WordLaws}
 use Rattle.jc_words.specs.Values.{TaggedValue}
 
 pub record Laws : Type 0 where
@@ -61,7 +60,6 @@ pub record Laws : Type 0 where
       → body_at w place.number ≡ Some body → code_at w place ≡ Some code
       → IsMethodTyped (linked_as w place.number body) code
   pub listing : ListingLaws instr_at
-  pub words : WordLaws
   pub listed : (code : List ℕ) (listing : List PlacedInstr) (pc : ℕ) → IsListing instr_at code listing
       → instruction_at code pc ≡ option_map (λ (x : PlacedInstr). x.instr) (placed_at listing pc)
   -- of the runtime's own objects

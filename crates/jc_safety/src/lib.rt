@@ -33,9 +33,8 @@ use jc_link::{
 };
 use jc_machine::{
     Natives, accepted_methods_are_typed, cells_follow_superclasses, instructions_begin_in_turn,
-    methods_have_code, runtime_objects_stay,
+    methods_have_code, operations_on_words_keep_types, runtime_objects_stay,
 };
-use jc_words::word_laws;
 
 // What the crates below say that type safety rests on. It does nothing.
 #[inline(always)]
@@ -54,7 +53,6 @@ fn laws_below()
     methods_have_code();
     accepted_methods_are_typed();
     listing_laws();
-    word_laws();
     instructions_begin_in_turn();
     runtime_objects_stay();
 }
@@ -65,7 +63,7 @@ fn laws_below()
 /// it is in any number of steps, and in a whole call of the runtime's that can begin. A virtual member of the API that
 /// is called on an object of its class can begin: that class has a method in its place. What the runtime keeps may be
 /// of any type. It does nothing.
-pub fn accepted_packages_are_type_safe<N: Natives>(_natives: &N)
+pub fn accepted_packages_are_type_safe<N: Natives>(natives: &N)
     ensures steps { (s : Surroundings N.Kept) → MayRun s → (m : Machine N.Kept) → IsTyped s m
         → StaysTyped s (defensive_step s m).outcome }
     ensures runs { (s : Surroundings N.Kept) → MayRun s → (steps : ℕ) (m : Machine N.Kept) → IsTyped s m
@@ -80,11 +78,12 @@ pub fn accepted_packages_are_type_safe<N: Natives>(_natives: &N)
         → IsMemberCall s start member object → FindsMethod s start member object }
 {
     laws_below();
+    operations_on_words_keep_types(natives);
 }
 
 /// What the runtime itself does to objects leaves them typed: any of them may be zeroed, and a byte be written to an
 /// array of bytes. It does nothing.
-pub fn objects_stay_typed<N: Natives>(_natives: &N)
+pub fn objects_stay_typed<N: Natives>(natives: &N)
     ensures zeroed { (s : Surroundings N.Kept) → MayRun s → (m : Machine N.Kept) → IsTypedBeside s m
         → (test : Object TaggedValue → Bool) → IsTypedBeside s (with_heap m (zeroed_where test m.heap)) }
     ensures byte { (s : Surroundings N.Kept) → MayRun s → (m : Machine N.Kept) → IsTypedBeside s m
@@ -93,6 +92,7 @@ pub fn objects_stay_typed<N: Natives>(_natives: &N)
         → IsTypedBeside s (with_heap m (with_object m.heap number (with_cell object index (Word byte)))) }
 {
     laws_below();
+    operations_on_words_keep_types(natives);
 }
 
 /// A package that is loaded leaves what is kept beside frames typed, in the world with that package: the objects that

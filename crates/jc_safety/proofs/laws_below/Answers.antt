@@ -24,7 +24,6 @@ returns c = record {
   code = c.methods_have_code.ensures;
   typed = c.accepted_methods_are_typed.ensures;
   listing = c.listing_laws.ensures.all;
-  words = c.word_laws.ensures;
   listed = c.instructions_begin_in_turn.ensures.listed;
   stay = c.runtime_objects_stay.ensures;
 }

@@ -10,7 +10,6 @@ use crate::fields::{putting, stored_mark};
 use crate::here::Here;
 use crate::machine::WordMachine;
 use crate::natives::native_in;
-use crate::perform::call_in;
 use crate::seen::{class_named, facts, look_at, mark_of};
 use jc_code::{
     FieldAccess, FieldAction, Form, Invocation, ObjectOperation, Operation, TestedType, decode,
@@ -153,26 +152,6 @@ impl WordMachine {
         }
     }
 
-    /// The access of an instruction, if it makes one.
-    fn touch_of(&self, here: &Here<'_>, operation: ObjectOperation) -> Option<Touch> {
-        match operation {
-            ObjectOperation::LoadComponent(_) => {
-                Some(plain_touch(Access::LoadComponent, self.operand(1)))
-            }
-            ObjectOperation::StoreComponent(form) => Some(self.store_touch(form)),
-            ObjectOperation::ArrayLength => Some(plain_touch(Access::ArrayLength, self.operand(0))),
-            ObjectOperation::Field { access, index } => self.any_field_touch(here, access, index),
-            ObjectOperation::Invoke(invocation) => self.call_touch(here, invocation),
-            ObjectOperation::CheckCast(type_) => self.cast_touch(here, Access::CheckCast, type_),
-            ObjectOperation::InstanceOf(type_) => self.cast_touch(here, Access::InstanceOf, type_),
-            ObjectOperation::Throw => Some(plain_touch(Access::Throw, self.operand(0))),
-            ObjectOperation::PushNull | ObjectOperation::Load(_) | ObjectOperation::Store(_) =>
-                None,
-            ObjectOperation::Branch { .. } | ObjectOperation::Create(_) => None,
-            ObjectOperation::ReturnReference | ObjectOperation::ReturnVoid => None,
-        }
-    }
-
     /// What a call leads to.
     fn plan_of(&self, here: &Here<'_>, invocation: Invocation) -> Plan {
         match invocation {
@@ -209,19 +188,48 @@ impl WordMachine {
         natives.denial(&self.store, &call)
     }
 
-    /// What is denied of an instruction on references.
+    /// What is denied of a call: of the object that is called, or of the arguments of a native member.
+    fn denied_call<N: Natives>(
+        &self,
+        natives: &N,
+        here: &Here<'_>,
+        invocation: Invocation,
+    ) -> Option<Denial> {
+        if let Some(touch) = self.call_touch(here, invocation) {
+            if let Some(denial) = self.denied_touch(here, touch) {
+                return Some(denial);
+            }
+        }
+        self.denied_native(natives, here, invocation)
+    }
+
+    /// What is denied of an instruction on references: of its access, if it makes one.
     fn denied_operation<N: Natives>(
         &self,
         natives: &N,
         here: &Here<'_>,
         operation: ObjectOperation,
     ) -> Option<Denial> {
-        if let Some(touch) = self.touch_of(here, operation) {
-            if let Some(denial) = self.denied_touch(here, touch) {
-                return Some(denial);
+        let touch = match operation {
+            ObjectOperation::LoadComponent(_) => {
+                plain_touch(Access::LoadComponent, self.operand(1))
             }
-        }
-        self.denied_native(natives, here, call_in(operation)?)
+            ObjectOperation::StoreComponent(form) => self.store_touch(form),
+            ObjectOperation::ArrayLength => plain_touch(Access::ArrayLength, self.operand(0)),
+            ObjectOperation::Field { access, index } => self.any_field_touch(here, access, index)?,
+            ObjectOperation::Invoke(invocation) => {
+                return self.denied_call(natives, here, invocation);
+            }
+            ObjectOperation::CheckCast(type_) => self.cast_touch(here, Access::CheckCast, type_)?,
+            ObjectOperation::InstanceOf(type_) => self.cast_touch(here, Access::InstanceOf, type_)?,
+            ObjectOperation::Throw => plain_touch(Access::Throw, self.operand(0)),
+            ObjectOperation::PushNull | ObjectOperation::Load(_) | ObjectOperation::Store(_) => {
+                return None;
+            }
+            ObjectOperation::Branch { .. } | ObjectOperation::Create(_) => return None,
+            ObjectOperation::ReturnReference | ObjectOperation::ReturnVoid => return None,
+        };
+        self.denied_touch(here, touch)
     }
 
     /// What it denies of the instruction at which a frame stands.

@@ -1,18 +1,26 @@
-//! Instructions on references, calls apart (Java Card Virtual Machine Specification, Instruction set).
+//! Instructions on references (Java Card Virtual Machine Specification, Instruction set).
 
-ghost use Rattle.std.specs.Prelude.{◌≡◌};
-ghost use Rattle.jc_interp.specs.PrivateDone.{done, operand};
+ghost use Rattle.jc_interp.specs.PrivateDone.{done};
+ghost use Rattle.jc_interp.specs.PrivateNatives.{done_with};
 ghost use Rattle.jc_interp.specs.PrivateObjects.{do_object};
+ghost use Rattle.jc_interp.specs.PrivatePerform.{PerformsObject};
 
 use crate::ends::StepEnd;
 use crate::here::Here;
 use crate::machine::WordMachine;
 use jc_code::ObjectOperation;
+use jc_machine::Natives;
 
 impl WordMachine {
-    /// An instruction on references; a call is none of these.
-    pub(crate) fn perform_object(&mut self, here: &Here<'_>, operation: ObjectOperation) -> StepEnd
-        ensures { done self.new result ≡ do_object here.now operation self.old }
+    /// An instruction on references.
+    pub(crate) fn perform_object<N: Natives>(
+        &mut self,
+        natives: &mut N,
+        here: &Here<'_>,
+        operation: ObjectOperation,
+    ) -> StepEnd
+        ensures { PerformsObject N.meaning here.now self.old (N.kept natives.old)
+            (done_with (done self.new result) (N.kept natives.new)) (do_object here.now operation self.old) }
     {
         match operation {
             ObjectOperation::PushNull => self.puts(here, 0),
@@ -25,7 +33,7 @@ impl WordMachine {
                 self.branch_on_reference(here, when, offset)
             }
             ObjectOperation::Field { access, index } => self.perform_field(here, access, index),
-            ObjectOperation::Invoke(_) => StepEnd::UsedUp,
+            ObjectOperation::Invoke(invocation) => self.invoke(natives, here, invocation),
             ObjectOperation::Create(creation) => self.perform_creation(here, creation),
             ObjectOperation::CheckCast(type_) => self.check_cast(here, type_),
             ObjectOperation::InstanceOf(type_) => self.instance_of(here, type_),

@@ -25,7 +25,7 @@ use Rattle.jc_natives.specs.PrivateTests.{length_of, on_object, passes, ranged, 
 use Rattle.jc_natives.specs.Taking.{Called, called}
 use Rattle.jc_natives.specs.declared.row.Length.{Length}
 use Rattle.jc_natives.specs.declared.row.Range.{Range}
-use Rattle.jc_natives.specs.declared.row.Row.{Row}
+use Rattle.jc_natives.specs.declared.row.MemberRow.{MemberRow}
 use Rattle.jc_natives.specs.declared.row.Test.{Test}
 use Rattle.jc_natives.specs.declared.row.Test.TheVariants as tests
 use Rattle.jc_natives.specs.declared.row.Way.{Way}
@@ -45,7 +45,7 @@ abbrev of_range : Option Range → List Check → List Check
 of_range None rest = rest
 of_range (Some r) rest = HasRange r.array r.offset r.length ∷ rest
 
-abbrev pub checks_of : Row → List Check
+abbrev pub checks_of : MemberRow → List Check
 checks_of row =
     of_test row.first (of_test row.second (of_range row.first_range (of_range row.second_range [])))
 
@@ -239,7 +239,7 @@ module _ (w : World) (call : NativeCall Kept) where
   last_of : (r : Option Range) → followed (ranged s args r) passes ≡ ranged s args r
   last_of r = grind arith
 
-  pub tests_agree : (row : Row) → Agrees (checks.tested h (checks_of row)) (tested s args row)
+  pub tests_agree : (row : MemberRow) → Agrees (checks.tested h (checks_of row)) (tested s args row)
   tests_agree row =
       row_step row.first _ _ (row_step row.second _ _ (range_step row.first_range _ _
       (subst (Agrees (checks.tested h (of_range row.second_range []))) (last_of row.second_range)

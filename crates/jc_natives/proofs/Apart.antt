@@ -226,9 +226,6 @@ members_apart still w call apart active kept = record {
 
 -- ---- calls of the runtime itself
 
-abbrev of_applet : Instance → Bool
-of_applet i = is_applets i.owner
-
 pub begun_named : (k : Kept) → names_applets k ≡ true → (owner : Owner) (aid : List ℕ) → is_applets owner ≡ true
     → is_instance_number owner.instance ≡ true → names_applets (with_install k owner aid) ≡ true
 begun_named k e owner aid f g = grind (arith, both, both_are)

@@ -34,7 +34,7 @@ use Rattle.jc_natives.specs.PrivateTests.{on_object, ranged, test, tested, used}
 use Rattle.jc_natives.specs.Work.{Asks, Does, Ending, GivesReference, GivesWord, Makes, NoResult, Throws, Work}
 use Rattle.jc_natives.specs.declared.ended.Question.{Question}
 use Rattle.jc_natives.specs.declared.row.Range.{Range}
-use Rattle.jc_natives.specs.declared.row.Row.{Row}
+use Rattle.jc_natives.specs.declared.row.MemberRow.{MemberRow}
 use Rattle.jc_natives.specs.declared.row.Test.{Test}
 use Rattle.jc_natives.specs.declared.row.Way.{Way}
 use Rattle.jc_store.specs.Heap.{Heap, Object, next_number, object_at, with_new}
@@ -171,7 +171,7 @@ module _ (known : Known) where
   followed_thrown : (t u : Tested) → Thrown t.thrown → Thrown u.thrown → Thrown (followed t u).thrown
   followed_thrown t u p q = grind arith
 
-  pub tested_thrown : (s : Seen) (arguments : List ℕ) (row : Row) → Thrown (tested s arguments row).thrown
+  pub tested_thrown : (s : Seen) (arguments : List ℕ) (row : MemberRow) → Thrown (tested s arguments row).thrown
   tested_thrown s arguments row = grind (arith, followed_thrown, test_thrown, range_thrown)
 
   pub ended_fits : (touches : List _) (thrown : Option ℕ) (work : Work) → Thrown thrown → Fits work

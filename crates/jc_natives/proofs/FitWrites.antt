@@ -31,7 +31,7 @@ use Rattle.jc_natives.specs.Cells as cells
 use Rattle.jc_natives.specs.Cells.{Write, bit, bits, extended, low, order_of, word_of_bytes}
 use Rattle.jc_natives.specs.Kept.{Kept, are_bytes, is_instance_number}
 use Rattle.jc_natives.specs.Meaning.{meaning}
-use Rattle.jc_natives.specs.PrivateCells.{bare, bared, byte_of, bytes_of, cell_of, words_of}
+use Rattle.jc_natives.specs.PrivateCells.{bare, bared, byte_of, bytes_of, cell_of, cells_from}
 use Rattle.jc_store.specs.Heap.{Heap, Object, object_at}
 use Rattle.jc_store.specs.declared.kind.ObjectType.{ObjectType}
 use Rattle.jc_store.specs.declared.kind.ObjectType.TheVariants.{ByteArray, Instance as OfClass}
@@ -93,7 +93,7 @@ component_is world heap number at typed leads =
 -- so what an array of bytes holds fits another
 pub copied_fit : (world : List Shape) (from : ℕ) (heap : Heap TaggedValue) (number at count : ℕ)
     → HeapTyped world heap → LeadsToBytes heap number
-    → FitsWords world ByteArray from (words_of (bared heap) number at count)
+    → FitsWords world ByteArray from (cells_from (bared heap) number at count)
 copied_fit world from heap number at zero typed leads = tt
 copied_fit world from heap number at (suc count) typed leads = (
   component_is world heap number at typed leads,

@@ -42,7 +42,7 @@ use Rattle.jc_natives.specs.Members.{aid_of_owner, event_of}
 use Rattle.jc_natives.specs.PrivateAids.{aid_work, constructs, is_range}
 use Rattle.jc_natives.specs.PrivateApdus.{apdu_work, is_in_buffer}
 use Rattle.jc_natives.specs.PrivateApplets.{applet_work}
-use Rattle.jc_natives.specs.PrivateCells.{aid_bytes, aid_count, argument, bared, bytes_of, cell_of, words_of}
+use Rattle.jc_natives.specs.PrivateCells.{aid_bytes, aid_count, argument, bared, bytes_of, cell_of, cells_from}
 use Rattle.jc_natives.specs.PrivateMeaning.{begun_on_words, work_of}
 use Rattle.jc_natives.specs.PrivateObjects.{equals, object_work}
 use Rattle.jc_natives.specs.PrivateSeen.{Seen, arguments_of, seen_of}
@@ -302,7 +302,7 @@ module _ (known : Known) where
       utility_fits : (native : UtilityNative) → Suits (OfUtility native) m → Fits known (utility_work s k args native)
       utility_fits utilities.ArrayCopy g = (
         to_bytes known (argument args 2) (argument args 3)
-            (words_of o (argument args 0) (argument args 1) (argument args 4))
+            (cells_from o (argument args 0) (argument args 1) (argument args 4))
             (static_bytes w.shapes call.heap m call.arguments typed g.1 2 g.3)
             (copied_fit w.shapes (argument args 3) call.heap (argument args 0) (argument args 1) (argument args 4)
             fit.heap (static_bytes w.shapes call.heap m call.arguments typed g.1 0 g.2)),

@@ -31,7 +31,7 @@ use Rattle.jc_natives.specs.PrivateCells.{bare}
 use Rattle.jc_natives.specs.PrivateSeen.{seen_of}
 use Rattle.jc_natives.specs.PrivateTests.{Tested, by_verdict, facts_of, followed, ranged, test, tested, touch_of, used}
 use Rattle.jc_natives.specs.declared.row.Range.{Range}
-use Rattle.jc_natives.specs.declared.row.Row.{Row}
+use Rattle.jc_natives.specs.declared.row.MemberRow.{MemberRow}
 use Rattle.jc_natives.specs.declared.row.Test.{Test}
 use Rattle.jc_natives.specs.declared.row.Way.{Way}
 use Rattle.jc_names.specs.declared.owner.Owner.{Owner}
@@ -123,7 +123,7 @@ module _ (w : World) (call : NativeCall Kept) where
   followed_uses : (t u : Tested) → AreUses w call t → AreUses w call u → AreUses w call (followed t u)
   followed_uses t u a b = grind (arith, allowed_both, denied_behind, none-some, all_both)
 
-  pub tested_uses : (arguments : List ℕ) (row : Row) → AreUses w call (tested (seen_of w call) arguments row)
+  pub tested_uses : (arguments : List ℕ) (row : MemberRow) → AreUses w call (tested (seen_of w call) arguments row)
   tested_uses arguments row = grind (arith, followed_uses, test_uses, ranged_uses)
 
   pub natives_of : (touches : List Touch) → AllByRecursion (IsUse w call) touches

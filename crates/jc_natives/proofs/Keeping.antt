@@ -254,9 +254,6 @@ instances_still world before after stay (i ∷ is) e =
     both_are (fits_instance world after i) (list_all (fits_instance world after) is)
     (instance_still world before after stay i a.0) (instances_still world before after stay is a.1)
 
-abbrev rest_fits : Kept → Bool
-rest_fits k = option_map_or fits_installing k.installing true
-
 pub kept_fits_still : (w : World) (before after : Heap TaggedValue) (k : Kept) → KeepsObjects before after
     → fits_kept w before k ≡ true → fits_kept w after k ≡ true
 kept_fits_still w before after k stay e = grind (arith, both, both_are, instances_still)

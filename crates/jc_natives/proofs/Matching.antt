@@ -10,7 +10,7 @@ use Rattle.jc_natives.proofs.Ranges.{length_of_bytes}
 use Rattle.jc_natives.specs.Cells.{bits, low}
 use Rattle.jc_natives.specs.Checks.{are_aids, is_aid_at, is_aid_value}
 use Rattle.jc_natives.specs.Kept.{Kept}
-use Rattle.jc_natives.specs.PrivateCells.{aid_bytes, argument, bared, bytes_of, cell_of, size_of, words_of}
+use Rattle.jc_natives.specs.PrivateCells.{aid_bytes, argument, bared, bytes_of, cell_of, size_of, cells_from}
 use Rattle.jc_natives.specs.PrivateSeen.{Seen, arguments_of, is_aid_object, seen_of}
 use Rattle.jc_natives.specs.PrivateTests.{length_of}
 use Rattle.jc_natives.specs.Taking.{Called, aid_in, as_reference, as_word, bytes_in, called, on_aid, on_bytes}
@@ -71,7 +71,7 @@ pub component_of : (heap : Heap TaggedValue) (number index : ℕ)
 component_of heap number index = grind (arith, bare_object, component_among)
 
 pub words_among : (heap : Heap TaggedValue) (number from count : ℕ)
-    → Only (words_in heap number from count) (words_of (bared heap) number from count)
+    → Only (words_in heap number from count) (cells_from (bared heap) number from count)
 words_among heap number from zero = just refl
 words_among heap number from (suc count) =
     goes_with (λ word. option_map (λ words. word ∷ words) (words_in heap number (from + 1) count)) _ _ _
@@ -126,7 +126,7 @@ module _ (w : World) (call : NativeCall Kept) where
     at_component number index go y p = goes_with go _ _ y (component_of heap number index) p
 
     pub at_words : (number from count : ℕ) (go : List ℕ → Option A) (y : A)
-        → Only (go (words_of objects number from count)) y → Only (on_words h number from count go) y
+        → Only (go (cells_from objects number from count)) y → Only (on_words h number from count go) y
     at_words number from count go y p = goes_with go _ _ y (words_among heap number from count) p
 
     pub at_bytes : (number from count : ℕ) (go : List ℕ → Option A) (y : A)

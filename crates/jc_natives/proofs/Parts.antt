@@ -10,7 +10,7 @@ use Rattle.std.specs.Slice.{IsGetRangeResult}
 use Rattle.jc_natives.proofs.Getting.{new_object}
 use Rattle.jc_natives.proofs.Putting.{cells_of_kind, put_some, same_heap, twice}
 use Rattle.jc_natives.specs.Cells.{byte_order, low, order_of, put_all}
-use Rattle.jc_natives.specs.PrivateCells.{bytes_of, cell_of, size_of, words_of}
+use Rattle.jc_natives.specs.PrivateCells.{bytes_of, cell_of, size_of, cells_from}
 use Rattle.jc_store.specs.Blocks.{components_of, part_in, with_cells}
 use Rattle.jc_store.specs.Heap.{Heap, Object, object_at, with_cell, with_object}
 
@@ -28,17 +28,17 @@ dropped (x ∷ xs) (suc at) h = grind (arith, dropped xs at (omega (arith, h)))
 
 -- so many components of an object are a part of all of them
 taken_words : (objects : Heap ℕ) (number from count : ℕ) → from + count ≤ length (components_of objects number)
-    → words_of objects number from count ≡ take count (drop from (components_of objects number))
+    → cells_from objects number from count ≡ take count (drop from (components_of objects number))
 taken_words objects number from zero h = refl
 taken_words objects number from (suc count) h =
     let cells = components_of objects number in
-    ap (λ c. c ∷ words_of objects number (from + 1) count) (cell_in objects number from)
+    ap (λ c. c ∷ cells_from objects number (from + 1) count) (cell_in objects number from)
     ∙ ap (λ words. get_or cells from 0 ∷ words) (taken_words objects number (from + 1) count (omega (arith, h)))
     ∙ ap (take (suc count)) (sym (dropped cells from (omega (arith, h))))
 
 part_words : (objects : Heap ℕ) (number from count end : ℕ) (cells words : List ℕ)
     → cells ≡ components_of objects number → end ≡ from + count → end ≤ length cells
-    → words ≡ slice_range cells from end → words_of objects number from count ≡ words
+    → words ≡ slice_range cells from end → cells_from objects number from count ≡ words
 part_words objects number from count end cells words are stop within is = grind (arith, taken_words)
 
 -- a part that `get` gave, or none
@@ -143,5 +143,5 @@ put_part heap number from words object e h =
 
 -- a part, as it is
 pub words_in : (heap : Heap ℕ) (number from count : ℕ) (object : Object ℕ) → object_at heap number ≡ Some object
-    → from + count ≤ length object.cells → part_in object from count ≡ words_of heap number from count
+    → from + count ≤ length object.cells → part_in object from count ≡ cells_from heap number from count
 words_in heap number from count object e h = grind (arith, part_words)

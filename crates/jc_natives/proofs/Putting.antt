@@ -5,7 +5,7 @@ use Rattle.std.proofs.lemmas.List.{get_or-set_other, set-set, set_comm, set_past
 use Rattle.std.proofs.lemmas.Option.{same_Some}
 use Rattle.jc_natives.proofs.Getting.{new_object, other_object}
 use Rattle.jc_natives.specs.Cells.{put, put_all}
-use Rattle.jc_natives.specs.PrivateCells.{cell_of, size_of, words_of}
+use Rattle.jc_natives.specs.PrivateCells.{cell_of, size_of, cells_from}
 use Rattle.jc_store.specs.Heap.{Heap, Object, object_at, with_cell, with_object}
 
 -- a heap with an object that was found, and one where there is none
@@ -77,10 +77,10 @@ cell_stays objects number index word other at apart = by_object (object_at objec
 
 -- components behind an index that is written, and a component before
 pub words_stay : (objects : Heap ℕ) (number index word other from count : ℕ) → index < from
-    → words_of (put objects number index word) other from count ≡ words_of objects other from count
+    → cells_from (put objects number index word) other from count ≡ cells_from objects other from count
 words_stay objects number index word other from zero h = refl
 words_stay objects number index word other from (suc count) h =
-    ap (λ c. c ∷ words_of (put objects number index word) other (from + 1) count)
+    ap (λ c. c ∷ cells_from (put objects number index word) other (from + 1) count)
     (cell_stays objects number index word other from (apart h))
     ∙ ap (λ words. cell_of objects other from ∷ words)
     (words_stay objects number index word other (from + 1) count (omega (arith, h)))

@@ -4,7 +4,7 @@ use Rattle.std.proofs.Common.{bytes_eq, length, map, nat_eq, refl, sym, ap, ◌�
 use Rattle.std.proofs.lemmas.Bool.{eq-eqb}
 use Rattle.jc_natives.proofs.Putting.{cell_before, put_before, words_stay}
 use Rattle.jc_natives.specs.Cells.{low, put, put_all}
-use Rattle.jc_natives.specs.PrivateCells.{byte_of, bytes_of, cell_of, words_of}
+use Rattle.jc_natives.specs.PrivateCells.{byte_of, bytes_of, cell_of, cells_from}
 use Rattle.jc_store.specs.Heap.{Heap}
 use Rattle.jc_store.specs.Store.{Store, with_objects}
 
@@ -12,7 +12,7 @@ use Rattle.jc_store.specs.Store.{Store, with_objects}
 
 -- what a function makes of so many components
 abbrev made_of : (ℕ → ℕ) → Heap ℕ → ℕ → ℕ → ℕ → List ℕ
-made_of f objects number from count = map f (words_of objects number from count)
+made_of f objects number from count = map f (cells_from objects number from count)
 
 next_made : (f : ℕ → ℕ) (objects : Heap ℕ) (number from at count : ℕ) → at < count
     → made_of f objects number (from + at) (count - at)
@@ -34,7 +34,7 @@ appended objects number from at count bytes all h e = grind (arith, append_assoc
 
 -- ---- compared
 
-pub length_of_words : (objects : Heap ℕ) (number from count : ℕ) → length (words_of objects number from count) ≡ count
+pub length_of_words : (objects : Heap ℕ) (number from count : ℕ) → length (cells_from objects number from count) ≡ count
 length_of_words objects number from zero = refl
 length_of_words objects number from (suc count) = ap suc (length_of_words objects number (from + 1) count)
 

@@ -11,7 +11,7 @@ use Rattle.jc_natives.specs.PrivateCells.{argument}
 use Rattle.jc_natives.specs.PrivateSeen.{Seen}
 use Rattle.jc_natives.specs.PrivateTests.{Tested, by_verdict, followed, ranged, test, tested, used}
 use Rattle.jc_natives.proofs.Changed.{is_change_of, is_changed}
-use Rattle.jc_natives.specs.declared.row.Row.{Row}
+use Rattle.jc_natives.specs.declared.row.MemberRow.{MemberRow}
 use Rattle.jc_natives.specs.declared.row.Test.{Test}
 use Rattle.jc_natives.specs.declared.row.Test.TheVariants as tests
 use Rattle.jc_natives.specs.declared.row.Way.{Way}
@@ -54,7 +54,7 @@ module _ (s : Seen) where
   both_pass : (t u : Tested) → (followed t u).thrown ≡ None → BothPass t u
   both_pass t u e = grind (arith, none-some)
 
-  pub row_reaches : (arguments : List ℕ) (row : Row) (place : ℕ) (way : Way) → may_change (access_of way) ≡ true
+  pub row_reaches : (arguments : List ℕ) (row : MemberRow) (place : ℕ) (way : Way) → may_change (access_of way) ≡ true
       → (tested s arguments row).thrown ≡ None
       → (row.first ≡ tests.Object place way) ⊎ (row.second ≡ tests.Object place way)
       → is_changed (tested s arguments row).touches (argument arguments place) ≡ true

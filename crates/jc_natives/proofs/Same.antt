@@ -119,10 +119,7 @@ module _ (known : Known) (c : ApiClass) where
       → Has ((members.object_member native).does h)
   object_has objects.Construct t shown = refl
   object_has objects.Equals t shown = equals_has t
-  object_has objects.ConstructWithReason t shown = has_reference known _ t 0 refl _ (has_word known _ t 1 refl _ refl)
-  object_has objects.GetReason t shown = search (arith, equals_has, has_reference, has_word, has_reason, object_leads)
-  object_has objects.SetReason t shown = has_reference known _ t 0 refl _ (has_word known _ t 1 refl _ refl)
-  object_has (objects.ThrowIt object) t shown = has_word known _ t 0 refl _ refl
+  object_has native t shown = search (arith, has_reference, has_word, has_reason, object_leads)
 
   -- ---- AID
 
@@ -159,23 +156,12 @@ module _ (known : Known) (c : ApiClass) where
 
   apdu_has : (native : ApduNative) (t : Typed (OfApdu native)) → Shows known c (OfApdu native) t
       → Has ((members.apdu_member native).does h)
-  apdu_has apdus.GetBuffer t shown = refl
-  apdu_has apdus.SetIncomingAndReceive t shown = requires_apdu h illegal_use (is_fresh k.state) _ refl
-  apdu_has apdus.SetOutgoing t shown = requires_apdu h illegal_use (is_incoming k.state) _ refl
-  apdu_has apdus.SetOutgoingLength t shown =
-      has_word known _ t 1 refl _ (requires_apdu h illegal_use (is_outgoing k.state) _
-      (requires_apdu h bad_length (nat_le (argument args 1) most_sent) _ refl))
-  apdu_has apdus.SendBytes t shown =
-      has_word known _ t 1 refl _ (has_word known _ t 2 refl _ (requires_apdu h illegal_use (is_length_set k.state) _
-      (buffer_has (OfApdu apdus.SendBytes) t (argument args 1) (argument args 2) _ sends_has)))
-  apdu_has apdus.SendBytesLong t shown =
-      requires_apdu h illegal_use (is_length_set k.state) _
-      (has_range known _ t 1 2 (ShortAt 3) refl refl refl refl (shown.1).0 _ sends_has)
   apdu_has apdus.SetOutgoingAndSend t shown =
       has_word known _ t 1 refl _ (has_word known _ t 2 refl _ (requires_apdu h illegal_use (is_incoming k.state) _
       (requires_apdu h bad_length (nat_le (argument args 2) most_sent) _
       (buffer_has (OfApdu apdus.SetOutgoingAndSend) t (argument args 1) (argument args 2)
       (sends_at_once h (argument args 2)) (λ bytes. refl)))))
+  apdu_has native t shown = search (arith, has_word, has_range, requires_apdu, buffer_has, sends_has)
 
   -- ---- Applet
 
@@ -196,24 +182,14 @@ module _ (known : Known) (c : ApiClass) where
       (λ i. on_range h 1 2 (ByteAt 3) (members.registers_under h (argument args 0) ((shown.0).object).owner i))
       (λ i. has_range known _ t 1 2 (ByteAt 3) refl refl refl refl (shown.1).0 _
       (λ bytes. requires_system h illegal_value (has_aid_length (length bytes)) _ refl))))
-  applet_has applets.Select t shown = refl
-  applet_has applets.Deselect t shown = refl
-  applet_has applets.Process t shown = refl
-  applet_has applets.SelectingApplet t shown = refl
-  applet_has applets.GetShareable t shown = refl
+  applet_has native t shown = refl
 
   -- ---- JCSystem
 
   system_has : (native : SystemNative) (t : Typed (OfSystem native)) → Shows known c (OfSystem native) t
       → Has ((members.system_member native).does h)
   system_has system.GetAid t shown = refl
-  system_has system.LookupAid t shown = search (arith, has_range, has_reference, has_word, has_aid, of_leads)
-  system_has system.GetPreviousAid t shown = refl
-  system_has system.AskForShareable t shown = search (arith, has_range, has_reference, has_word, has_aid, of_leads)
-  system_has system.MakeBooleans t shown = has_word known _ t 0 refl _ (has_word known _ t 1 refl _ refl)
-  system_has system.MakeBytes t shown = has_word known _ t 0 refl _ (has_word known _ t 1 refl _ refl)
-  system_has system.MakeShorts t shown = has_word known _ t 0 refl _ (has_word known _ t 1 refl _ refl)
-  system_has system.MakeReferences t shown = has_word known _ t 0 refl _ (has_word known _ t 1 refl _ refl)
+  system_has native t shown = search (arith, has_range, has_reference, has_word, has_aid, of_leads)
 
   -- ---- Util
 
@@ -224,19 +200,7 @@ module _ (known : Known) (c : ApiClass) where
       (has_word known _ t 3 refl _ (has_word known _ t 4 refl _
       (has_words known _ t (argument args 0) (bytes_at known _ t 0 refl) shown.0 (argument args 1) (argument args 4) _
       refl)))))
-  utility_has utilities.ArrayFill t shown =
-      has_reference known _ t 0 refl _ (has_word known _ t 1 refl _ (has_word known _ t 2 refl _
-      (has_word known _ t 3 refl _ refl)))
-  utility_has utilities.ArrayCompare t shown =
-      has_range known _ t 0 1 (ShortAt 4) refl refl refl refl shown.0 _ (λ bytes.
-      has_range known _ t 2 3 (ShortAt 4) refl refl refl refl (shown.1).0 _ (λ others. refl))
-  utility_has utilities.GetShort t shown =
-      has_reference known _ t 0 refl _ (has_word known _ t 1 refl _
-      (has_component known _ t (argument args 0) (bytes_at known _ t 0 refl) shown.0 (argument args 1) _
-      (has_component known _ t (argument args 0) (bytes_at known _ t 0 refl) shown.0 (argument args 1 + 1) _ refl)))
-  utility_has utilities.SetShort t shown =
-      has_reference known _ t 0 refl _ (has_word known _ t 1 refl _ (has_word known _ t 2 refl _ refl))
-  utility_has utilities.MakeShort t shown = has_word known _ t 0 refl _ (has_word known _ t 1 refl _ refl)
+  utility_has native t shown = search (arith, has_range, has_reference, has_word, has_component, bytes_at)
 
   native_has : (native : Native) (t : Typed native) → Shows known c native t
       → Has ((member_of_native native).does h)

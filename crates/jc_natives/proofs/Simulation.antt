@@ -49,11 +49,6 @@ pub passed_some : {A : Type 0} (test : A → Bool) (o : Option A) → option_map
     → (x : A) × (o ≡ Some x) × (test x ≡ true)
 passed_some test o h1 = grind arith
 
-abbrev takes : World → NativeCall Kept → DeclaredMethod → Signature ClassName → Bool
-takes w call d signature =
-    cond d.method.is_static (are_of_types w.shapes call.heap signature.parameters call.arguments)
-    (are_of_instance w.shapes call.heap d.class signature.parameters call.arguments)
-
 instance_bits : (w : World) (call : NativeCall Kept) (class : ClassName) (s : Signature ClassName) (ws : List ℕ)
     (vs : List TaggedValue) → Pointwise Reads ws vs
     → are_of_instance w.shapes call.heap class s.parameters vs ≡ true → ws ≡ map bits vs

@@ -46,7 +46,7 @@ use Rattle.jc_natives.specs.declared.native.ObjectNative.TheVariants as objects
 use Rattle.jc_natives.specs.declared.native.SystemNative.{SystemNative}
 use Rattle.jc_natives.specs.declared.native.UtilityNative.{UtilityNative}
 use Rattle.jc_natives.specs.declared.native.UtilityNative.TheVariants as utilities
-use Rattle.jc_natives.specs.declared.row.Row.{Row}
+use Rattle.jc_natives.specs.declared.row.MemberRow.{MemberRow}
 use Rattle.jc_natives.specs.declared.row.Test.TheVariants as tests
 use Rattle.jc_natives.specs.declared.row.Way.{Way}
 use Rattle.jc_natives.specs.declared.row.Way.TheVariants as ways
@@ -85,9 +85,6 @@ all_throw_own zero native e = absurd (none-some native e)
 all_throw_own (suc n) native e = each_is throws_own natives n native refl e
 
 -- ---- what the runtime keeps
-
-abbrev of_applet : Instance → Bool
-of_applet i = is_applets i.owner
 
 all_with_last : {A : Type 0} (p : A → Bool) (xs : List A) (x : A) → list_all p xs ≡ true → p x ≡ true
     → list_all p (xs ++ x ∷ []) ≡ true
@@ -133,7 +130,7 @@ module _ (Spared : By → ℕ → Type 0) (s : Seen) (k : Kept) where
   either_apart b x y h1 h2 = grind arith
 
   -- an object that a row tests, by a way in which it may change
-  abbrev pub AreTested : List ℕ → Row → Type 0
+  abbrev pub AreTested : List ℕ → MemberRow → Type 0
   AreTested args row = (place : ℕ) (way : Way) → may_change (access_of way) ≡ true
       → (row.first ≡ tests.Object place way) ⊎ (row.second ≡ tests.Object place way)
       → Spared ByCode (argument args place)
@@ -212,11 +209,10 @@ module _ (Spared : By → ℕ → Type 0) (s : Seen) (k : Kept) where
     utility_apart : (native : UtilityNative) → AreTested args (utility_row native)
         → IsApartWork (utility_work s k args native)
     utility_apart utilities.ArrayCopy tested = ((tested 2 ways.Stores refl (inr refl), tt), kept)
-    utility_apart utilities.ArrayFill tested = ((tested 0 ways.Stores refl (inl refl), tt), kept)
     utility_apart utilities.ArrayCompare tested = (tt, kept)
     utility_apart utilities.GetShort tested = (tt, kept)
-    utility_apart utilities.SetShort tested = ((tested 0 ways.Stores refl (inl refl), tt), kept)
     utility_apart utilities.MakeShort tested = (tt, kept)
+    utility_apart native tested = ((tested 0 ways.Stores refl (inl refl), tt), kept)
 
     pub work_apart : (native : Native) → throws_own native ≡ true → AreTested args (row_of native)
         → IsApartWork (work_of s k args native)

@@ -26,7 +26,7 @@ use Rattle.jc_natives.specs.Checks as checks
 use Rattle.jc_natives.specs.Checks.{CallsOtherAid, Check, Checked, HasRange, Passed, Refused, TestEnd, Unfit, Uses}
 use Rattle.jc_natives.specs.Checks.{UsesUnlessNull, are_aids, calls_other, goes_on, in_range, is_aid_at, is_aid_value}
 use Rattle.jc_natives.specs.Checks.{is_in_range, is_range_in, judged, refused, test, tested, unfit, uses, uses_value}
-use Rattle.jc_natives.specs.PrivateCells.{aid_bytes, argument, bared, bytes_of, cell_of, words_of}
+use Rattle.jc_natives.specs.PrivateCells.{aid_bytes, argument, bared, bytes_of, cell_of, cells_from}
 use Rattle.jc_natives.specs.PrivateSeen.{Seen, arguments_of, seen_of}
 use Rattle.jc_natives.specs.Taking.{Called, as_reference, as_word, called, on_aid, on_bytes, on_component}
 use Rattle.jc_natives.specs.Taking.{on_length, on_object, on_range, on_reference, on_word, on_words}
@@ -110,9 +110,6 @@ module _ (known : Known) (kinds : List Kind)
 
   abbrev h : Called
   h = called w call
-
-  abbrev s : Seen
-  s = seen_of w call
 
   abbrev args : List ℕ
   args = arguments_of call
@@ -278,7 +275,7 @@ module _ (known : Known) (kinds : List Kind)
     has_aid number leads go k = has_and_goes go _ _ (aid_among heap number) (aid_there known number leads) k
 
     pub has_words : (number : ℕ) → LeadsToBytes heap number → There heap number → (from count : ℕ)
-        (go : List ℕ → Option A) → Has (go (words_of objs number from count)) → Has (on_words h number from count go)
+        (go : List ℕ → Option A) → Has (go (cells_from objs number from count)) → Has (on_words h number from count go)
     has_words number leads t from count go k = grind (arith, has_and_goes, words_among, words_there, byte_word)
 
     pub has_bytes : (number : ℕ) → LeadsToBytes heap number → There heap number → (from count : ℕ)

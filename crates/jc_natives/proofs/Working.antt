@@ -121,11 +121,7 @@ module _ (w : World) (call : NativeCall Kept) where
 
   object_does : (native : ObjectNative) → Only ((members.object_member native).does h) (object_work s k args native)
   object_does objects.Construct = just refl
-  object_does objects.Equals = two_equal
-  object_does objects.ConstructWithReason = reason_set
-  object_does objects.GetReason = search (arith, just, two_equal, reason_set, at_reference, at_component, at_word)
-  object_does objects.SetReason = reason_set
-  object_does (objects.ThrowIt object) = at_word w call 0 _ _ (just refl)
+  object_does native = search (arith, just, two_equal, reason_set, at_reference, at_component, at_word)
 
   -- ---- AID
 
@@ -173,24 +169,12 @@ module _ (w : World) (call : NativeCall Kept) where
   sends_so array offset count = grind (arith, nat_le, length_of_bytes, either, just)
 
   apdu_does : (native : ApduNative) → Only ((members.apdu_member native).does h) (apdu_work s k args native)
-  apdu_does apdus.GetBuffer = just refl
-  apdu_does apdus.SetIncomingAndReceive = either (is_fresh k.state) _ _ _ _ (just refl) (just refl)
-  apdu_does apdus.SetOutgoing = either (is_incoming k.state) _ _ _ _ (just refl) (just refl)
-  apdu_does apdus.SetOutgoingLength =
-      at_word w call 1 _ _ (either (is_outgoing k.state) _ _ _ _
-      (either (nat_le (argument args 1) most_sent) _ _ _ _ (just refl) (just refl)) (just refl))
-  apdu_does apdus.SendBytes =
-      at_word w call 1 _ _ (at_word w call 2 _ _ (either (is_length_set k.state) _ _ _ _
-      (in_buffer_so (argument args 1) (argument args 2) (sends h) _
-      (sends_so apdu_buffer (argument args 1) (argument args 2))) (just refl)))
-  apdu_does apdus.SendBytesLong =
-      either (is_length_set k.state) _ _ _ _ (at_range w call 1 2 (ShortAt 3) _ _
-      (sends_so (argument args 1) (argument args 2) (argument args 3))) (just refl)
   apdu_does apdus.SetOutgoingAndSend =
       at_word w call 1 _ _ (at_word w call 2 _ _ (either (is_incoming k.state) _ _ _ _
       (either (nat_le (argument args 2) most_sent) _ _ _ _
       (in_buffer_so (argument args 1) (argument args 2) (sends_at_once h (argument args 2)) _ (just refl))
       (just refl)) (just refl)))
+  apdu_does native = search (arith, just, either, at_word, at_range, in_buffer_so, sends_so)
 
   -- ---- Applet
 
@@ -229,11 +213,7 @@ module _ (w : World) (call : NativeCall Kept) where
       (bytes_of o (argument args 1) (argument args 2) (extended (argument args 3)))))
       (λ owner i. at_range w call 1 2 (ByteAt 3) _ _
       (registers_so i owner (argument args 1) (argument args 2) (extended (argument args 3))))
-  applet_does applets.Select = just refl
-  applet_does applets.Deselect = just refl
-  applet_does applets.Process = just refl
-  applet_does applets.SelectingApplet = just refl
-  applet_does applets.GetShareable = just refl
+  applet_does native = just refl
 
   -- ---- JCSystem
 
@@ -242,13 +222,7 @@ module _ (w : World) (call : NativeCall Kept) where
 
   system_does : (native : SystemNative) → Only ((members.system_member native).does h) (system_work s k args native)
   system_does system.GetAid = just refl
-  system_does system.LookupAid = at_range w call 0 1 (ByteAt 2) _ _ (just refl)
-  system_does system.GetPreviousAid = just refl
-  system_does system.AskForShareable = search (arith, just, at_range, at_reference, at_word, at_aid, array_made)
-  system_does system.MakeBooleans = array_made _
-  system_does system.MakeBytes = array_made _
-  system_does system.MakeShorts = array_made _
-  system_does system.MakeReferences = array_made _
+  system_does native = search (arith, just, at_range, at_reference, at_word, at_aid, array_made)
 
   -- ---- Util
 
@@ -258,16 +232,7 @@ module _ (w : World) (call : NativeCall Kept) where
       at_reference w call 0 _ _ (at_word w call 1 _ _ (at_reference w call 2 _ _ (at_word w call 3 _ _
       (at_word w call 4 _ _ (at_words w call (argument args 0) (argument args 1) (argument args 4) _ _
       (just refl))))))
-  utility_does utilities.ArrayFill =
-      at_reference w call 0 _ _ (at_word w call 1 _ _ (at_word w call 2 _ _ (at_word w call 3 _ _ (just refl))))
-  utility_does utilities.ArrayCompare =
-      at_range w call 0 1 (ShortAt 4) _ _ (at_range w call 2 3 (ShortAt 4) _ _ (just refl))
-  utility_does utilities.GetShort =
-      at_reference w call 0 _ _ (at_word w call 1 _ _ (at_component w call (argument args 0) (argument args 1) _ _
-      (at_component w call (argument args 0) (argument args 1 + 1) _ _ (just refl))))
-  utility_does utilities.SetShort =
-      at_reference w call 0 _ _ (at_word w call 1 _ _ (at_word w call 2 _ _ (just refl)))
-  utility_does utilities.MakeShort = at_word w call 0 _ _ (at_word w call 1 _ _ (just refl))
+  utility_does native = search (arith, just, at_range, at_reference, at_word, at_component)
 
   pub member_does : (native : Native) → Only ((member_of_native native).does h) (work_of s k args native)
   member_does native = grind (arith, object_does, aid_does, apdu_does, applet_does, system_does, utility_does)

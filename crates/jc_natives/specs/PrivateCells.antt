@@ -27,13 +27,13 @@ abbrev pub byte_of : Heap ℕ → ℕ → ℕ → ℕ
 byte_of objects number index = low (cell_of objects number index)
 
 -- so many components from an index on, as they are
-abbrev pub words_of : Heap ℕ → ℕ → ℕ → ℕ → List ℕ
-words_of objects number from zero = []
-words_of objects number from (suc count) = cell_of objects number from ∷ words_of objects number (from + 1) count
+abbrev pub cells_from : Heap ℕ → ℕ → ℕ → ℕ → List ℕ
+cells_from objects number from zero = []
+cells_from objects number from (suc count) = cell_of objects number from ∷ cells_from objects number (from + 1) count
 
 -- so many bytes from an index on
 abbrev pub bytes_of : Heap ℕ → ℕ → ℕ → ℕ → List ℕ
-bytes_of objects number from count = map low (words_of objects number from count)
+bytes_of objects number from count = map low (cells_from objects number from count)
 
 -- the bytes of an AID object: their count comes first, 16 at most
 abbrev pub aid_count : Heap ℕ → ℕ → ℕ

@@ -15,7 +15,7 @@ use Rattle.jc_natives.specs.PrivateSeen.{Seen, is_aid_object}
 use Rattle.jc_natives.specs.declared.row.Length.{Length}
 use Rattle.jc_natives.specs.declared.row.Length.TheVariants.{ByteAt, Fixed, OfAid, ShortAt}
 use Rattle.jc_natives.specs.declared.row.Range.{Range}
-use Rattle.jc_natives.specs.declared.row.Row.{Row}
+use Rattle.jc_natives.specs.declared.row.MemberRow.{MemberRow}
 use Rattle.jc_natives.specs.declared.row.Test.{Test}
 use Rattle.jc_natives.specs.declared.row.Test.TheVariants.{BesideAid, Nothing, Object, ObjectOrNull}
 use Rattle.jc_natives.specs.declared.row.Way.{Way}
@@ -125,7 +125,7 @@ ranged s arguments (Some r) = if is_in_range s arguments r then passes else fail
 
 -- ---- all tests of a member
 
-abbrev pub tested : Seen → List ℕ → Row → Tested
+abbrev pub tested : Seen → List ℕ → MemberRow → Tested
 tested s arguments row =
     followed (test s arguments row.first)
     (followed (test s arguments row.second)

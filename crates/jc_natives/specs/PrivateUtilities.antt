@@ -3,7 +3,7 @@ use Rattle.std.specs.Prelude.{ℕ, ◌+◌, List, [], ◌∷◌, replicate}
 use Rattle.jc_natives.specs.Cells.{high, low, order_of, word, word_of_bytes}
 use Rattle.jc_natives.specs.Kept.{Kept}
 use Rattle.jc_natives.specs.PrivateAids.{range_bytes}
-use Rattle.jc_natives.specs.PrivateCells.{argument, byte_of, words_of}
+use Rattle.jc_natives.specs.PrivateCells.{argument, byte_of, cells_from}
 use Rattle.jc_natives.specs.PrivateSeen.{Seen}
 use Rattle.jc_natives.specs.Work.{GivesWord, Work, gives, writes_to}
 use Rattle.jc_natives.specs.declared.native.UtilityNative.{UtilityNative}
@@ -15,7 +15,7 @@ use Rattle.jc_natives.specs.declared.native.UtilityNative.TheVariants.{MakeShort
 abbrev pub utility_work : Seen → Kept → List ℕ → UtilityNative → Work
 utility_work s k arguments ArrayCopy =
     writes_to k (argument arguments 2) (argument arguments 3)
-    (words_of s.objects (argument arguments 0) (argument arguments 1) (argument arguments 4))
+    (cells_from s.objects (argument arguments 0) (argument arguments 1) (argument arguments 4))
     (GivesWord (word (argument arguments 3 + argument arguments 4)))
 utility_work s k arguments ArrayFill =
     writes_to k (argument arguments 0) (argument arguments 1)

@@ -16,7 +16,7 @@ use crate::ended::{Ended, throw_system};
 use crate::kept::Runtime;
 use crate::member::{Member, tested};
 use crate::native::AidNative;
-use crate::row::Row;
+use crate::row::MemberRow;
 use crate::rows::aid_row;
 use jc_machine::WordCall;
 use jc_store::Store;
@@ -118,7 +118,7 @@ impl Member for AidNative {
     ghost native = { λ member. OfAid member };
 
     #[inline(always)]
-    fn row(self) -> Row {
+    fn row(self) -> MemberRow {
         aid_row(self)
     }
 

@@ -13,7 +13,7 @@ use crate::ended::{Ended, throw_apdu};
 use crate::kept::{ApduState, Runtime};
 use crate::member::{Member, tested};
 use crate::native::ApduNative;
-use crate::row::Row;
+use crate::row::MemberRow;
 use crate::rows::apdu_row;
 use jc_machine::WordCall;
 use jc_store::Store;
@@ -233,7 +233,7 @@ impl Member for ApduNative {
     ghost native = { λ member. OfApdu member };
 
     #[inline(always)]
-    fn row(self) -> Row {
+    fn row(self) -> MemberRow {
         apdu_row(self)
     }
 

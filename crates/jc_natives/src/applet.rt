@@ -16,7 +16,7 @@ use crate::ended::{Ended, throw_system};
 use crate::kept::{Installing, Instance, Runtime};
 use crate::member::{Member, tested};
 use crate::native::AppletNative;
-use crate::row::Row;
+use crate::row::MemberRow;
 use crate::rows::applet_row;
 use arrayvec::ArrayVec;
 use jc_base::Aid;
@@ -186,7 +186,7 @@ impl Member for AppletNative {
     ghost native = { λ member. OfApplet member };
 
     #[inline(always)]
-    fn row(self) -> Row {
+    fn row(self) -> MemberRow {
         applet_row(self)
     }
 

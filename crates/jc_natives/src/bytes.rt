@@ -3,7 +3,7 @@
 ghost use Rattle.std.specs.Prelude.{◌≡◌, ◌+◌, ◌++◌, ◌≤◌, [], ◌∷◌, bytes_eq, length, replicate};
 ghost use Rattle.arrayvec.specs.ArrayVec.{array_vec_len};
 ghost use Rattle.jc_natives.specs.Cells.{high, low, order_of, put_all, word_of_bytes};
-ghost use Rattle.jc_natives.specs.PrivateCells.{byte_of, bytes_of, words_of};
+ghost use Rattle.jc_natives.specs.PrivateCells.{byte_of, bytes_of, cells_from};
 ghost use Rattle.jc_store.specs.Blocks.{HasCells};
 ghost use Rattle.jc_store.specs.Store.{with_objects};
 
@@ -242,7 +242,7 @@ pub(crate) fn copy_words(
     requires source_there { HasCells store.old source source_from count }
     requires target_there { HasCells store.old target target_from count }
     ensures { store.new ≡ with_objects store.old (put_all store.old.objects target target_from
-        (words_of store.old.objects source source_from count)) }
+        (cells_from store.old.objects source source_from count)) }
 {
     store.copy(
         source,

@@ -5,7 +5,7 @@ ghost use Rattle.jc_natives.specs.PrivateRows.{row_of};
 
 use crate::cells::argument;
 use crate::native::Native;
-use crate::row::{Row, Test, Way};
+use crate::row::{MemberRow, Test, Way};
 use crate::rows::{aid_row, apdu_row, applet_row, object_row, system_row, utility_row};
 use crate::tests::{access_of, facts_of};
 use jc_firewall::{Denial, denial};
@@ -13,7 +13,7 @@ use jc_machine::WordCall;
 use jc_store::Store;
 
 // What a member tests.
-fn row_of(native: Native) -> Row
+fn row_of(native: Native) -> MemberRow
     ensures { result ≡ row_of native }
 {
     match native {

@@ -8,7 +8,7 @@ ghost use Rattle.jc_natives.specs.declared.native.Native.{Native as Named};
 
 use crate::ended::Ended;
 use crate::kept::Runtime;
-use crate::row::Row;
+use crate::row::MemberRow;
 use crate::tests::refusal;
 use jc_machine::WordCall;
 use jc_store::Store;
@@ -19,7 +19,7 @@ pub(crate) trait Member: Copy {
     ghost native: { Self → Named };
 
     /// What it tests of its arguments.
-    fn row(self) -> Row
+    fn row(self) -> MemberRow
         ensures { result ≡ row_of (native self) };
 
     /// Does its work, where its arguments pass its tests.

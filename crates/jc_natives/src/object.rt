@@ -12,7 +12,7 @@ use crate::ended::{Ended, throw_with};
 use crate::kept::Runtime;
 use crate::member::{Member, tested};
 use crate::native::ObjectNative;
-use crate::row::Row;
+use crate::row::MemberRow;
 use crate::rows::object_row;
 use crate::tests::is_aid_object;
 use jc_machine::WordCall;
@@ -72,7 +72,7 @@ impl Member for ObjectNative {
     ghost native = { λ member. OfObject member };
 
     #[inline(always)]
-    fn row(self) -> Row {
+    fn row(self) -> MemberRow {
         object_row(self)
     }
 

@@ -49,7 +49,7 @@ pub struct Range {
 
 /// What a member tests: two references from left to right, and then two ranges from left to right.
 #[derive(Clone, Copy, Debug)]
-pub struct Row {
+pub struct MemberRow {
     pub(crate) first: Test,
     pub(crate) second: Test,
     pub(crate) first_range: Option<Range>,

@@ -9,7 +9,7 @@ ghost use Rattle.jc_natives.specs.PrivateRows.{utility_row};
 use crate::native::{
     AidNative, ApduNative, AppletNative, ObjectNative, SystemNative, UtilityNative,
 };
-use crate::row::{Length, Range, Row, Test, Way};
+use crate::row::{Length, MemberRow, Range, Test, Way};
 
 // A range in an array, whose array and offset stand at these places.
 #[inline(always)]
@@ -23,7 +23,7 @@ fn range(array: usize, offset: usize, length: Length) -> Option<Range>
     })
 }
 
-const UNTESTED: Row = Row {
+const UNTESTED: MemberRow = MemberRow {
     first: Test::Nothing,
     second: Test::Nothing,
     first_range: None,
@@ -31,30 +31,30 @@ const UNTESTED: Row = Row {
 };
 
 #[inline(always)]
-fn constructed() -> Row
+fn constructed() -> MemberRow
     ensures { result ≡ constructed }
 {
-    Row {
+    MemberRow {
         first: Test::Object(0, Way::Fields),
         ..UNTESTED
     }
 }
 
 #[inline(always)]
-fn called() -> Row
+fn called() -> MemberRow
     ensures { result ≡ called }
 {
-    Row {
+    MemberRow {
         first: Test::Object(0, Way::Calls),
         ..UNTESTED
     }
 }
 
 #[inline(always)]
-fn called_on(array: Test, length: Length) -> Row
+fn called_on(array: Test, length: Length) -> MemberRow
     ensures { result ≡ called_on array length }
 {
-    Row {
+    MemberRow {
         first: Test::Object(0, Way::Calls),
         second: array,
         first_range: range(1, 2, length),
@@ -63,10 +63,10 @@ fn called_on(array: Test, length: Length) -> Row
 }
 
 #[inline(always)]
-fn on_array(array: Test, length: Length) -> Row
+fn on_array(array: Test, length: Length) -> MemberRow
     ensures { result ≡ on_array array length }
 {
-    Row {
+    MemberRow {
         first: array,
         second: Test::Nothing,
         first_range: range(0, 1, length),
@@ -75,10 +75,10 @@ fn on_array(array: Test, length: Length) -> Row
 }
 
 #[inline(always)]
-fn on_arrays(source: Test, target: Test) -> Row
+fn on_arrays(source: Test, target: Test) -> MemberRow
     ensures { result ≡ on_arrays source target }
 {
-    Row {
+    MemberRow {
         first: source,
         second: target,
         first_range: range(0, 1, Length::ShortAt(4)),
@@ -88,12 +88,12 @@ fn on_arrays(source: Test, target: Test) -> Row
 
 /// What a member of Object or of an exception tests.
 #[inline(always)]
-pub(crate) fn object_row(native: ObjectNative) -> Row
+pub(crate) fn object_row(native: ObjectNative) -> MemberRow
     ensures { result ≡ object_row native }
 {
     match native {
         ObjectNative::Construct | ObjectNative::ConstructWithReason => constructed(),
-        ObjectNative::Equals => Row {
+        ObjectNative::Equals => MemberRow {
             first: Test::Object(0, Way::Calls),
             second: Test::BesideAid,
             ..UNTESTED
@@ -105,11 +105,11 @@ pub(crate) fn object_row(native: ObjectNative) -> Row
 
 /// What a member of AID tests.
 #[inline(always)]
-pub(crate) fn aid_row(native: AidNative) -> Row
+pub(crate) fn aid_row(native: AidNative) -> MemberRow
     ensures { result ≡ aid_row native }
 {
     match native {
-        AidNative::Construct => Row {
+        AidNative::Construct => MemberRow {
             first: Test::Object(0, Way::Fields),
             second: Test::Object(1, Way::Loads),
             first_range: range(1, 2, Length::ByteAt(3)),
@@ -122,7 +122,7 @@ pub(crate) fn aid_row(native: AidNative) -> Row
 
 /// What a member of APDU tests.
 #[inline(always)]
-pub(crate) fn apdu_row(native: ApduNative) -> Row
+pub(crate) fn apdu_row(native: ApduNative) -> MemberRow
     ensures { result ≡ apdu_row native }
 {
     match native {
@@ -138,7 +138,7 @@ pub(crate) fn apdu_row(native: ApduNative) -> Row
 
 /// What a member of Applet tests.
 #[inline(always)]
-pub(crate) fn applet_row(native: AppletNative) -> Row
+pub(crate) fn applet_row(native: AppletNative) -> MemberRow
     ensures { result ≡ applet_row native }
 {
     match native {
@@ -154,7 +154,7 @@ pub(crate) fn applet_row(native: AppletNative) -> Row
 
 /// What a member of JCSystem tests.
 #[inline(always)]
-pub(crate) fn system_row(native: SystemNative) -> Row
+pub(crate) fn system_row(native: SystemNative) -> MemberRow
     ensures { result ≡ system_row native }
 {
     match native {
@@ -171,7 +171,7 @@ pub(crate) fn system_row(native: SystemNative) -> Row
 
 /// What a member of Util tests.
 #[inline(always)]
-pub(crate) fn utility_row(native: UtilityNative) -> Row
+pub(crate) fn utility_row(native: UtilityNative) -> MemberRow
     ensures { result ≡ utility_row native }
 {
     match native {

@@ -18,7 +18,7 @@ use crate::ended::{Ended, Question, throw_system};
 use crate::kept::{Instance, Runtime};
 use crate::member::{Member, tested};
 use crate::native::{Elements, SystemNative};
-use crate::row::Row;
+use crate::row::MemberRow;
 use crate::rows::system_row;
 use jc_api::ApiClass;
 use jc_machine::WordCall;
@@ -235,7 +235,7 @@ impl Member for SystemNative {
     ghost native = { λ member. OfSystem member };
 
     #[inline(always)]
-    fn row(self) -> Row {
+    fn row(self) -> MemberRow {
         system_row(self)
     }
 

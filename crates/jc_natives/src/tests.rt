@@ -15,7 +15,7 @@ ghost use Rattle.jc_store.specs.Store as stores;
 ghost use Rattle.jc_store.specs.Store.{IsOwn, IsThere};
 
 use crate::cells::{aid_count, argument, extended, is_within, size};
-use crate::row::{Length, Range, Row, Test, Way};
+use crate::row::{Length, MemberRow, Range, Test, Way};
 use jc_api::ApiClass;
 use jc_firewall::{Access, Facts, Verdict, decide, own_is_allowed};
 use jc_machine::WordCall;
@@ -220,7 +220,7 @@ fn ranged(store: &Store, call: &WordCall<'_>, range: Option<Range>) -> Option<u1
 
 /// Makes the tests of a member. What is thrown is told where one fails.
 #[inline(always)]
-pub(crate) fn refusal(store: &Store, call: &WordCall<'_>, row: &Row) -> Option<u16>
+pub(crate) fn refusal(store: &Store, call: &WordCall<'_>, row: &MemberRow) -> Option<u16>
     ensures { result ≡ (tested (seen_in store.now call.now) call.now.arguments.now row.now).thrown }
 {
     if let Some(object) = test(store, call, row.first) {

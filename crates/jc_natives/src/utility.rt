@@ -12,7 +12,7 @@ use crate::ended::Ended;
 use crate::kept::Runtime;
 use crate::member::{Member, tested};
 use crate::native::UtilityNative;
-use crate::row::Row;
+use crate::row::MemberRow;
 use crate::rows::utility_row;
 use crate::words::low;
 use jc_machine::WordCall;
@@ -131,7 +131,7 @@ impl Member for UtilityNative {
     ghost native = { λ member. OfUtility member };
 
     #[inline(always)]
-    fn row(self) -> Row {
+    fn row(self) -> MemberRow {
         utility_row(self)
     }
 

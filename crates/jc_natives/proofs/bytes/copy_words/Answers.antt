@@ -1,5 +1,5 @@
 use Rattle.std.proofs.Common.{ℕ, List, ap, ◌∙◌, arith}
-use Rattle.jc_natives.specs.PrivateCells.{words_of}
+use Rattle.jc_natives.specs.PrivateCells.{cells_from}
 use Rattle.jc_natives.proofs.Parts.{put_part, words_in}
 use Rattle.jc_natives.proofs.Ranges.{length_of_words}
 use Rattle.jc_natives.proofs.bytes.copy_words.Goals as goal
@@ -12,7 +12,7 @@ returns c =
     let from = c.requires.source_there in
     let to = c.requires.target_there in
     let s = c.args.store.now in
-    let words = words_of s.objects c.args.source c.args.source_from c.args.count in
+    let words = cells_from s.objects c.args.source c.args.source_from c.args.count in
     let n = length_of_words s.objects c.args.source c.args.source_from c.args.count in
     let within = to.within in
     c.copy.ensures from.object to.object from.is to.is

@@ -9,7 +9,7 @@ use Rattle.jc_cap_desc.specs.Shape.{Package, Shape}
 use Rattle.jc_cert.specs.Cert.{IsCert, Row}
 use Rattle.jc_cert.specs.Writing.{spelling}
 use Rattle.jc_check.specs.Checked as checks
-use Rattle.jc_link.specs.Linked.{IsLinkedFrom, IsRefusal, Linked, World, refusal_of}
+use Rattle.jc_link.specs.Linked.{IsLinkedFrom, IsLinkRefusal, Linked, World, refusal_of}
 use Rattle.jc_card.specs.Card.{CardState}
 use Rattle.jc_card.specs.Load.{AreSpelled, IsCut, IsFit, IsLinkedBehind, IsOutOfMemory, IsUnfit, IsWithoutRoom}
 use Rattle.jc_card.specs.Reads.{CardWords, Holds, LoadsFrom}
@@ -29,7 +29,7 @@ pub uncut : (before : List Shape) (image certificate : List ℕ) (fault : LoadFa
 uncut before image certificate fault f = inr (IsUnfit.unlinked (Err fault) fault (is_cut image (Err fault) f) refl)
 
 unlinked_by : (before : List Shape) (image certificate : List ℕ) (parts : Infos) (read : Result Package LoadFault)
-    (fault : LoadFault) → IsCut image (Ok parts) → package_of parts ≡ read → IsRefusal before read fault
+    (fault : LoadFault) → IsCut image (Ok parts) → package_of parts ≡ read → IsLinkRefusal before read fault
     → Unfit before image certificate fault
 unlinked_by before image certificate parts (Err why) fault cut is r =
     inr (IsUnfit.unlinked (Ok parts) fault cut (ap (refusal_of before) is ∙ ap Some (sym r)))
@@ -39,7 +39,7 @@ unlinked_by before image certificate parts (Ok p) fault cut is (inr told) =
     inr (IsUnfit.unlinked (Ok parts) fault cut (ap (refusal_of before) is ∙ told))
 
 pub unlinked : (before : List Shape) (image certificate : List ℕ) (parts : Infos) (fault : LoadFault)
-    → Found image (Ok parts) → IsRefusal before (package_of parts) fault → Unfit before image certificate fault
+    → Found image (Ok parts) → IsLinkRefusal before (package_of parts) fault → Unfit before image certificate fault
 unlinked before image certificate parts fault f r =
     unlinked_by before image certificate parts (package_of parts) fault (is_cut image (Ok parts) f) refl r
 
@@ -59,7 +59,7 @@ unspelled before image certificate l fault behind none (inr memory) =
     inl (out_of_memory before image l fault behind memory)
 
 pub uncarried : (before : List Shape) (image certificate : List ℕ) (l : Linked) (rows : List Row) (fault : LoadFault)
-    → IsLinkedBehind before image l → AreSpelled certificate rows → checks.IsRefusal l rows fault
+    → IsLinkedBehind before image l → AreSpelled certificate rows → checks.IsCheckRefusal l rows fault
     → Unfit before image certificate fault
 uncarried before image certificate l rows fault behind spelled (inl memory) =
     inl (out_of_memory before image l fault behind memory)

@@ -39,7 +39,7 @@ fn member_called(call: AppletCall) -> u16
 }
 
 /// The words that it is called on: the object's number, and what it takes.
-fn words_of(call: AppletCall, object: u16) -> ArrayVec<u16, 2>
+fn call_words(call: AppletCall, object: u16) -> ArrayVec<u16, 2>
     ensures words { result.items ≡ object ∷ words_taken call }
     ensures few { length result.items < 256 }
 {
@@ -66,7 +66,7 @@ impl Card {
         let called = self
             .machine
             .method_for(&self.program, member_called(call), instance.object);
-        let words = words_of(call, instance.object);
+        let words = call_words(call, instance.object);
         let first = FirstCall {
             called,
             owner: instance.owner,

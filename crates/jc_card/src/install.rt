@@ -67,7 +67,7 @@ fn padded(bytes: &[u8]) -> [u8; INSTALL_SIZE]
 }
 
 /// What an install method is called on: the array, an offset of 0, and how many bytes of it count.
-fn words_of(size: u16) -> ArrayVec<u16, 3>
+fn install_words(size: u16) -> ArrayVec<u16, 3>
     ensures words { result.items ≡ install_words size }
     ensures few { length result.items < 256 }
 {
@@ -128,7 +128,7 @@ impl Card {
         self.runtime.law();
         accepted_packages_are_type_safe(&self.runtime);
         let called = called_at(&self.program, place);
-        let words = words_of(size);
+        let words = install_words(size);
         let first = FirstCall {
             called,
             owner,

@@ -20,7 +20,7 @@ use Rattle.jc_classes.specs.Walk.{most_classes}
 use Rattle.jc_names.specs.Names.{home_of}
 use Rattle.jc_classes.specs.World.{superclass_of}
 use Rattle.jc_names.specs.declared.name.ClassName.{ClassName}
-use Rattle.jc_link.specs.Classes.{words_of}
+use Rattle.jc_link.specs.Classes.{argument_count}
 use Rattle.jc_link.specs.Found.{type_found, types_found}
 use Rattle.jc_link.specs.KnownTypes.{NameClasses, is_known_return, is_known_target, is_known_type}
 use Rattle.jc_link.specs.Linked.{AreHeaded, IsResolved, Linked}
@@ -191,7 +191,7 @@ module _ (world : List Shape) (d : DeclaredMethod) where
       by_type : (o : Option (Signature ClassName)) → declared_type_of world d ≡ o → length (option_map_or (λ signature. map type_of_declared signature.parameters) o []) ≤ length d.method.signature.parameters
       by_type o h1 = grind (arith, some_of, mapped, length, types_count, mapped_count)
 
-  arguments_count : length (arguments_of world d) ≤ words_of d.method
+  arguments_count : length (arguments_of world d) ≤ argument_count d.method
   arguments_count = by_static d.method.is_static parameters_count
     where
       rest : List Ty
@@ -211,7 +211,8 @@ few_locals l b d have headed own small =
     let words = by_header d.method.header refl (headed b.offset d own) in
     omega (arith, arguments, others, count, words, small.arguments, small.locals)
   where
-    by_header : (o : Option MethodHeader) → d.method.header ≡ o → is_some o ≡ true → option_map_or (λ h. h.nargs) d.method.header 0 ≡ words_of d.method
+    by_header : (o : Option MethodHeader) → d.method.header ≡ o → is_some o ≡ true
+        → option_map_or (λ h. h.nargs) d.method.header 0 ≡ argument_count d.method
     by_header None at there = true_false (sym there)
     by_header (Some h) at there = ap (λ o. option_map_or (λ (h : MethodHeader). h.nargs) o 0) at ∙ have.words (method_name (length l.world - 1) b.offset) d h own at
 

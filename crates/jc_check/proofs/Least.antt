@@ -12,7 +12,8 @@ use Rattle.jc_code.specs.Listing.{ListingLaws}
 use Rattle.jc_link.specs.Linked.{Linked}
 use Rattle.jc_types.specs.State.{Types, types_below}
 use Rattle.jc_check.specs.Carried.{Carries}
-use Rattle.jc_check.specs.Checked.{CarriesPackage, IsFirstRefusal, IsMethodCarried, IsPackageTyped, IsRefusal, method, stated_for, stray_offset}
+use Rattle.jc_check.specs.Checked.{CarriesPackage, IsFirstRefusal, IsMethodCarried, IsPackageTyped, IsCheckRefusal}
+use Rattle.jc_check.specs.Checked.{method, stated_for, stray_offset}
 use Rattle.jc_check.specs.FirstFault.{IsFirstFault}
 use Rattle.jc_check.specs.Method.{Method}
 use Rattle.jc_check.specs.Package.{method_of, package_rules}
@@ -70,7 +71,8 @@ module _ (l : Linked) (rows : List Row) where
   none_refused h1 h2 h3 fault h4 = grind (arith, none-some)
 
   pub memory_alone : ((rules : Rules) → ListingLaws rules.decoder → (m : Method) (states : List Stated) (fault : Fault) → IsFirstFault rules m states fault → Carries rules m states → ⊥)
-      → ListingLaws (package_rules l).decoder → CarriesPackage l rows → (fault : LoadFault) → IsRefusal l rows fault → fault ≡ Memory
+      → ListingLaws (package_rules l).decoder → CarriesPackage l rows → (fault : LoadFault)
+      → IsCheckRefusal l rows fault → fault ≡ Memory
   memory_alone h1 h2 h3 fault h4 = grind (arith, none_refused)
 
   -- ---- it is well typed

@@ -35,9 +35,6 @@ none_some y h = absurd cc
 true_false : {A : Type 0} → true ≡ false → A
 true_false e = absurd cc
 
-some_of : {A B : Type 0} (f : A → Option B) (o : Option A) (b : B) → option_and_then f o ≡ Some b → (a : A) × (o ≡ Some a) × (f a ≡ Some b)
-some_of f o b h1 = grind (arith, none_some)
-
 behind_none : {A : Type 0} (a b : Option A) → option_or a b ≡ None → b ≡ None
 behind_none a b h1 = grind (arith, none_some)
 

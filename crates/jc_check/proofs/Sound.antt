@@ -16,18 +16,14 @@ use Rattle.jc_check.specs.Method.{Handler, Method, caught_types, entry_of}
 use Rattle.jc_check.specs.Claim.{Claim, claim_of}
 use Rattle.jc_check.specs.Typing.{Typing}
 use Rattle.jc_check.specs.Carried.{state_at, HandlerStands, Stands, Arrives, GoesOn, NothingGoesOn, GoesOnIf, IsCaught, IsHandled, IsCarriedAt, Carries}
-use Rattle.jc_check.specs.FirstFault.{told_at, catches_some, handler_stands, handlers_stand, state_stands, states_stand, meets, catches_at, handles, all_handle, arrives, all_arrive, flows, falls_to, falls_if, visit_live, visit_on, visit, walk, findings_of}
+use Rattle.jc_check.specs.FirstFault.{told_at, catches_some, handler_stands, handlers_stand, state_stands, states_stand}
+use Rattle.jc_check.specs.FirstFault.{meets_claim, catches_at, handles, all_handle, arrives, all_arrive, flows}
+use Rattle.jc_check.specs.FirstFault.{falls_to, falls_if, visit_live, visit_on, visit, walk, findings_of}
 use Rattle.jc_check.proofs.Claims.{made}
 use Rattle.jc_check.proofs.Standing.{state_fits}
 
 told_ok : {A : Type 0} (pc : ℕ) (r : Result A Reason) (x : A) → told_at pc r ≡ Ok x → r ≡ Ok x
 told_ok pc r x h1 = grind (arith, the_ok)
-
-either_way : (a b : ℕ) → (a < b) ⊎ (b ≤ a)
-either_way a b = by_test (nat_lt a b) refl
-  where
-    by_test : (t : Bool) → nat_lt a b ≡ t → (a < b) ⊎ (b ≤ a)
-    by_test t h1 = grind (arith, ltb-true, ltb-false)
 
 -- each handler stands
 pub handlers_hold : (listing : List PlacedInstr) (handlers : List Handler) → handlers_stand listing handlers ≡ Ok tt → AllByRecursion (HandlerStands listing) handlers
@@ -151,7 +147,9 @@ behind rules m listing claims typing xs false t pc f runs same h =
     let T : Option Types → Type 0 = λ o. typing pc ≡ typing_of rules m listing claims o xs pc in
     nothing_goes rules m listing claims typing xs pc runs (subst T none same)
 
-met : (rules : Rules) (listing : List PlacedInstr) (claims : List Claim) (t : Types) (pc : ℕ) (o : Option Types) → begins listing pc ≡ true → state_at claims pc ≡ o → meets rules t o ≡ Ok tt → Arrives rules listing claims t (pos pc)
+met : (rules : Rules) (listing : List PlacedInstr) (claims : List Claim) (t : Types) (pc : ℕ) (o : Option Types)
+    → begins listing pc ≡ true → state_at claims pc ≡ o → meets_claim rules t o ≡ Ok tt
+    → Arrives rules listing claims t (pos pc)
 met rules listing claims t pc o h1 h2 h3 = grind (arith, guard_ok)
 
 arrived : (rules : Rules) (listing : List PlacedInstr) (claims : List Claim) (t : Types) (place : ℤ) → arrives rules listing claims t place ≡ Ok tt → Arrives rules listing claims t place
@@ -164,7 +162,9 @@ all_arrived rules listing claims t (p ∷ ps) h =
     let g = bind_ok (arrives rules listing claims t p) (λ _. all_arrive rules listing claims t ps) tt h in
     (arrived rules listing claims t p g.1, all_arrived rules listing claims t ps g.2)
 
-caught : (rules : Rules) (claims : List Claim) (t : Types) (h : Handler) (class : ClassName) (o : Option Types) → h.caught ≡ Some class → state_at claims h.goes_on ≡ o → meets rules (caught_types class t) o ≡ Ok tt → IsCaught rules claims t h
+caught : (rules : Rules) (claims : List Claim) (t : Types) (h : Handler) (class : ClassName) (o : Option Types)
+    → h.caught ≡ Some class → state_at claims h.goes_on ≡ o → meets_claim rules (caught_types class t) o ≡ Ok tt
+    → IsCaught rules claims t h
 caught rules claims t h class None c e k = absurd cc
 caught rules claims t h class (Some state) c e k = record { class = class; catches = c; state = state; stated = e; below = (guard_ok (types_below rules.below (caught_types class t) state) (Ok tt) CertMismatch tt k).0 }
 

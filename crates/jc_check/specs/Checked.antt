@@ -52,8 +52,8 @@ pub data IsFirstRefusal (l : Linked) (rows : List Row) : LoadFault → Type 0 wh
       → IsFirstUncarried l rows b fault → IsFirstRefusal l rows (MethodRefused b.offset fault.pc fault.reason)
 
 -- the first refusal, or want of memory
-abbrev pub IsRefusal : Linked → List Row → LoadFault → Type 0
-IsRefusal l rows fault = (fault ≡ Memory) ⊎ IsFirstRefusal l rows fault
+abbrev pub IsCheckRefusal : Linked → List Row → LoadFault → Type 0
+IsCheckRefusal l rows fault = (fault ≡ Memory) ⊎ IsFirstRefusal l rows fault
 
 -- a package that some certificate carries
 pub record IsPackageCarried (l : Linked) : Type 0 where

@@ -55,13 +55,14 @@ states_stand rules m listing (c ∷ cs) =
     Ok (claim ∷ claims)
 
 -- types where a state is claimed, which is above them
-abbrev pub meets : Rules → Types → Option Types → Result ⊤ Reason
-meets rules t None = Err CertMismatch
-meets rules t (Some c) = if types_below rules.below t c then Ok tt else Err CertMismatch
+abbrev pub meets_claim : Rules → Types → Option Types → Result ⊤ Reason
+meets_claim rules t None = Err CertMismatch
+meets_claim rules t (Some c) = if types_below rules.below t c then Ok tt else Err CertMismatch
 
 -- a branch to a place: an instruction begins there, and the certificate has a state there, above these types
 unfoldable pub arrives : Rules → List PlacedInstr → List Claim → Types → ℤ → Result ⊤ Reason
-arrives rules listing claims t (pos pc) = if begins listing pc then meets rules t (state_at claims pc) else Err NoTarget
+arrives rules listing claims t (pos pc) =
+    if begins listing pc then meets_claim rules t (state_at claims pc) else Err NoTarget
 arrives rules listing claims t (negsuc n) = Err NoTarget
 
 -- each branch in turn
@@ -86,7 +87,7 @@ falls_if rules m claims falls t pc = if falls then falls_to rules m claims t pc 
 -- meet the claimed state where it goes on
 abbrev pub catches_at : Rules → List Claim → Types → ℕ → Option ClassName → Result ⊤ Reason
 catches_at rules claims t goes_on None = Err CertMismatch
-catches_at rules claims t goes_on (Some class) = meets rules (caught_types class t) (state_at claims goes_on)
+catches_at rules claims t goes_on (Some class) = meets_claim rules (caught_types class t) (state_at claims goes_on)
 
 -- a handler at an instruction
 unfoldable pub handles : Rules → List Claim → ℕ → Types → Handler → Result ⊤ Reason

@@ -4,7 +4,8 @@ ghost use Rattle.std.specs.Prelude.{⊤, ◌≡◌, ◌+◌, ℕ, Some, slice_ge
 ghost use Rattle.std.specs.Prelude.{IfNone, OnOk, MatchResult};
 ghost use Rattle.std.specs.Option.{option_map_or};
 ghost use Rattle.jc_cert.specs.Cert.{IsCert, Row, rows};
-ghost use Rattle.jc_check.specs.Checked.{CarriesPackage, IsMethodCarried, IsPackageCarried, IsPackageTyped, IsRefusal};
+ghost use Rattle.jc_check.specs.Checked.{CarriesPackage, IsMethodCarried, IsPackageCarried, IsPackageTyped};
+ghost use Rattle.jc_check.specs.Checked.{IsCheckRefusal};
 ghost use Rattle.jc_check.specs.PrivateFirst.{IsUncarried, LeastOf};
 ghost use Rattle.jc_classes.specs.Limits.{IsSmall};
 ghost use Rattle.jc_link.specs.Built.{IsBuilt};
@@ -143,7 +144,7 @@ fn first_uncarried(
 fn package_refusal(alloc: Global, linked: &Linked, cert: &Cert) -> Result<(), LoadFault>
     ensures cert { IsCert cert.now }
     ensures accepted { OnOk result (CarriesPackage linked.now cert.now) }
-    ensures refused { IfErr result (IsRefusal linked.now cert.now) }
+    ensures refused { IfErr result (IsCheckRefusal linked.now cert.now) }
 {
     match stray_offset(cert.rows(), methods_of(linked)) {
         Some(method) => Err(LoadFault::MethodRefused {
@@ -167,7 +168,7 @@ fn package_refusal(alloc: Global, linked: &Linked, cert: &Cert) -> Result<(), Lo
 fn first_refusal(alloc: Global, linked: &Linked, cert: &Cert) -> Result<(), LoadFault>
     ensures cert { IsCert cert.now }
     ensures accepted { OnOk result (CarriesPackage linked.now cert.now) }
-    ensures refused { IfErr result (IsRefusal linked.now cert.now) }
+    ensures refused { IfErr result (IsCheckRefusal linked.now cert.now) }
     ensures carried { CarriesPackage linked.now cert.now
         → MatchResult result (λ u. ⊤) (λ fault. fault ≡ LoadFault.Memory) }
 {
@@ -205,7 +206,7 @@ pub fn check(alloc: Global, linked: Linked, cert: &Cert) -> Result<Checked, Load
     ensures typed { IfOk result IsPackageTyped }
     ensures carried { CarriesPackage linked cert.now
         → MatchResult result (λ checked. ⊤) (λ fault. fault ≡ LoadFault.Memory) }
-    ensures refused { IfErr result (IsRefusal linked cert.now) }
+    ensures refused { IfErr result (IsCheckRefusal linked cert.now) }
 {
     carried_is_typed(&linked);
     first_refusal(alloc, &linked, cert)?;

@@ -8,7 +8,7 @@ use Rattle.jc_types.specs.Ty.{class_of_components, is_below, is_short_array}
 use Rattle.jc_effects.specs.declared.row.Demand.{Demand}
 use Rattle.jc_effects.specs.declared.row.Demand.TheVariants.{Below, Reference, Bytes, Array}
 use Rattle.jc_effects.specs.declared.row.Given.{Given}
-use Rattle.jc_effects.specs.Row.{component_of, given_type, is_array, is_bytes, is_reference, meets}
+use Rattle.jc_effects.specs.Row.{component_of, given_type, is_array, is_bytes, is_object_or_null, meets}
 
 -- ---- tests that hold
 
@@ -69,14 +69,14 @@ module _ (below : ClassName → ClassName → Bool) where
   array_down : (a b : Ty) → is_below below a b ≡ true → is_array b ≡ true → is_array a ≡ true
   array_down a b h1 h2 = grind (arith, bytes_are_arrays, bytes_down, short_down, arrays_down)
 
-  arrays_are_references : (t : Ty) → is_array t ≡ true → is_reference t ≡ true
+  arrays_are_references : (t : Ty) → is_array t ≡ true → is_object_or_null t ≡ true
   arrays_are_references t h1 = grind arith
 
   -- what is below objects of a class is a reference
-  objects_down : (a : Ty) (d : ClassName) → is_below below a (Class d) ≡ true → is_reference a ≡ true
+  objects_down : (a : Ty) (d : ClassName) → is_below below a (Class d) ≡ true → is_object_or_null a ≡ true
   objects_down a d h1 = grind arith
 
-  reference_down : (a b : Ty) → is_below below a b ≡ true → is_reference b ≡ true → is_reference a ≡ true
+  reference_down : (a b : Ty) → is_below below a b ≡ true → is_object_or_null b ≡ true → is_object_or_null a ≡ true
   reference_down a b h1 h2 = grind (arith, left, is_some, objects_down, arrays_are_references, array_down)
 
   -- what is as it has to be is so further down

@@ -49,7 +49,7 @@ use Rattle.jc_effects.specs.declared.row.Demand.{Demand}
 use Rattle.jc_effects.specs.declared.row.Demand.TheVariants.{Below, Reference, Bytes, Array}
 use Rattle.jc_effects.specs.declared.row.Given.{Given}
 use Rattle.jc_effects.specs.declared.row.Given.TheVariants.{Nothing, Exactly, OfLocal, ComponentOf}
-use Rattle.jc_effects.specs.Row.{Row, is_reference}
+use Rattle.jc_effects.specs.Row.{Row, is_object_or_null}
 use Rattle.jc_effects.specs.Words.{takes, reads, writes, word}
 
 -- what the code of a method is read against: the world, what the entries of its package's constant pool lead to, and
@@ -292,7 +292,7 @@ tested_type set (Tested.ReferenceArray index) = option_map (reference_array set.
 -- a reference where the method's result is one
 abbrev pub return_row : Option Ty → Row
 return_row None = if_form false (takes (Below Top ∷ []) Nothing)
-return_row (Some t) = if_form (is_reference t) (takes (Below t ∷ []) Nothing)
+return_row (Some t) = if_form (is_object_or_null t) (takes (Below t ∷ []) Nothing)
 
 -- the row of an operation, if what it names of the constant pool is what it needs
 unfoldable pub object_row : Setting → ObjectOperation → Option Row

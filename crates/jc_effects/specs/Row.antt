@@ -37,8 +37,8 @@ pub record Row : Type 0 where
 -- ---- what has to be
 
 -- null, or a reference to an object
-abbrev pub is_reference : Ty → Bool
-is_reference t = is_null t || is_some (class_of_objects t)
+abbrev pub is_object_or_null : Ty → Bool
+is_object_or_null t = is_null t || is_some (class_of_objects t)
 
 -- null, or an array of booleans or bytes
 abbrev pub is_bytes : Ty → Bool
@@ -51,7 +51,7 @@ is_array t = is_bytes t || is_short_array t || is_some (class_of_components t)
 -- a type is what it has to be, beside an order of classes
 abbrev pub meets : (ClassName → ClassName → Bool) → Demand → Ty → Bool
 meets below (Below wanted) t = is_below below t wanted
-meets below Reference t = is_reference t
+meets below Reference t = is_object_or_null t
 meets below Bytes t = is_bytes t
 meets below Array t = is_array t
 

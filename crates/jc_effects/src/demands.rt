@@ -36,8 +36,8 @@ pub enum Wanted<'a> {
 }
 
 /// Whether it is null, or a reference to an object.
-pub(crate) fn is_reference(ty: Ty) -> bool
-    ensures { result ≡ rows.is_reference ty }
+pub(crate) fn is_object_or_null(ty: Ty) -> bool
+    ensures { result ≡ rows.is_object_or_null ty }
 {
     match ty {
         Ty::Top | Ty::Word => false,
@@ -74,7 +74,7 @@ fn meets<C: Classes>(demand: Demand, ty: Ty, classes: &C) -> bool
 {
     match demand {
         Demand::Below(wanted) => is_below(ty, wanted, classes),
-        Demand::Reference => is_reference(ty),
+        Demand::Reference => is_object_or_null(ty),
         Demand::Bytes => is_bytes(ty),
         Demand::Array => is_array(ty),
     }
@@ -185,7 +185,7 @@ impl<'a> Wanted<'a> {
                 interface,
                 parameters,
             } => {
-                is_reference(types[0])
+                is_object_or_null(types[0])
                     && all_spelled_meet(table, interface.home(), parameters, &types[1..], classes)
             }
         }

@@ -12,7 +12,7 @@ ghost use Rattle.jc_effects.specs.Words as words;
 
 use crate::applying::{Row, apply};
 use crate::calls::invocation_row;
-use crate::demands::{Wanted, is_reference};
+use crate::demands::{Wanted, is_object_or_null};
 use crate::fields::field_row;
 use crate::row::{Demand, Given};
 use crate::setting::Setting;
@@ -236,7 +236,7 @@ fn return_row<'a>(returned: Option<Ty>) -> Row<'a>
             ..takes(Wanted::One(Demand::Below(Ty::Top)), Given::Nothing)
         },
         Some(ty) => Row {
-            fits: is_reference(ty),
+            fits: is_object_or_null(ty),
             ..takes(Wanted::One(Demand::Below(ty)), Given::Nothing)
         },
     }

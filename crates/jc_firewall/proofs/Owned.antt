@@ -5,8 +5,11 @@ use Rattle.std.specs.Option.{option_map_or}
 use Rattle.jc_store.specs.declared.kind.ClearingEvent.{ClearingEvent}
 use Rattle.jc_store.specs.declared.kind.ClearingEvent.TheVariants.{Reset, Deselect}
 use Rattle.jc_firewall.specs.Own.{OwnIsAllowed}
-use Rattle.jc_firewall.specs.Verdict.{Row, allowed_if, is_deselect, is_entry_point, is_global_array, is_never_stored, is_out_of_selection, is_own, row_of, runtime, runtime_context, stores_reference, switched_if, verdict_for_runtime, verdict_in}
-use Rattle.jc_firewall.specs.Verdict.Row.{casts, components, fields, interface_calls, shared_calls, shared_casts, static_fields, throws, virtual_calls}
+use Rattle.jc_firewall.specs.Verdict.{AccessRow, allowed_if, is_deselect, is_entry_point, is_global_array}
+use Rattle.jc_firewall.specs.Verdict.{is_never_stored, is_out_of_selection, is_own, row_of, runtime, runtime_context}
+use Rattle.jc_firewall.specs.Verdict.{stores_reference, switched_if, verdict_for_runtime, verdict_in}
+use Rattle.jc_firewall.specs.Verdict.AccessRow.{casts, components, fields, interface_calls, shared_calls, shared_casts}
+use Rattle.jc_firewall.specs.Verdict.AccessRow.{static_fields, throws, virtual_calls}
 use Rattle.jc_firewall.specs.declared.access.Facts.{Facts}
 use Rattle.jc_firewall.specs.declared.access.Rule.TheVariants.{Storing, Components, Fields, Calls, SharedCalls, Throws, Casts, SharedCasts, Selection}
 use Rattle.jc_firewall.specs.declared.access.Verdict.{Verdict}
@@ -30,7 +33,7 @@ selected : (active : ℕ) (f : Facts) → option_map_or is_deselect f.clears fal
     → is_out_of_selection active f ≡ false
 selected active f stays = ap (λ b. b && not (option_map_or (λ selected. selected == active) f.selected false)) stays
 
-in_row : (row : Row) (active : ℕ) (f : Facts) → is_own active f ≡ true → is_out_of_selection active f ≡ false
+in_row : (row : AccessRow) (active : ℕ) (f : Facts) → is_own active f ≡ true → is_out_of_selection active f ≡ false
     → verdict_in row active f ≡ Allowed
 in_row static_fields active f own stays = refl
 in_row fields active f own stays = ap (λ b. allowed_if b (Denied Fields)) own

@@ -79,19 +79,19 @@ stores_reference InstanceOf = false
 
 -- ---- the table: the row of an access, and the verdict in each row
 
-pub data Row : Type 0 where
-  static_fields : Row
-  fields : Row
-  components : Row
-  virtual_calls : Row
-  interface_calls : Row
-  shared_calls : Row
-  throws : Row
-  casts : Row
-  shared_casts : Row
+pub data AccessRow : Type 0 where
+  static_fields : AccessRow
+  fields : AccessRow
+  components : AccessRow
+  virtual_calls : AccessRow
+  interface_calls : AccessRow
+  shared_calls : AccessRow
+  throws : AccessRow
+  casts : AccessRow
+  shared_casts : AccessRow
 
 -- an array is cast as its components are used
-abbrev pub row_of : Access → Facts → Row
+abbrev pub row_of : Access → Facts → AccessRow
 row_of PutStaticReference f = static_fields
 row_of PutReferenceField f = fields
 row_of PutField f = fields
@@ -113,7 +113,7 @@ allowed_if condition otherwise = if condition then Allowed else otherwise
 abbrev pub switched_if : Bool → Owner → Verdict → Verdict
 switched_if condition owner otherwise = if condition then AllowedSwitch owner else otherwise
 
-abbrev pub verdict_in : Row → ℕ → Facts → Verdict
+abbrev pub verdict_in : AccessRow → ℕ → Facts → Verdict
 verdict_in static_fields active f = Allowed
 verdict_in fields active f = allowed_if (is_own active f) (Denied Fields)
 verdict_in components active f =
@@ -132,7 +132,7 @@ verdict_in shared_casts active f =
     allowed_if (is_own active f || is_entry_point f.mark || f.is_shareable) (Denied SharedCasts)
 
 -- all is allowed to the runtime, and what it calls it calls as the object's owner
-abbrev pub verdict_for_runtime : Row → Facts → Verdict
+abbrev pub verdict_for_runtime : AccessRow → Facts → Verdict
 verdict_for_runtime static_fields f = Allowed
 verdict_for_runtime fields f = Allowed
 verdict_for_runtime components f = Allowed

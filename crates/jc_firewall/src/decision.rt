@@ -6,8 +6,8 @@ ghost use Rattle.jc_firewall.specs.Verdict.{denial_by, is_deselect, is_entry_poi
 ghost use Rattle.jc_firewall.specs.Verdict.{is_out_of_selection, is_own, row_of, stores_reference, verdict_for_runtime};
 ghost use Rattle.jc_firewall.specs.Verdict.{verdict_in, verdict_of};
 ghost use Rattle.jc_firewall.specs.declared.access.Access.TheVariants.{CheckCast};
-ghost use Rattle.jc_firewall.specs.Verdict.Row.{components, fields, interface_calls, shared_calls, shared_casts};
-ghost use Rattle.jc_firewall.specs.Verdict.Row.{throws, virtual_calls};
+ghost use Rattle.jc_firewall.specs.Verdict.AccessRow.{components, fields, interface_calls, shared_calls, shared_casts};
+ghost use Rattle.jc_firewall.specs.Verdict.AccessRow.{throws, virtual_calls};
 
 use crate::access::{Access, Denial, Facts, Rule, Verdict};
 use jc_names::Owner;

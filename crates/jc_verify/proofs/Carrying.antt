@@ -14,7 +14,10 @@ use Rattle.jc_code.specs.Listing.{IsListing, PlacedInstr, StandBetween, begins}
 use Rattle.jc_code.specs.Targets.{falls_of}
 use Rattle.jc_check.specs.Carried.{Carries, HandlerStands, has_shape, state_at, types_of}
 use Rattle.jc_check.specs.Claim.{Claim, claim_of}
-use Rattle.jc_check.specs.FirstFault.{IsFirstFault, empty, undecoded, found, all_arrive, all_handle, arrives, catches_at, falls_if, falls_to, findings_of, flow_findings_of, handlers_stand, handles, meets, state_stands, states_stand, visit, visit_live, visit_on, walk}
+use Rattle.jc_check.specs.FirstFault.{IsFirstFault, empty, undecoded, found, all_arrive, all_handle, arrives}
+use Rattle.jc_check.specs.FirstFault.{catches_at, falls_if, falls_to, findings_of, flow_findings_of, handlers_stand}
+use Rattle.jc_check.specs.FirstFault.{handles, meets_claim, state_stands, states_stand, visit, visit_live, visit_on}
+use Rattle.jc_check.specs.FirstFault.{walk}
 use Rattle.jc_check.specs.Method.{Handler, Method, covers, entry_of}
 use Rattle.jc_check.specs.Package.{class_of_name, package_rules}
 use Rattle.jc_check.specs.declared.fault.Fault.{Fault}
@@ -113,7 +116,8 @@ module _ (l : Linked) (laws : HasLaws l) (m : Method) (numbers : List (Option �
     begins_held : (pc : ℕ) (t : Types) → held_at numbers places pc ≡ Some t → begins listing pc ≡ true
     begins_held pc t e = grind (arith, held_by)
 
-    met : (t : Types) (pc : ℕ) → Leads rules (held_at numbers places) t pc → meets rules t (state_at claims pc) ≡ Ok tt
+    met : (t : Types) (pc : ℕ) → Leads rules (held_at numbers places) t pc
+        → meets_claim rules t (state_at claims pc) ≡ Ok tt
     met t pc h = rw (claimed pc ∙ h.typed, h.below) refl
 
     arrived : (t : Types) (place : ℤ) → BranchLeads rules (held_at numbers places) t place → arrives rules listing claims t place ≡ Ok tt

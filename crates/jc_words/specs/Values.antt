@@ -20,11 +20,11 @@ all_written [] = true
 all_written (v ∷ vs) = is_written v && all_written vs
 
 -- a reference, or null
-abbrev pub is_reference : TaggedValue → Bool
-is_reference (Word n) = false
-is_reference (Ref n) = true
-is_reference Null = true
-is_reference Unset = false
+abbrev pub is_tagged_reference : TaggedValue → Bool
+is_tagged_reference (Word n) = false
+is_tagged_reference (Ref n) = true
+is_tagged_reference Null = true
+is_tagged_reference Unset = false
 
 -- the number of the object that a value leads to, if it leads to one
 abbrev pub object_of : TaggedValue → Option ℕ

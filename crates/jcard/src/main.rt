@@ -30,14 +30,14 @@ use std::{env, io};
 use verify_folders::{older_stays, said_of_job};
 
 fn main(rt: HostRuntime) -> ExitCode {
-    match words_of(&rt) {
+    match words_given(&rt) {
         Ok(words) => reply_to(&rt, &words),
         Err(error) => end(&rt, &Some(said_without_words(&error))),
     }
 }
 
 // The words of the command line.
-fn words_of(rt: &HostRuntime) -> io::Result<Vec<String>> {
+fn words_given(rt: &HostRuntime) -> io::Result<Vec<String>> {
     Ok(env::args(rt)?.collect(rt.alloc())?)
 }
 

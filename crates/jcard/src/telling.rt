@@ -116,7 +116,7 @@ impl<E: Write> LineTeller<E> {
     // The rule, the access, and whose object it is.
     fn write_denial(&mut self, denial: Denial) -> io::Result<()> {
         let rule = number_of(denial.rule);
-        let access = words_of(denial.access);
+        let access = access_name(denial.access);
         write!(self.errors, ", rule {rule}: {access} an object of ")?;
         if denial.owner.context == Owner::RUNTIME.context {
             write!(self.errors, "the runtime")
@@ -204,7 +204,7 @@ fn number_of(rule: Rule) -> u8 {
 }
 
 /// What is done to an object: an instruction, or what members of the API do to components too.
-fn words_of(access: Access) -> &'static str {
+fn access_name(access: Access) -> &'static str {
     match access {
         Access::PutStaticReference => "putstatic of",
         Access::PutReferenceField | Access::PutField => "putfield of",

@@ -24,8 +24,8 @@ call-requires c =
     record { called = c.method_for-called.result; owner = c.args.instance.owner; arguments = c.as_slice.result } in
     let called = subst (λ (n : ℕ). IsMethodFor i.program i.machine.store n c.args.instance.object
     c.method_for-called.result) c.member_called.ensures c.method_for-called.ensures in
-    let words = c.as_slice.ensures.value ∙ c.words_of-words.ensures.words in
-    let few = subst (λ (ws : List ℕ). length ws < 256) (sym c.as_slice.ensures.value) c.words_of-words.ensures.few in
+    let words = c.as_slice.ensures.value ∙ c.call_words-words.ensures.words in
+    let few = subst (λ (ws : List ℕ). length ws < 256) (sym c.as_slice.ensures.value) c.call_words-words.ensures.few in
     let card = c.self.invariant.card in
     let h = c.self.invariant.holds in
     let fits = c.requires.fits card (subst (λ (x : CardWords). Holds x card) c.self.view_is h) in
@@ -46,8 +46,8 @@ invariant_of-self c =
     record { called = c.method_for-called.result; owner = c.args.instance.owner; arguments = c.as_slice.result } in
     let called = subst (λ (n : ℕ). IsMethodFor i.program i.machine.store n c.args.instance.object
     c.method_for-called.result) c.member_called.ensures c.method_for-called.ensures in
-    let words = c.as_slice.ensures.value ∙ c.words_of-words.ensures.words in
-    let few = subst (λ (ws : List ℕ). length ws < 256) (sym c.as_slice.ensures.value) c.words_of-words.ensures.few in
+    let words = c.as_slice.ensures.value ∙ c.call_words-words.ensures.words in
+    let few = subst (λ (ws : List ℕ). length ws < 256) (sym c.as_slice.ensures.value) c.call_words-words.ensures.few in
     let after : CardWords = record k { machine = c.call.new.self; kept = c.call.new.natives } in
     let card = c.self.invariant.card in
     let h = c.self.invariant.holds in
@@ -71,8 +71,8 @@ returns c card holds =
     record { called = c.method_for-called.result; owner = c.args.instance.owner; arguments = c.as_slice.result } in
     let called = subst (λ (n : ℕ). IsMethodFor i.program i.machine.store n c.args.instance.object
     c.method_for-called.result) c.member_called.ensures c.method_for-called.ensures in
-    let words = c.as_slice.ensures.value ∙ c.words_of-words.ensures.words in
-    let few = subst (λ (ws : List ℕ). length ws < 256) (sym c.as_slice.ensures.value) c.words_of-words.ensures.few in
+    let words = c.as_slice.ensures.value ∙ c.call_words-words.ensures.words in
+    let few = subst (λ (ws : List ℕ). length ws < 256) (sym c.as_slice.ensures.value) c.call_words-words.ensures.few in
     let after : CardWords = record k { machine = c.call.new.self; kept = c.call.new.natives } in
     let h = subst (λ (x : CardWords). Holds x card) (sym c.self.view_is) holds in
     let fits = c.requires.fits card holds in

@@ -22,9 +22,10 @@ call-requires c =
     let k : CardWords = the_view c.self.inside in
     let first : FirstCall =
     record { called = c.called_at-called.result; owner = a.owner; arguments = c.as_slice.result } in
-    let words = c.as_slice.ensures.value ∙ c.words_of-words.ensures.words in
+    let words = c.as_slice.ensures.value ∙ c.install_words-words.ensures.words in
     let read = words_read a.size c.as_slice.result.now words in
-    let few = subst (λ (ws : List ℕ). length ws < 256) (sym c.as_slice.ensures.value) c.words_of-words.ensures.few in
+    let few = subst (λ (ws : List ℕ). length ws < 256) (sym c.as_slice.ensures.value)
+    c.install_words-words.ensures.few in
     let name : MethodName = Loaded a.place.number a.place.install in
     let values : List TaggedValue = Ref 13 ∷ Word 0 ∷ Word a.size ∷ [] in
     let card = c.self.invariant.card in
@@ -46,9 +47,10 @@ invariant_of-self c =
     let k : CardWords = the_view c.self.inside in
     let first : FirstCall =
     record { called = c.called_at-called.result; owner = a.owner; arguments = c.as_slice.result } in
-    let words = c.as_slice.ensures.value ∙ c.words_of-words.ensures.words in
+    let words = c.as_slice.ensures.value ∙ c.install_words-words.ensures.words in
     let read = words_read a.size c.as_slice.result.now words in
-    let few = subst (λ (ws : List ℕ). length ws < 256) (sym c.as_slice.ensures.value) c.words_of-words.ensures.few in
+    let few = subst (λ (ws : List ℕ). length ws < 256) (sym c.as_slice.ensures.value)
+    c.install_words-words.ensures.few in
     let name : MethodName = Loaded a.place.number a.place.install in
     let values : List TaggedValue = Ref 13 ∷ Word 0 ∷ Word a.size ∷ [] in
     let card = c.self.invariant.card in

@@ -18,9 +18,6 @@ use Rattle.jc_cap.specs.DeclaredType.{next_class, of_class, no_more, next_coded_
 use Rattle.jc_base.specs.Signature.{Signature}
 use Rattle.jc_cap.specs.Descriptor.{with_parameter, signature_in, signature_of, field_type_of}
 
-pub field_is : (s : Signature ClassRef) → length s.parameters ≡ 0 → type_given s.result ≡ field_type_of s
-field_is s e = let t : eqb (length s.parameters) 0 ≡ true = eq-eqb _ _ e in rw t refl
-
 pub no_field : (s : Signature ClassRef) → (length s.parameters ≡ 0 → ⊥) → None ≡ field_type_of s
 no_field s ne = let t : eqb (length s.parameters) 0 ≡ false = ne_eqb _ _ ne in rw t refl
 

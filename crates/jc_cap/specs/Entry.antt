@@ -56,8 +56,7 @@ next_external import bytes = do
 unfoldable pub next_static_ref : List ℕ → Result (Read StaticRef) LoadFault
 next_static_ref bytes = do
   front ← field constant_pool_tag (next_u1 bytes)
-  if nat_lt front.value 0x80 then next_internal front.rest
-      else next_external (front.value - 0x80) front.rest
+  if nat_lt front.value 0x80 then next_internal front.rest else next_external (front.value - 0x80) front.rest
 
 -- what was read, as an entry
 abbrev pub as_entry : {A : Type 0} → (A → PoolEntry) → Result (Read A) LoadFault → Result (Read PoolEntry) LoadFault

@@ -21,8 +21,7 @@ counted offset (first ∷ rows) row zero at is none =
     let here : one (is_row_of offset first) ≡ 1
     = ap (λ (r : ClassRow). one (is_row_of offset r)) (the_some first row at) ∙ ap one is in
     absurd (omega (arith, here, none))
-counted offset (first ∷ rows) row (suc n) at is none =
-    counted offset rows row n at is (omega (arith, none))
+counted offset (first ∷ rows) row (suc n) at is none = counted offset rows row n at is (omega (arith, none))
 
 found : (offset : ℕ) (rows : List ClassRow) (row : ClassRow) (n : ℕ) → slice_get rows n ≡ Some row
     → is_row_of offset row ≡ true → count_rows offset rows ≡ 1 → find (is_row_of offset) rows ≡ Some row

@@ -97,8 +97,7 @@ module _ (methods : Methods) (m : MethodRow) (described : is_described methods m
   -- a row with code and a header has both
   pub coded_there : has_code m ≡ true → stands_inside methods m ≡ true
       → (b : MethodBody) × (body_of_method methods m ≡ Some b)
-  coded_there coded inside =
-      by_parts (method_at m.offset methods) (its_handlers methods m) described inside
+  coded_there coded inside = by_parts (method_at m.offset methods) (its_handlers methods m) described inside
     where
       is_inside : Method → Bool
       is_inside found = nat_le m.bytecode_count (length found.code) && handlers_stay_inside methods m found
@@ -114,8 +113,7 @@ module _ (methods : Methods) (m : MethodRow) (described : is_described methods m
   -- a row with code has a header that isn't abstract
   coded_concrete : (b : MethodBody) → body_of_method methods m ≡ Some b
       → (header : MethodHeader) × (header_at m.offset methods ≡ Some header) × (header.is_abstract ≡ false)
-  coded_concrete b e =
-      by_parts (method_at m.offset methods) (has_code m) (its_handlers methods m) described e
+  coded_concrete b e = by_parts (method_at m.offset methods) (has_code m) (its_handlers methods m) described e
     where
       by_parts : (o : Option Method) (coded : Bool) (p : Option (List Handler))
           → (option_map_or (describes coded) o true && is_some p) ≡ true → body_in m coded o p ≡ Some b

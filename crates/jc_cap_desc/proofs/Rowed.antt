@@ -200,8 +200,7 @@ pub record HasRow (records : List (Placed Record)) (info : DescriptorInfo) (meth
   pub made : given info.types methods row ≡ Some m
 
 -- the method of a row
-pub record GivesMethod (info : DescriptorInfo) (methods : Methods) (shape : Shape)
-    (row : MethodRow) : Type 0 where
+pub record GivesMethod (info : DescriptorInfo) (methods : Methods) (shape : Shape) (row : MethodRow) : Type 0 where
   pub method : MethodShape
   pub of_class : IsOfClass shape method
   pub made : given info.types methods row ≡ Some method

@@ -5,12 +5,9 @@ ghost use Rattle.jc_base.specs.Cursor.{Gives};
 ghost use Rattle.jc_base.specs.Rows.{repeat};
 ghost use Rattle.jc_cap_desc.specs.ClassRow.{next_class_row};
 ghost use Rattle.jc_cap_desc.specs.Component.{layout_of};
-ghost use Rattle.jc_cap_desc.specs.Types.{descriptor_of, classes_are_typed};
 
 use crate::class_row::ClassRows;
 use crate::type_descriptors::TypeDescriptors;
-use crate::type_index::TypeIndex;
-use crate::types::types_are_there;
 use jc_base::tag::DESCRIPTOR;
 use jc_base::{Cursor, LoadFault, Parts, Rows, U2s};
 
@@ -59,21 +56,4 @@ pub fn descriptor_layout<'a>(parts: &Parts<'a>) -> Result<DescriptorInfo<'a>, Lo
     ensures few { IfOk result (λ found. length found.classes ≤ 255) }
 {
     layout_of(parts.descriptor())
-}
-
-/// Reads the Descriptor component (Java Card Virtual Machine Specification, CAP file format: Descriptor component).
-/// Each type that a row or a pool entry names is there, a field's is a field's, and the fields of a class's row are its
-/// own. `Malformed(11)`.
-#[tactic(auto, using(crate::proofs::Typing::classes_typed))]
-pub fn read_descriptor<'a>(parts: &Parts<'a>) -> Result<DescriptorInfo<'a>, LoadFault>
-    ensures read { result ≡ descriptor_of parts.now.descriptor }
-    ensures few { IfOk result (λ found. length found.classes ≤ 255) }
-    ensures typed { IfOk result (λ found. classes_are_typed found.types found.classes ≡ true) }
-{
-    let info = descriptor_layout(parts)?;
-    let index = TypeIndex::of(&info.types);
-    if !types_are_there(&info, &index) {
-        return Err(LoadFault::Malformed(DESCRIPTOR));
-    }
-    Ok(info)
 }

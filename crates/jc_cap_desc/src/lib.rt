@@ -24,7 +24,7 @@ pub use class_row::{
     ClassRow, ClassRows, FieldPlace, FieldRow, FieldRows, MethodRow, MethodRows, StatedType,
 };
 pub use classes::{Class, Classes};
-pub use component::{DescriptorInfo, descriptor_layout, read_descriptor};
+pub use component::{DescriptorInfo, descriptor_layout};
 pub use fields::{Field, Fields};
 pub use laws::read_packages_are_whole;
 pub use methods::{ClassMethod, ClassMethods};

@@ -114,7 +114,8 @@ module _ (world : List Shape) (asker : ℕ) (anchor at : ClassName) (n : ℕ) (c
           by_class None e = absurd (none_some next (sym (nowhere e) ∙ up))
             where
               nowhere : class_at world at ≡ None → superclass_of world at ≡ None
-              nowhere e = ap (λ o. option_and_then (class_named world (home_of at)) (option_and_then (λ k. superclass_ref k.body) o)) e
+              nowhere e =
+                  ap (λ o. option_and_then (class_named world (home_of at)) (option_and_then (λ k. superclass_ref k.body) o)) e
           by_class (Some k) e = (k, e)
 
       pub comes_round : (next : ClassName) → superclass_of world at ≡ Some next → is_same_name next anchor ≡ true

@@ -1,7 +1,6 @@
 -- Look-ups of methods (Java Card Virtual Machine Specification, Linking; invokevirtual, invokeinterface).
 use Rattle.std.specs.Prelude.{◌≡◌, ℕ, ◌+◌, ◌-◌, ◌==◌, ◌<◌, ◌≤◌, Bool, false, ◌||◌, ◌&&◌, List, length, Option, Some}
-use Rattle.std.specs.Prelude.{None}
-use Rattle.std.specs.Prelude.{nat_le, slice_get, nat_lt, is_some, slice_index_or, if◌then◌else◌}
+use Rattle.std.specs.Prelude.{None, nat_le, slice_get, nat_lt, is_some, slice_index_or, if◌then◌else◌}
 use Rattle.std.specs.List.{find, list_any}
 use Rattle.std.specs.Option.{option_and_then, option_map_or}
 use Rattle.jc_cap.specs.ClassComponent.{is_class}

@@ -1,6 +1,5 @@
 -- Private. What is right above a class, ways up, and the numbers of classes.
-use Rattle.std.specs.Prelude.{ℕ, ◌+◌, ◌*◌, ◌==◌, List, [], ◌∷◌, Option}
-use Rattle.std.specs.Prelude.{slice_get}
+use Rattle.std.specs.Prelude.{ℕ, ◌+◌, ◌*◌, ◌==◌, List, [], ◌∷◌, Option, slice_get}
 use Rattle.std.specs.List.{cons_option, position}
 use Rattle.std.specs.Option.{option_map, option_and_then}
 use Rattle.jc_cap_desc.specs.Shape.{ClassShape, Shape}

@@ -9,8 +9,7 @@ use Rattle.jc_cap.specs.declared.record.VirtualTable.{VirtualTable}
 use Rattle.jc_cap_desc.specs.Shape.{Shape}
 use Rattle.jc_classes.specs.Limits.{IsSmall}
 use Rattle.jc_classes.specs.Listed.{AreListedBy, ListNothing, Listed, indexes_in}
-use Rattle.jc_classes.specs.Methods.{record_visit, package_visible, virtual_method_of, interface_visit}
-use Rattle.jc_classes.specs.Methods.{table_visit}
+use Rattle.jc_classes.specs.Methods.{record_visit, package_visible, virtual_method_of, interface_visit, table_visit}
 use Rattle.jc_classes.specs.PrivatePlaces.{place_at}
 use Rattle.jc_classes.specs.PrivateSearch.{class_placed}
 use Rattle.jc_classes.specs.Subtype.{comes_to_end, has_whole_chain}
@@ -154,8 +153,7 @@ rows_so_far tables made home = unwrap_or (slice_get tables home) made
 
 -- the table of a class, if it is made
 abbrev pub table_so_far : List Shape → List (List (Option Tabled)) → List (Option Tabled) → ClassName → Option Tabled
-table_so_far world tables made c =
-    option_and_then (place_at (rows_so_far tables made (home_of c))) (index_at world c)
+table_so_far world tables made c = option_and_then (place_at (rows_so_far tables made (home_of c))) (index_at world c)
 
 -- the last package's tables are being made: each is right, those of the other packages are all there, and there is room
 pub record AreInMaking (world : List Shape) (tables : List (List (Option Tabled)))

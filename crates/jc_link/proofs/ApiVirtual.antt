@@ -20,12 +20,10 @@ use Rattle.jc_api.specs.declared.member.MemberKind.{MemberKind}
 use Rattle.jc_cap.specs.declared.record.ClassRecord.{ClassRecord}
 use Rattle.jc_cap.specs.declared.record.RecordBody.TheVariants.{Class, Interface}
 use Rattle.jc_cap_desc.specs.Shape.{ClassShape, Shape}
-use Rattle.jc_classes.specs.Api.{api_world, class_in_api, each_below, last_member, method_in}
-use Rattle.jc_classes.specs.Api.{public_table, record_in}
+use Rattle.jc_classes.specs.Api.{api_world, class_in_api, each_below, last_member, method_in, public_table, record_in}
 use Rattle.jc_classes.specs.Growth.{IsMethodWithin, KeepsAllLookups}
 use Rattle.jc_classes.specs.Members.{DeclaredMethod, declared_in, method_at}
-use Rattle.jc_classes.specs.Methods.{declared_above, method_name}
-use Rattle.jc_classes.specs.Methods.{package_visible, virtual_method_of, virtual_visit}
+use Rattle.jc_classes.specs.Methods.{declared_above, method_name, package_visible, virtual_method_of, virtual_visit}
 use Rattle.jc_classes.specs.Record.{public_entries}
 use Rattle.jc_classes.specs.Walk.{found_from, most_classes, walk}
 use Rattle.jc_classes.specs.World.{class_at, superclass_of}

@@ -15,8 +15,7 @@ use Rattle.jc_classes.specs.World.{class_at, class_named, superclass_of}
 use Rattle.jc_names.specs.Names.{home_of, is_same_name}
 use Rattle.jc_names.specs.declared.name.ClassName.{ClassName}
 use Rattle.jc_names.specs.declared.name.MethodName.{MethodName}
-use Rattle.jc_link.specs.Inherited.{ListedRow, breaks_interface, breaks_row, is_same_method}
-use Rattle.jc_link.specs.Inherited.{rows_along, rows_of}
+use Rattle.jc_link.specs.Inherited.{ListedRow, breaks_interface, breaks_row, is_same_method, rows_along, rows_of}
 use Rattle.jc_link.specs.MemberType.{have_same_type, member_type_of, method_type_of}
 use Rattle.jc_link.specs.Named.{is_concrete}
 use Rattle.jc_link.specs.PrivateRows.{is_finished_as, FindSame}

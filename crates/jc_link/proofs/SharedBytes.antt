@@ -50,8 +50,7 @@ count_le : {A : Type 0} (p q : A → Bool) (fields : List A) → ((f : A) → co
     → count_by p fields ≤ count_by q fields
 count_le p q fields h = sum_by-le-sum_by (λ x. cond (p x) 1 0) (λ x. cond (q x) 1 0) fields h
 
-more_of : (a b c d : ℕ) → a + d ≡ b + c → b ≤ a → c ≤ a → 0 < d
-    → nat_lt 1 a ≡ (nat_lt 1 b || nat_lt 1 c)
+more_of : (a b c d : ℕ) → a + d ≡ b + c → b ≤ a → c ≤ a → 0 < d → nat_lt 1 a ≡ (nat_lt 1 b || nat_lt 1 c)
 more_of a b c d e l r h = grind (arith, nat_tests)
 
 -- where one passes both, either test is passed twice exactly if one of them is

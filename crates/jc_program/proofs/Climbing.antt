@@ -1,8 +1,7 @@
 -- What a class is below, from what stands right above it.
-use Rattle.std.proofs.Common.{◌≡◌, ◌⊎◌, inl, inr, ℕ, zero, suc, ◌+◌, ◌-◌, ◌<◌, ◌≤◌, ◌==◌, ◌&&◌, ◌||◌, Bool}
-use Rattle.std.proofs.Common.{true, false, cond, nat_lt}
-use Rattle.std.proofs.Common.{List, [], ◌∷◌, ◌++◌, length, map, drop, Option, Some, None, slice_get, unwrap_or}
-use Rattle.std.proofs.Common.{refl, sym, ap, subst, ◌∙◌, arith, length-append}
+use Rattle.std.proofs.Common.{◌≡◌, ◌⊎◌, inl, inr, ℕ, zero, suc, ◌+◌, ◌-◌, ◌<◌, ◌≤◌, ◌==◌, ◌&&◌, ◌||◌, Bool, true, false}
+use Rattle.std.proofs.Common.{cond, nat_lt, List, [], ◌∷◌, ◌++◌, length, map, drop, Option, Some, None, slice_get}
+use Rattle.std.proofs.Common.{unwrap_or, refl, sym, ap, subst, ◌∙◌, arith, length-append}
 use Rattle.std.proofs.lemmas.Bool.{cases_lt, eq-eqb, eqb-true, lt-ltb, ltb-true, ne_eqb}
 use Rattle.std.proofs.lemmas.Iterator.Adapters.{position_from-zero}
 use Rattle.std.proofs.lemmas.List.{append-nil, append_assoc, length-map, map-append}
@@ -65,8 +64,7 @@ number_of : (names classes : List ClassName) (numbers : List ℕ) (c : ClassName
     → IsAmong c classes → (n : ℕ) × (class_number names c ≡ Some n) × (has_number n numbers ≡ true)
 number_of names [] numbers c are among = absurd among
 number_of names (d ∷ classes) [] c are among = absurd cc
-number_of names (d ∷ classes) (k ∷ numbers) c are among =
-    by_place among (number_of names classes numbers c rest)
+number_of names (d ∷ classes) (k ∷ numbers) c are among = by_place among (number_of names classes numbers c rest)
   where
     first : Some k ≡ class_number names d
     first = cc
@@ -410,8 +408,7 @@ module _ (world : List Shape) (names : List ClassName)
     where
       by_order : (n < first) ⊎ (first ≤ n) → is_listed (made ++ rows) n m ≡ true
       by_order (inl before) = made_listed n m e e before here there (same e)
-      by_order (inr behind) =
-          from_above n m e e behind here (inl refl) (λ a number. first_of_name a m e number there)
+      by_order (inr behind) = from_above n m e e behind here (inl refl) (λ a number. first_of_name a m e number there)
   complete c d (object e) n m here there = by_order (cases_lt n first)
     where
       by_order : (n < first) ⊎ (first ≤ n) → is_listed (made ++ rows) n m ≡ true
@@ -420,8 +417,7 @@ module _ (world : List Shape) (names : List ClassName)
           let w = within n e behind here in
           from_begun n w.0 m w.1 (begins.object w.0 m (Api Object) (let l = w.2 in omega (arith, l, as_many)) there
           (name_itself (Api Object)))
-  complete c d (by_superclass b s e is below) n m here there =
-      by_order (complete s e below) (cases_lt n first)
+  complete c d (by_superclass b s e is below) n m here there = by_order (complete s e below) (cases_lt n first)
     where
       by_order : ((a k : ℕ) → slice_get names a ≡ Some s → slice_get names k ≡ Some e
           → is_listed (made ++ rows) a k ≡ true) → (n < first) ⊎ (first ≤ n) → is_listed (made ++ rows) n m ≡ true
@@ -429,8 +425,7 @@ module _ (world : List Shape) (names : List ClassName)
       by_order rest (inr behind) =
           from_above n m b s behind here (inr (among_first s (superclass_of world b) (interfaces_of world b) is))
           (λ a number. rest a m (named names s a number) there)
-  complete c d (by_interface b i e lists_it below) n m here there =
-      by_order (complete i e below) (cases_lt n first)
+  complete c d (by_interface b i e lists_it below) n m here there = by_order (complete i e below) (cases_lt n first)
     where
       by_order : ((a k : ℕ) → slice_get names a ≡ Some i → slice_get names k ≡ Some e
           → is_listed (made ++ rows) a k ≡ true) → (n < first) ⊎ (first ≤ n) → is_listed (made ++ rows) n m ≡ true

@@ -43,8 +43,7 @@ get_right (y ∷ xs) ys n x at = let r = get_right xs ys n x at in (suc r.0, r.1
 kept : {A B : Type 0} (h : A → Option B) (xs : List A) (k : ℕ) (x : A) (y : B) → slice_get xs k ≡ Some x
     → h x ≡ Some y → (n : ℕ) × (slice_get (filter_map h xs) n ≡ Some y)
 kept h [] k x y at e = absurd cc
-kept {A} {B} h (z ∷ xs) zero x y at e =
-    (zero, ap (λ o. slice_get (cons_option o (filter_map h xs)) 0) (here ∙ e))
+kept {A} {B} h (z ∷ xs) zero x y at e = (zero, ap (λ o. slice_get (cons_option o (filter_map h xs)) 0) (here ∙ e))
   where
     here : h z ≡ h x
     here = let P : Option A → Option B = λ o. option_and_then h o in ap P at
@@ -226,8 +225,7 @@ origin (s ∷ shapes) first n c at =
 some_found : {A : Type 0} (p : A → Bool) (xs : List A) (k : ℕ) (x : A) → slice_get xs k ≡ Some x → p x ≡ true
     → is_some (find p xs) ≡ true
 some_found p [] k x at t = absurd cc
-some_found p (y ∷ xs) zero x at t =
-    ap (λ b. is_some (cond b (Some y) (find p xs))) (ap p (same_Some y x at) ∙ t)
+some_found p (y ∷ xs) zero x at t = ap (λ b. is_some (cond b (Some y) (find p xs))) (ap p (same_Some y x at) ∙ t)
 some_found p (y ∷ xs) (suc k) x at t = by_first (p y) (some_found p xs k x at t)
   where
     by_first : (b : Bool) → is_some (find p xs) ≡ true → is_some (cond b (Some y) (find p xs)) ≡ true
@@ -279,8 +277,7 @@ position_kept p xs ys n e = grind (arith, position_from-zero, place_kept)
 
 names_grown : (shapes : List Shape) (first home : ℕ) (more : Shape) → home ≡ first + length shapes
     → names_from first (shapes ++ more ∷ []) ≡ names_from first shapes ++ names_in home more
-names_grown [] first home more is =
-    append-nil (names_in first more) ∙ ap (λ h. names_in h more) (omega (arith, is))
+names_grown [] first home more is = append-nil (names_in first more) ∙ ap (λ h. names_in h more) (omega (arith, is))
 names_grown (s ∷ shapes) first home more is =
     ap (λ ns. names_in first s ++ ns) (names_grown shapes (suc first) home more (omega (arith, is)))
     ∙ sym (append_assoc (names_in first s) (names_from (suc first) shapes) (names_in home more))
@@ -301,8 +298,7 @@ get_front [] ys n less = absurd (omega (arith, less))
 get_front (x ∷ xs) ys zero less = refl
 get_front (x ∷ xs) ys (suc n) less = get_front xs ys n (omega (arith, less))
 
-get_rest : {A : Type 0} (xs ys : List A) (n : ℕ) → length xs ≤ n
-    → (k : ℕ) × (slice_get (xs ++ ys) n ≡ slice_get ys k)
+get_rest : {A : Type 0} (xs ys : List A) (n : ℕ) → length xs ≤ n → (k : ℕ) × (slice_get (xs ++ ys) n ≡ slice_get ys k)
 get_rest [] ys n past = (n, refl)
 get_rest (x ∷ xs) ys zero past = absurd (omega (arith, past))
 get_rest (x ∷ xs) ys (suc n) past = get_rest xs ys n (omega (arith, past))

@@ -1,7 +1,5 @@
 -- Pcs that count in the code.
-use Rattle.std.proofs.Common.{◌≡◌, ◌⊎◌, ℕ, ◌<◌, ◌≤◌, true, false, List, nat_le}
-use Rattle.std.proofs.Common.{nat_lt}
-use Rattle.std.proofs.Common.{leb, arith}
+use Rattle.std.proofs.Common.{◌≡◌, ◌⊎◌, ℕ, ◌<◌, ◌≤◌, true, false, List, nat_le, nat_lt, leb, arith}
 use Rattle.std.proofs.lemmas.Bool.Decides.{leb_tells}
 use Rattle.jc_cap_desc.specs.Shape.{Shape}
 use Rattle.jc_cap.specs.declared.handler.Handler.{Handler}

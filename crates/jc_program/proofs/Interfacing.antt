@@ -1,7 +1,6 @@
 -- Tables of the interfaces that classes list.
-use Rattle.std.proofs.Common.{◌≡◌, ℕ, zero, suc, ◌+◌, ◌<◌, ◌≤◌, ◌==◌, Bool, false, cond, List, [], ◌∷◌, ◌++◌}
-use Rattle.std.proofs.Common.{length, drop, Option, Some, None, is_some, slice_get, unwrap_or, refl, sym}
-use Rattle.std.proofs.Common.{ap, ◌∙◌, arith}
+use Rattle.std.proofs.Common.{◌≡◌, ℕ, zero, suc, ◌+◌, ◌<◌, ◌≤◌, ◌==◌, Bool, false, cond, List, [], ◌∷◌, ◌++◌, length}
+use Rattle.std.proofs.Common.{drop, Option, Some, None, is_some, slice_get, unwrap_or, refl, sym, ap, ◌∙◌, arith}
 use Rattle.std.proofs.lemmas.Bool.{eqb-true, ne_eqb}
 use Rattle.std.proofs.lemmas.Option.{slice_get-map, slice_get_past, slice_get_within}
 use Rattle.std.specs.List.{cons_option, filter_map, find}
@@ -17,8 +16,7 @@ use Rattle.jc_names.specs.declared.name.ClassName.{ClassName}
 use Rattle.jc_program.specs.Called.{AreInterfaceCalls, KeyedTable, called_in, called_of, keyed_at}
 use Rattle.jc_program.specs.Classes.{class_number}
 use Rattle.jc_program.specs.Methods.{LoadedMethod}
-use Rattle.jc_program.specs.PrivateCalled.{AreListed, HasInterfaces, HasListed, index_called, table_for}
-use Rattle.jc_program.specs.PrivateCalled.{table_with}
+use Rattle.jc_program.specs.PrivateCalled.{AreListed, HasInterfaces, HasListed, index_called, table_for, table_with}
 use Rattle.jc_program.specs.declared.called.Called.TheVariants.{Nothing}
 use Rattle.jc_program.specs.declared.interfaces.InterfaceCall.TheVariants.{NotListed, Listed}
 use Rattle.jc_program.proofs.Chaining.{not_listed, not_there}

@@ -81,8 +81,7 @@ set_fewer [] [] at row less fewer = absurd (omega (arith, less))
 set_fewer [] (r ∷ rows) zero row less fewer = omega (arith, fewer)
 set_fewer [] (r ∷ rows) (suc at) row less fewer =
     let rest = set_fewer [] rows at row (omega (arith, less)) fewer in omega (arith, rest)
-set_fewer (m ∷ made) rows at row less fewer =
-    let rest = set_fewer made rows at row less fewer in omega (arith, rest)
+set_fewer (m ∷ made) rows at row less fewer = let rest = set_fewer made rows at row less fewer in omega (arith, rest)
 
 set_most : (made rows : List (List ℕ)) (at : ℕ) (row : List ℕ) → at < length rows
     → unset row most_bits ≤ unset (get_or rows at []) most_bits
@@ -91,8 +90,7 @@ set_most [] [] at row less most = absurd (omega (arith, less))
 set_most [] (r ∷ rows) zero row less most = omega (arith, most)
 set_most [] (r ∷ rows) (suc at) row less most =
     let rest = set_most [] rows at row (omega (arith, less)) most in omega (arith, rest)
-set_most (m ∷ made) rows at row less most =
-    let rest = set_most made rows at row less most in omega (arith, rest)
+set_most (m ∷ made) rows at row less most = let rest = set_most made rows at row less most in omega (arith, rest)
 
 -- ---- what is listed
 
@@ -215,8 +213,7 @@ module _ (made rows : List (List ℕ)) (at : ℕ) (numbers row : List ℕ) (chan
     most = set_most made rows at row less (unset_most (get_or rows at []) row
         (λ n e. united.bits n ∙ ap (λ b. b || is_any_listed hole numbers n) e) most_bits);
     fewer = λ e. set_fewer made rows at row less (united.fewer e);
-    closed = λ none n above m is e.
-        ap (λ k. is_listed new k m) is.0 ∙ has_above above m is.1 e;
+    closed = λ none n above m is e. ap (λ k. is_listed new k m) is.0 ∙ has_above above m is.1 e;
     sound = fits_new;
   }
 

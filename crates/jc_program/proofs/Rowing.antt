@@ -1,8 +1,7 @@
 -- Rows of bits.
-use Rattle.std.proofs.Common.{◌≡◌, ◌≢◌, ◌⊎◌, inl, inr, ℕ, zero, suc, ◌+◌, ◌*◌, ◌/◌, ◌%◌, ◌^◌, ◌<◌, ◌≤◌, ◌==◌}
-use Rattle.std.proofs.Common.{◌&&◌, ◌||◌, Bool, true, false, not, cond, max, nat_lt, List, [], ◌∷◌, ◌++◌}
-use Rattle.std.proofs.Common.{length, get_or, set, take, bit_or}
-use Rattle.std.proofs.Common.{refl, sym, ap, ◌∙◌, arith}
+use Rattle.std.proofs.Common.{◌≡◌, ◌≢◌, ◌⊎◌, inl, inr, ℕ, zero, suc, ◌+◌, ◌*◌, ◌/◌, ◌%◌, ◌^◌, ◌<◌, ◌≤◌, ◌==◌, ◌&&◌}
+use Rattle.std.proofs.Common.{◌||◌, Bool, true, false, not, cond, max, nat_lt, List, [], ◌∷◌, ◌++◌, length, get_or, set}
+use Rattle.std.proofs.Common.{take, bit_or, refl, sym, ap, ◌∙◌, arith}
 use Rattle.std.specs.Int.{bit_at, w64}
 use Rattle.std.proofs.lemmas.Bool.{cases_eq, eq-eqb, eqb-true, le-ltb, ne_eqb}
 use Rattle.std.proofs.lemmas.List.{get_or-set_same, get_or-set_other}
@@ -46,8 +45,7 @@ module _ (old new : List ℕ) (kept : (n : ℕ) → has_bit old n ≡ true → h
   unset_less k zero before now less = absurd (omega (arith, less))
   unset_less k (suc n) before now less = by_number (unset_less k n before now) (cases_eq k n)
     where
-      by_number : (k < n → unset new n < unset old n) → (k ≡ n) ⊎ (k ≡ n → ⊥)
-          → unset new (suc n) < unset old (suc n)
+      by_number : (k < n → unset new n < unset old n) → (k ≡ n) ⊎ (k ≡ n → ⊥) → unset new (suc n) < unset old (suc n)
       by_number h1 h2 = grind (arith, unset_most, least)
 
 -- ---- what was put in, put together
@@ -61,8 +59,7 @@ module _ (a b c : List ℕ) (p q : ℕ → Bool) (s t : Bool) (one : AreUnited p
 
   fewer_both : (s t : Bool) → AreUnited p a b s → AreUnited q b c t → (s || t) ≡ true
       → unset c most_bits < unset a most_bits
-  fewer_both true t f g e =
-      let x = f.fewer refl in let y = unset_most b c then_kept most_bits in omega (arith, x, y)
+  fewer_both true t f g e = let x = f.fewer refl in let y = unset_most b c then_kept most_bits in omega (arith, x, y)
   fewer_both false true f g e =
       let x = unset_most a b first_kept most_bits in let y = g.fewer refl in omega (arith, x, y)
   fewer_both false false f g e = no_such (sym e)
@@ -183,8 +180,7 @@ module _ (words : List ℕ) (at more : ℕ) (within : at < length words) where
       → AreUnited (bits_of at more) words new (not (bit_or word more == word))
   united_word low small large = record {
     bits = bits;
-    fewer = λ e. fewer low small large (λ same. no_such
-        (sym e ∙ ap not (eq-eqb (bit_or word more) word same)));
+    fewer = λ e. fewer low small large (λ same. no_such (sym e ∙ ap not (eq-eqb (bit_or word more) word same)));
     same = λ e n. ap (λ w. bit_at (get_or (set words at w) (n / 64) 0) (n % 64) == 1)
         (eqb-true (bit_or word more) word (was (bit_or word more == word) e))
         ∙ ap (λ w. bit_at w (n % 64) == 1) (set_itself words at within (n / 64));

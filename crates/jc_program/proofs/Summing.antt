@@ -1,8 +1,6 @@
 -- Cells of objects, superclass by superclass, and the rows of classes.
-use Rattle.std.proofs.Common.{◌≡◌, ◌⊎◌, ℕ, ◌+◌, ◌<◌, ◌≤◌}
-use Rattle.std.proofs.Common.{List, [], ◌∷◌, ◌++◌, length}
-use Rattle.std.proofs.Common.{Some, None, slice_get, get_or, unwrap_or, sym, ap, ◌∙◌, arith}
-use Rattle.std.proofs.Common.{length-append}
+use Rattle.std.proofs.Common.{◌≡◌, ◌⊎◌, ℕ, ◌+◌, ◌<◌, ◌≤◌, List, [], ◌∷◌, ◌++◌, length, Some, None, slice_get, get_or}
+use Rattle.std.proofs.Common.{unwrap_or, sym, ap, ◌∙◌, arith, length-append}
 use Rattle.std.proofs.lemmas.Bool.{cases_lt}
 use Rattle.std.proofs.lemmas.Option.{same_Some, slice_get_within, unwrap_or-slice_get}
 use Rattle.jc_cap_desc.specs.Shape.{Shape}

@@ -22,6 +22,5 @@ loop-at-preserved c =
           (table_more c.args.table.now c.args.methods.now names made more at _
           (slice_get-get_or names at _ (omega (arith, c.loop-at-test.true))) c.loop-at.invariant.listed
           (subst (has _) (sym c.deref.ensures.value) c.in_ok-table_made.ensures));
-      begins = rw (c.in_ok-put.ensures.done)
-          (begins_more c.args.made.now made _ c.loop-at.invariant.begins);
+      begins = rw (c.in_ok-put.ensures.done) (begins_more c.args.made.now made _ c.loop-at.invariant.begins);
     }

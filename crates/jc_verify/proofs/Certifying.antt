@@ -38,11 +38,7 @@ row_of (x ∷ ms) (suc n) r e = row_of ms n r e
 module _ (l : Linked) (of : List Row) (put : List MethodRow) (gathered : AreGathered l (length l.body.kept.methods) of) (order : IsPermutation of (rows put))
     (ascend : IsNonDecreasingBy (λ (m : MethodRow). m.offset) put) (fit : HasFitMethods l) (few : length l.body.kept.methods < 2 ^ 16) where
   distinct : IsDistinct (λ (r s : Row). r.offset == s.offset) of
-  distinct =
-      IsDistinct-from_apart (λ (r s : Row). r.offset == s.offset) of (λ i j d lt within.
-      ne_eqb _ _ (λ same.
-      let e = gathered.distinct i j (get_or of i d) (get_or of j d) (slice_get-get_or of i d (omega (arith, lt, within))) (slice_get-get_or of j d within) same in
-      absurd (omega (arith, e, lt))))
+  distinct = grind (arith, IsDistinct-from_apart, ne_eqb, get_or, slice_get-get_or)
 
   put_distinct : IsDistinct (λ (r s : Row). r.offset == s.offset) (rows put)
   put_distinct = IsDistinct-IsPermutation (λ (r s : Row). r.offset == s.offset) (λ r s. flips r.offset s.offset) of (rows put) order distinct

@@ -2,19 +2,17 @@
 use Rattle.std.proofs.Common.{◌≡◌, ◌≢◌, ℕ, ◌+◌, List, [], ◌∷◌, drop, Some, Ok, Err, refl, ap, ◌∙◌, slice_get, arith}
 use Rattle.jc_base.specs.Results.{◌>>=◌}
 use Rattle.jc_base.specs.declared.reason.Reason.{Reason}
-use Rattle.jc_code.specs.Instructions.{instr_at}
-use Rattle.jc_code.specs.Listing.{PlacedInstr, StopsAt}
-use Rattle.jc_code.specs.declared.fault.CodeFault.{CodeFault}
+use Rattle.jc_code.specs.Listing.{PlacedInstr}
 use Rattle.jc_link.specs.Linked.{Linked}
 use Rattle.jc_check.specs.Carried.{HandlerStands}
-use Rattle.jc_check.specs.FirstFault.{fault_at as fault_of, handler_stands, handlers_stand, reason_of, told_at}
+use Rattle.jc_check.specs.FirstFault.{fault_at as fault_of, handler_stands, handlers_stand, told_at}
 use Rattle.jc_check.specs.Method.{Handler, Method}
 use Rattle.jc_check.specs.Package.{package_rules}
 use Rattle.jc_check.specs.Rules.{Rules}
 use Rattle.jc_check.specs.declared.fault.Fault.{Fault}
 use Rattle.jc_check.specs.declared.fault.WordFault.{WordFault}
 use Rattle.jc_check.specs.declared.fault.WordFault.TheVariants as faults
-use Rattle.jc_verify.specs.PrivateLive.{IfRefusal, IsAstray, IsDecoded, IsGround, leads}
+use Rattle.jc_verify.specs.PrivateLive.{IfRefusal, IsAstray, IsDecoded, IsGround, IsUndecoded, leads}
 use Rattle.jc_verify.specs.PrivateTold.{Tells}
 use Rattle.jc_check.specs.Typing.{Typing}
 use Rattle.jc_verify.specs.PrivateFlow.{Places}
@@ -23,8 +21,10 @@ use Rattle.jc_verify.specs.declared.flow.Flow.{Flow}
 use Rattle.jc_verify.specs.Told.{IsToldOf, astray, handler, undecoded}
 use Rattle.jc_verify.proofs.Lists.{drop_get}
 
-pub tells_undecoded : (l : Linked) (m : Method) (pc : ℕ) (reason : Reason) (why : CodeFault) → StopsAt instr_at m.code pc why → reason ≡ reason_of why → IsToldOf (package_rules l) m (fault_of pc reason)
-tells_undecoded l m pc reason why stop is = rw is (undecoded pc why stop)
+pub tells_undecoded : (l : Linked) (m : Method) (fault : WordFault) → IfRefusal fault (IsUndecoded m.code)
+    → Tells (package_rules l) m fault
+tells_undecoded l m (faults.Refused pc reason) off = rw off.2 (undecoded pc off.0 off.1)
+tells_undecoded l m faults.Memory off = tt
 
 module _ (l : Linked) (m : Method) (listing : List PlacedInstr) (starts : List ℕ) where
   pub tells_handler : IsDecoded m.code listing starts → m.code ≢ [] → (pc : ℕ) (reason : Reason) → handlers_stand listing m.handlers ≡ Err (fault_of pc reason) → IsToldOf (package_rules l) m (fault_of pc reason)

@@ -1,5 +1,6 @@
 -- Methods that stand at different offsets within a component are fewer than two bytes count.
-use Rattle.std.proofs.Common.{◌≡◌, ◌⊎◌, inl, inr, ℕ, suc, zero, ◌<◌, ◌^◌, ◌==◌, ◌||◌, Bool, true, false, List, [], ◌∷◌, length, map, Some, get_or, slice_get, refl, sym, ◌∙◌, arith}
+use Rattle.std.proofs.Common.{◌≡◌, ◌⊎◌, inl, inr, ℕ, suc, zero, ◌<◌, ◌^◌, ◌==◌, ◌||◌, Bool, true, false, List, []}
+use Rattle.std.proofs.Common.{◌∷◌, length, map, Some, get_or, slice_get, refl, arith}
 use Rattle.std.specs.List.{IsDistinct, list_any}
 use Rattle.std.proofs.lemmas.Bool.{cases_eq, ne_eqb}
 use Rattle.std.proofs.lemmas.List.{length-map}
@@ -18,13 +19,7 @@ at_place (b ∷ methods) zero q e = (b, refl, same_Some b.offset q e)
 at_place (b ∷ methods) (suc n) q e = at_place methods n q e
 
 distinct : (methods : List MethodBody) → StandApart methods → IsDistinct (λ (a b : ℕ). a == b) (offsets methods)
-distinct methods apart =
-    IsDistinct-from_apart (λ (a b : ℕ). a == b) (offsets methods) (λ i j d lt within.
-    ne_eqb _ _ (λ same.
-    let x = at_place methods i (get_or (offsets methods) i d) (slice_get-get_or (offsets methods) i d (omega (arith, lt, within))) in
-    let y = at_place methods j (get_or (offsets methods) j d) (slice_get-get_or (offsets methods) j d within) in
-    let e = apart.differ i j x.0 y.0 x.1 y.1 (x.2 ∙ same ∙ sym y.2) in
-    absurd (omega (arith, e, lt))))
+distinct methods apart = grind (arith, IsDistinct-from_apart, ne_eqb, at_place, get_or, slice_get-get_or)
 
 below : (methods : List MethodBody) → ((n : ℕ) (b : MethodBody) → slice_get methods n ≡ Some b → suc b.offset < 2 ^ 16)
     → (q : ℕ) → list_any (λ x. q == x) (offsets methods) ≡ true → q < 65535

@@ -15,6 +15,7 @@ mod Ordering
 mod Rows
 mod Telling
 mod Numbers
+mod PcSets
 mod Starting
 mod Fewer
 mod Following

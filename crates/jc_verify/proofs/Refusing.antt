@@ -3,9 +3,8 @@ use Rattle.std.proofs.Common.{◌≡◌, ℕ, pos, ◌<◌, ◌^◌, Bool, true,
 use Rattle.jc_base.specs.declared.reason.Reason.{Reason}
 use Rattle.jc_cert.specs.Cert.{Stated}
 use Rattle.jc_code.specs.Instructions.{instr_at}
-use Rattle.jc_code.specs.Listing.{IsListing, ListingLaws, PlacedInstr, StopsAt, begins, placed_at}
+use Rattle.jc_code.specs.Listing.{IsListing, ListingLaws, PlacedInstr, begins, placed_at}
 use Rattle.jc_code.specs.Targets.{falls_of, targets_of}
-use Rattle.jc_code.specs.declared.fault.CodeFault.{CodeFault}
 use Rattle.jc_types.specs.State.{Types}
 use Rattle.jc_check.specs.Carried.{Arrives, Carries, GoesOn, GoesOnIf, IsCarriedAt, IsHandled, state_at}
 use Rattle.jc_check.specs.Method.{Method, entry_of}
@@ -13,7 +12,7 @@ use Rattle.jc_check.specs.Rules.{Rules}
 use Rattle.jc_check.specs.declared.fault.WordFault.{WordFault}
 use Rattle.jc_check.specs.declared.fault.WordFault.TheVariants.{Refused}
 use Rattle.jc_verify.specs.Live.{IsLive, first, behind, by_branch, by_handler}
-use Rattle.jc_verify.specs.PrivateLive.{IfRefusal, IsAstray, IsDecoded, IsGround, leads}
+use Rattle.jc_verify.specs.PrivateLive.{IfRefusal, IsAstray, IsDecoded, IsGround, IsUndecoded, leads}
 use Rattle.jc_verify.specs.Told.{LeadsAstray, falls_off, no_target}
 use Rattle.jc_verify.proofs.Passing.{all_contained}
 
@@ -74,8 +73,11 @@ module _ (rules : Rules) (m : Method) (states : List Stated) (k : Carries rules 
     whole : IsListing instr_at m.code k.listing
     whole = subst (λ d. IsListing d m.code k.listing) decodes k.whole
 
-    pub never_stopped : (pc : ℕ) (why : CodeFault) → StopsAt instr_at m.code pc why → ⊥
-    never_stopped pc why stop = laws.never_both m.code k.listing pc why whole stop
+    pub never_stopped : (fault : WordFault) → IfRefusal fault (IsUndecoded m.code) → (pc : ℕ) (reason : Reason)
+        → fault ≡ Refused pc reason → ⊥
+    never_stopped fault off pc reason is =
+        let stop = by_refusal fault (IsUndecoded m.code) off pc reason is in
+        laws.never_both m.code k.listing pc stop.0 whole stop.1
 
     -- its listing is the one that was decoded
     decoded : (listing : List PlacedInstr) (starts : List ℕ) → IsDecoded m.code listing starts → IsDecoded m.code k.listing starts

@@ -5,9 +5,11 @@ use Rattle.std.specs.List.{AllByRecursion}
 use Rattle.jc_base.specs.NumberSet.{has_number}
 use Rattle.jc_base.specs.declared.reason.Reason.{Reason}
 use Rattle.jc_code.specs.Instructions.{instr_at}
-use Rattle.jc_code.specs.Listing.{IsListing, ListingLaws, PlacedInstr, begins, placed_at}
+use Rattle.jc_code.specs.Listing.{IsListing, ListingLaws, PlacedInstr, StopsAt, begins, placed_at}
 use Rattle.jc_code.specs.Targets.{targets_of, falls_of}
+use Rattle.jc_code.specs.declared.fault.CodeFault.{CodeFault}
 use Rattle.jc_check.specs.Carried.{HandlerStands}
+use Rattle.jc_check.specs.FirstFault.{reason_of}
 use Rattle.jc_check.specs.Method.{Handler, Method, covers}
 use Rattle.jc_check.specs.declared.fault.WordFault.{WordFault}
 use Rattle.jc_check.specs.declared.fault.WordFault.TheVariants.{Refused, Memory}
@@ -113,8 +115,7 @@ abbrev pub AreBranchesIn : (ℤ → Type 0) → Followed → Type 0
 AreBranchesIn among f = (place : ℤ) → among place → IsBranchIn f place
 
 abbrev pub AreEnteredBy : (ℤ → Type 0) → List ℕ → Method → List PlacedInstr → Type 0
-AreEnteredBy among starts m listing =
-    IsGround m listing starts × ((pc : ℕ) → among (pos pc) → IsEntered m listing pc)
+AreEnteredBy among starts m listing = IsGround m listing starts × ((pc : ℕ) → among (pos pc) → IsEntered m listing pc)
 
 -- these are the pcs that control flow enters, and instructions begin there
 pub record AreEntries (m : Method) (listing : List PlacedInstr) (entries : List ℕ) : Type 0 where
@@ -135,6 +136,10 @@ pub data IsAstray (m : Method) (listing : List PlacedInstr) : ℕ → Reason →
 abbrev pub IfRefusal : WordFault → (ℕ → Reason → Type 0) → Type 0
 IfRefusal (Refused pc reason) holds = holds pc reason
 IfRefusal Memory holds = ⊤
+
+-- at a pc no instruction of the code can be decoded, for this reason
+abbrev pub IsUndecoded : List ℕ → ℕ → Reason → Type 0
+IsUndecoded code pc reason = (why : CodeFault) × StopsAt instr_at code pc why × (reason ≡ reason_of why)
 
 -- this is told at a pc, and something holds
 abbrev pub ToldAt : ℕ → Reason → Type 0 → ℕ → Reason → Type 0

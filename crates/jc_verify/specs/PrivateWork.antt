@@ -1,7 +1,6 @@
 -- Private. What is known while control flow is followed through a method, and what that comes to: places have taken in
 -- what flows there, or control flow isn't followed further.
-use Rattle.std.specs.Prelude.{◌≡◌, ⊤, ℕ, ℤ, pos, ◌<◌, ◌^◌, Bool, true, List, length, drop, Some}
-use Rattle.std.specs.Prelude.{None, Ok, slice_get}
+use Rattle.std.specs.Prelude.{◌≡◌, ⊤, ℕ, ℤ, pos, ◌<◌, ◌^◌, Bool, true, List, length, drop, Some, None, Ok, slice_get}
 use Rattle.std.specs.List.{AllByRecursion}
 use Rattle.jc_base.specs.declared.reason.Reason.{Reason}
 use Rattle.jc_names.specs.declared.name.ClassName.{ClassName}

@@ -8,57 +8,53 @@ ghost use Rattle.jc_base.specs.declared.reason.Reason.{Reason};
 ghost use Rattle.jc_base.specs.declared.reason.Reason.TheVariants.{FallsOff, NoTarget};
 ghost use Rattle.jc_cert.specs.Cert.{Stated};
 ghost use Rattle.jc_code.specs.Instructions.{instr_at};
-ghost use Rattle.jc_code.specs.Listing.{PlacedInstr, StopsAt, begins, placed_at};
+ghost use Rattle.jc_code.specs.Listing.{PlacedInstr, begins, placed_at};
 ghost use Rattle.jc_code.specs.Targets.{falls_of, targets_of};
-ghost use Rattle.jc_code.specs.declared.fault.CodeFault.{CodeFault};
 ghost use Rattle.jc_check.specs.Rules.{Rules};
 ghost use Rattle.jc_check.specs.Carried.{Carries, HandlerStands};
-ghost use Rattle.jc_check.specs.FirstFault.{handler_stands, handlers_stand, reason_of, told_at};
+ghost use Rattle.jc_check.specs.FirstFault.{handler_stands, handlers_stand, told_at};
 ghost use Rattle.jc_check.specs.Method.{covers};
 ghost use Rattle.jc_check.specs.Method as methods;
 ghost use Rattle.jc_check.specs.declared.fault.WordFault.TheVariants.{Memory, Refused};
 ghost use Rattle.jc_verify.specs.PrivateFlow.{placed};
 ghost use Rattle.jc_verify.specs.PrivateLive.{AreBranchesIn, AreCaughtIn, AreEnteredBy, AreFoundBy, HasEntries};
 ghost use Rattle.jc_verify.specs.PrivateLive.{HasFound, HasLed, IfRefusal, IsAstray, IsCaughtIn, IsDecoded};
-ghost use Rattle.jc_verify.specs.PrivateLive.{IsFollowed, IsFound, IsGround, IsHeld, IsReached, ToldAt, left_of};
+ghost use Rattle.jc_verify.specs.PrivateLive.{IsFollowed, IsFound, IsGround, IsHeld, IsReached, IsUndecoded};
+ghost use Rattle.jc_verify.specs.PrivateLive.{ToldAt, left_of};
 ghost use Rattle.jc_check.specs.Package.{package_rules};
 ghost use Rattle.jc_link.specs.Linked.{Linked};
 ghost use Rattle.jc_verify.specs.PrivateTold.{Tells};
 
-use jc_base::{NumberSet, Reason};
+use crate::pc_set::PcSet;
+use jc_base::Reason;
 use jc_check::{Fault, Handler, Method, WordFault, reason_for};
 use jc_code::{Instr, Targets, decode, listing_laws, next_pc};
 use std::alloc::Global;
 
 /// Goes from instruction to instruction, for the pcs at which they begin.
-fn starts_of(code: &[u8]) -> Result<NumberSet, Fault>
+#[tactic(auto, using(crate::proofs::Starting::none_yet, crate::proofs::Starting::start_more))]
+fn starts_of(alloc: Global, code: &[u8]) -> Result<PcSet, WordFault>
     requires short { length code.now < 2 ^ 16 }
     ensures ok { IfOk result (λ starts. (listing : List PlacedInstr) × IsDecoded code.now listing starts) }
-    ensures err { IfErr result (λ fault. (why : CodeFault) × StopsAt instr_at code.now fault.pc why
-        × (fault.reason ≡ reason_of why)) }
+    ensures refused { IfErr result (λ fault. IfRefusal fault (IsUndecoded code.now)) }
 {
     listing_laws();
-    let mut starts = NumberSet::empty();
+    let mut starts = PcSet::empty(alloc);
     let mut pc = 0;
     while pc < code.len() {
         match next_pc(code, pc) {
             Ok(behind) => {
-                starts.insert(pc as u16);
+                starts.insert(pc as u16)?;
                 pc = behind;
             }
-            Err(fault) => {
-                return Err(Fault {
-                    pc: pc as u16,
-                    reason: reason_for(fault),
-                });
-            }
+            Err(fault) => return Err(refusal(pc as u16, reason_for(fault))),
         }
     }
     Ok(starts)
 }
 
 /// A handler goes on where an instruction begins, and catches a class.
-fn stand_handler(starts: &NumberSet, handler: &Handler) -> Result<(), Fault>
+fn stand_handler(starts: &PcSet, handler: &Handler) -> Result<(), Fault>
     ensures ok { IfOk result (λ u. (code : List ℕ) (listing : List PlacedInstr) → IsDecoded code listing starts.now
         → HandlerStands listing handler.now) }
     ensures err { IfErr result (λ fault. (code : List ℕ) (listing : List PlacedInstr)
@@ -83,7 +79,7 @@ fn stand_handler(starts: &NumberSet, handler: &Handler) -> Result<(), Fault>
 }
 
 /// Each handler in turn.
-fn stand_handlers(starts: &NumberSet, handlers: &[Handler]) -> Result<(), Fault>
+fn stand_handlers(starts: &PcSet, handlers: &[Handler]) -> Result<(), Fault>
     ensures ok { IfOk result (λ u. (code : List ℕ) (listing : List PlacedInstr) → IsDecoded code listing starts.now
         → AllByRecursion (HandlerStands listing) handlers.now) }
     ensures err { IfErr result (λ fault. (code : List ℕ) (listing : List PlacedInstr)
@@ -101,8 +97,8 @@ fn stand_handlers(starts: &NumberSet, handlers: &[Handler]) -> Result<(), Fault>
 /// still to be followed from.
 #[derive(Drop)]
 pub(crate) struct Followed {
-    pub(crate) live: NumberSet,
-    pub(crate) entered: NumberSet,
+    pub(crate) live: PcSet,
+    pub(crate) entered: PcSet,
     pub(crate) stack: Vec<u16>,
 }
 
@@ -115,7 +111,7 @@ fn reach(followed: &mut Followed, pc: u16) -> Result<(), WordFault>
     if followed.live.contains(pc) {
         return Ok(());
     }
-    followed.live.insert(pc);
+    followed.live.insert(pc)?;
     followed.stack.push(pc)?;
     Ok(())
 }
@@ -126,7 +122,7 @@ fn enter(followed: &mut Followed, pc: u16) -> Result<(), WordFault>
         followed.old followed.new) }
     ensures memory { IfErr result (λ fault. fault ≡ Memory) }
 {
-    followed.entered.insert(pc);
+    followed.entered.insert(pc)?;
     reach(followed, pc)
 }
 
@@ -156,7 +152,8 @@ fn handle_all(followed: &mut Followed, handlers: &[Handler], pc: u16) -> Result<
 }
 
 /// Whether an instruction begins at a pc.
-fn begins_at(starts: &NumberSet, pc: usize) -> bool
+#[tactic(auto, using(crate::proofs::Starting::none_past))]
+fn begins_at(starts: &PcSet, pc: usize) -> bool
     ensures within { result ≡ true → pc < 2 ^ 16 }
     ensures begins { (m : methods.Method) (listing : List PlacedInstr) → IsGround m listing starts.now
         → result ≡ begins listing pc }
@@ -167,7 +164,7 @@ fn begins_at(starts: &NumberSet, pc: usize) -> bool
 /// The branch of an index to its place.
 fn branch_to(
     followed: &mut Followed,
-    starts: &NumberSet,
+    starts: &PcSet,
     targets: &Targets,
     pc: u16,
     index: usize,
@@ -200,7 +197,7 @@ fn refusal(pc: u16, reason: Reason) -> WordFault
 /// Each branch of an instruction in turn.
 fn branch_all(
     followed: &mut Followed,
-    starts: &NumberSet,
+    starts: &PcSet,
     pc: u16,
     instr: &Instr,
 ) -> Result<(), WordFault>
@@ -241,7 +238,7 @@ fn fall(followed: &mut Followed, method: &Method, pc: u16, instr: &Instr) -> Res
 fn visit(
     followed: &mut Followed,
     method: &Method,
-    starts: &NumberSet,
+    starts: &PcSet,
     pc: u16,
     instr: &Instr,
 ) -> Result<(), WordFault>
@@ -263,7 +260,7 @@ fn visit(
 fn visit_at(
     followed: &mut Followed,
     method: &Method,
-    starts: &NumberSet,
+    starts: &PcSet,
     pc: u16,
 ) -> Result<(), WordFault>
     requires short { length method.now.code < 2 ^ 16 }
@@ -287,17 +284,17 @@ fn at_first(alloc: Global) -> Result<Followed, WordFault>
     ensures memory { IfErr result (λ fault. fault ≡ Memory) }
 {
     let mut followed = Followed {
-        live: NumberSet::empty(),
-        entered: NumberSet::empty(),
+        live: PcSet::empty(alloc),
+        entered: PcSet::empty(alloc),
         stack: Vec::new(alloc),
     };
-    followed.live.insert(0);
+    followed.live.insert(0)?;
     followed.stack.push(0)?;
     Ok(followed)
 }
 
 /// Follows control flow from pc 0.
-fn follow_all(alloc: Global, method: &Method, starts: &NumberSet) -> Result<NumberSet, WordFault>
+fn follow_all(alloc: Global, method: &Method, starts: &PcSet) -> Result<PcSet, WordFault>
     requires short { length method.now.code < 2 ^ 16 }
     requires some { method.now.code ≢ [] }
     ensures found { IfOk result (λ entries. (listing : List PlacedInstr) → IsGround method.now listing starts.now
@@ -314,7 +311,7 @@ fn follow_all(alloc: Global, method: &Method, starts: &NumberSet) -> Result<Numb
 
 /// The pcs that control flow enters by a branch or by a handler, of a method whose code decodes and whose handlers
 /// stand.
-pub(crate) fn entries_of(alloc: Global, method: &Method) -> Result<NumberSet, WordFault>
+pub(crate) fn entries_of(alloc: Global, method: &Method) -> Result<PcSet, WordFault>
     requires short { length method.now.code < 2 ^ 16 }
     ensures found { IfOk result (λ entries. HasEntries method.now entries) }
     ensures refused { IfErr result (λ fault. (pc : ℕ) (reason : Reason) → fault ≡ Refused pc reason → (rules : Rules)
@@ -326,7 +323,7 @@ pub(crate) fn entries_of(alloc: Global, method: &Method) -> Result<NumberSet, Wo
     if code.is_empty() {
         return Err(refusal(0, Reason::FallsOff));
     }
-    let starts = starts_of(code)?;
+    let starts = starts_of(alloc, code)?;
     stand_handlers(&starts, method.handlers())?;
     follow_all(alloc, method, &starts)
 }

@@ -8,6 +8,7 @@ mod gathering;
 mod method;
 mod numbering;
 mod package;
+mod pc_set;
 mod place;
 mod settle;
 mod spelling;

@@ -9,8 +9,8 @@ ghost use Rattle.jc_verify.specs.PrivateFlow.{IsNumbered, Places};
 ghost use Rattle.jc_verify.specs.PrivateSettled.{AreAscending, AreNumbered};
 ghost use Rattle.jc_verify.specs.declared.place.Place.{Place as PlaceOf};
 
+use crate::pc_set::PcSet;
 use crate::place::Place;
-use jc_base::NumberSet;
 use jc_types::State;
 use std::alloc::{AllocError, Global};
 
@@ -46,6 +46,7 @@ fn put_place(
 }
 
 /// Says in the table that there is no place at a pc.
+#[tactic(auto, using(crate::proofs::Counting::without))]
 fn put_none(numbers: &mut Vec<Option<u16>>)
     requires room { vec_len numbers.old < vec_capacity numbers.old }
     ensures put { (entries : List ℕ) (pc : ℕ) (places : Places) → has_number entries pc ≡ false
@@ -84,7 +85,7 @@ fn put_if(
 pub(crate) fn number_places(
     alloc: Global,
     count: usize,
-    entries: &NumberSet,
+    entries: &PcSet,
 ) -> Result<Numbered, AllocError>
     requires { count < 2 ^ 16 }
     ensures sized { IfOk result (λ n. length n.numbers.items ≡ count) }

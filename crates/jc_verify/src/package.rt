@@ -74,6 +74,7 @@ fn certificate_of(linked: &Linked, methods: Vec<MethodRow>) -> Cert
 }
 
 /// The certificate of what is known of all methods, unless one of them is told of.
+#[tactic(auto, using(crate::proofs::Bearing::all_states, crate::proofs::Telling::is_refusal))]
 fn certificate_or_fault(linked: &Linked, gathered: Gathered) -> Result<Cert, VerifyFault>
     requires laws { HasLaws linked.now }
     requires fit { HasFitMethods linked.now }

@@ -11,8 +11,10 @@ use Rattle.jc_verify.proofs.entries.entries_of.Goals as goal
 pub returns-in_err-starts-clause-refused : goal.returns-in_err-starts-clause-refused
 returns-in_err-starts-clause-refused c =
     let p = err_from_is_err_and c.from_residual.result c.from_residual.ensures.1 in
-    let stop = rw c.code-code.ensures at c.in_err-starts.ensures.err in
-    rw p.1 (λ pc reason is rules decodes states k. never_stopped rules c.args.method.now states k c.listing_laws.ensures.all decodes c.in_err-starts.field-0.0.pc stop.0 stop.1)
+    let off = rw c.code-code.ensures at c.in_err-starts.ensures.refused in
+    rw (p.1, p.2) (λ pc reason is rules decodes states k.
+    never_stopped rules c.args.method.now states k c.listing_laws.ensures.all decodes c.in_err-starts.field-0.0 off pc
+    reason is)
 
 pub returns-clause-refused : goal.returns-clause-refused
 returns-clause-refused c =
@@ -27,8 +29,8 @@ returns-clause-found c = grind (arith, rules, if_ok)
 pub returns-in_err-starts-clause-told : goal.returns-in_err-starts-clause-told
 returns-in_err-starts-clause-told c =
     let p = err_from_is_err_and c.from_residual.result c.from_residual.ensures.1 in
-    let stop = rw c.code-code.ensures at c.in_err-starts.ensures.err in
-    rw (p.1, p.2) (λ l. tells_undecoded l c.args.method.now c.in_err-starts.field-0.0.pc c.in_err-starts.field-0.0.reason stop.0 stop.1 stop.2)
+    let off = rw c.code-code.ensures at c.in_err-starts.ensures.refused in
+    rw (p.1, p.2) (λ l. tells_undecoded l c.args.method.now c.in_err-starts.field-0.0 off)
 
 pub returns-then-is_empty-clause-told : goal.returns-then-is_empty-clause-told
 returns-then-is_empty-clause-told c =

@@ -12,8 +12,11 @@ pub returns-clause-led : goal.returns-clause-led
 returns-clause-led c =
     let before = c.args.followed.now in
     let after : Followed = record { live = c.insert.new.self; entered = before.entered; stack = c.push.new.self } in
+    let has = c.in_ok-insert.ensures in
+    let items = c.in_ok-push.ensures.items in
     record {
-      met = has_itself before.live c.insert.new.self c.args.pc c.insert.ensures;
-      grown = reached_grown before after c.args.pc c.insert.ensures refl c.in_ok-push.ensures.items (sym c.contains.ensures ∙ c.if-contains.false) (omega (arith, c.ranges.pc.fits));
-      followed = λ m listing now. reached_followed before after c.args.pc c.insert.ensures refl c.in_ok-push.ensures.items m listing (Some now);
+      met = has_itself before.live c.insert.new.self c.args.pc has;
+      grown = reached_grown before after c.args.pc has refl items (sym c.contains.ensures ∙ c.if-contains.false)
+          (omega (arith, c.ranges.pc.fits));
+      followed = λ m listing now. reached_followed before after c.args.pc has refl items m listing (Some now);
     }

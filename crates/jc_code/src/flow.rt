@@ -1,12 +1,10 @@
 //! Where an instruction may go on.
 
 ghost use Rattle.std.specs.Prelude.{◌≡◌, length, slice_get};
-ghost use Rattle.jc_code.specs.Targets.{falls_in, falls_of, flow_of, is_end, is_end_of, object_flow, offsets_in};
-ghost use Rattle.jc_code.specs.Targets.{target_of};
-ghost use Rattle.jc_code.specs.Targets.{targets_of, word_flow};
+ghost use Rattle.jc_code.specs.Targets.{falls_in, falls_of, flow_of, is_end, is_end_of, offsets_in, target_of};
+ghost use Rattle.jc_code.specs.Targets.{targets_of};
 
-use crate::instr::{Instr, Operation, When, WordOperation};
-use crate::object::ObjectOperation;
+use crate::instr::{Instr, Operation};
 use crate::tables::{Cases, Offsets};
 use std::marker::Model;
 
@@ -25,59 +23,6 @@ pub enum Flow<'a> {
     ByCase { default: i16, cases: Cases<'a> },
     /// Out of the method, or to a handler.
     End,
-}
-
-impl<'a> WordOperation<'a> {
-    /// Where control flow goes behind it.
-    fn flow(&self) -> Flow<'a>
-        ensures { result ≡ word_flow self.now }
-    {
-        match self {
-            WordOperation::Nop | WordOperation::Push(_) | WordOperation::Load(_) => Flow::On,
-            WordOperation::Store(_) | WordOperation::Increment { .. } => Flow::On,
-            WordOperation::Shuffle(_) | WordOperation::Binary(_) => Flow::On,
-            WordOperation::Unary(_) => Flow::On,
-            WordOperation::Branch { when, offset } => match when {
-                When::Always => Flow::Jump(*offset),
-                When::Zero(_) => Flow::Branch(*offset),
-                When::Compare(_) => Flow::Branch(*offset),
-            },
-            WordOperation::StableSwitch {
-                default,
-                offsets,
-                ..
-            } => Flow::ByKey {
-                default: *default,
-                offsets: offsets.lent(),
-            },
-            WordOperation::LookupSwitch { default, cases } => Flow::ByCase {
-                default: *default,
-                cases: cases.lent(),
-            },
-            WordOperation::ReturnWord => Flow::End,
-        }
-    }
-}
-
-impl ObjectOperation {
-    /// Where control flow goes behind it.
-    fn flow<'a>(self) -> Flow<'a>
-        ensures { result ≡ object_flow self }
-    {
-        match self {
-            ObjectOperation::PushNull => Flow::On,
-            ObjectOperation::Load(_) | ObjectOperation::Store(_) => Flow::On,
-            ObjectOperation::LoadComponent(_) => Flow::On,
-            ObjectOperation::StoreComponent(_) => Flow::On,
-            ObjectOperation::ArrayLength => Flow::On,
-            ObjectOperation::Branch { offset, .. } => Flow::Branch(offset),
-            ObjectOperation::Field { .. } => Flow::On,
-            ObjectOperation::Invoke(_) | ObjectOperation::Create(_) => Flow::On,
-            ObjectOperation::CheckCast(_) | ObjectOperation::InstanceOf(_) => Flow::On,
-            ObjectOperation::Throw => Flow::End,
-            ObjectOperation::ReturnReference | ObjectOperation::ReturnVoid => Flow::End,
-        }
-    }
 }
 
 impl<'a> Flow<'a> {

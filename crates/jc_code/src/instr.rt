@@ -1,5 +1,9 @@
 //! What an instruction says.
 
+ghost use Rattle.std.specs.Prelude.{◌≡◌};
+ghost use Rattle.jc_code.specs.Targets.{word_flow};
+
+use crate::flow::Flow;
 use crate::object::ObjectOperation;
 use crate::tables::{Cases, Offsets};
 
@@ -61,6 +65,38 @@ pub enum WordOperation<'a> {
     },
     /// sreturn: ends the method with a short.
     ReturnWord,
+}
+
+impl<'a> WordOperation<'a> {
+    /// Where control flow goes behind it.
+    pub(crate) fn flow(&self) -> Flow<'a>
+        ensures { result ≡ word_flow self.now }
+    {
+        match self {
+            WordOperation::Nop | WordOperation::Push(_) | WordOperation::Load(_) => Flow::On,
+            WordOperation::Store(_) | WordOperation::Increment { .. } => Flow::On,
+            WordOperation::Shuffle(_) | WordOperation::Binary(_) => Flow::On,
+            WordOperation::Unary(_) => Flow::On,
+            WordOperation::Branch { when, offset } => match when {
+                When::Always => Flow::Jump(*offset),
+                When::Zero(_) => Flow::Branch(*offset),
+                When::Compare(_) => Flow::Branch(*offset),
+            },
+            WordOperation::StableSwitch {
+                default,
+                offsets,
+                ..
+            } => Flow::ByKey {
+                default: *default,
+                offsets: offsets.lent(),
+            },
+            WordOperation::LookupSwitch { default, cases } => Flow::ByCase {
+                default: *default,
+                cases: cases.lent(),
+            },
+            WordOperation::ReturnWord => Flow::End,
+        }
+    }
 }
 
 /// How operands are moved. The top is the first to be counted.

@@ -1,5 +1,10 @@
 //! What an instruction on references says.
 
+ghost use Rattle.std.specs.Prelude.{◌≡◌};
+ghost use Rattle.jc_code.specs.Targets.{object_flow};
+
+use crate::flow::Flow;
+
 /// What an instruction on references does: to objects, arrays, members and methods. An index is one of the constant
 /// pool; offsets count from the instruction's own opcode.
 #[derive(Clone, Copy)]
@@ -40,6 +45,27 @@ pub enum ObjectOperation {
     ReturnReference,
     /// return: ends the method with nothing.
     ReturnVoid,
+}
+
+impl ObjectOperation {
+    /// Where control flow goes behind it.
+    pub(crate) fn flow<'a>(self) -> Flow<'a>
+        ensures { result ≡ object_flow self }
+    {
+        match self {
+            ObjectOperation::PushNull => Flow::On,
+            ObjectOperation::Load(_) | ObjectOperation::Store(_) => Flow::On,
+            ObjectOperation::LoadComponent(_) => Flow::On,
+            ObjectOperation::StoreComponent(_) => Flow::On,
+            ObjectOperation::ArrayLength => Flow::On,
+            ObjectOperation::Branch { offset, .. } => Flow::Branch(offset),
+            ObjectOperation::Field { .. } => Flow::On,
+            ObjectOperation::Invoke(_) | ObjectOperation::Create(_) => Flow::On,
+            ObjectOperation::CheckCast(_) | ObjectOperation::InstanceOf(_) => Flow::On,
+            ObjectOperation::Throw => Flow::End,
+            ObjectOperation::ReturnReference | ObjectOperation::ReturnVoid => Flow::End,
+        }
+    }
 }
 
 /// What is loaded or stored: the letter in an instruction's name.

@@ -76,8 +76,7 @@ module _ (laws : ListingLaws instr_at) (code : List ℕ) where
       → StandBetween instr_at code from listing to → placed_at listing pc ≡ Some x → StandUpTo code from pc
   unfolding placed_at
   up_to_placed [] from to pc x s e = absurd (none-some x e)
-  up_to_placed (y ∷ ys) from to pc x s e =
-      by_place (y.pc == pc) refl e (up_to_placed ys y.instr.next_pc to pc x s.2)
+  up_to_placed (y ∷ ys) from to pc x s e = by_place (y.pc == pc) refl e (up_to_placed ys y.instr.next_pc to pc x s.2)
     where
       by_place : (b : Bool) → (y.pc == pc) ≡ b → cond b (Some y) (placed_at ys pc) ≡ Some x
           → (placed_at ys pc ≡ Some x → StandUpTo code y.instr.next_pc pc) → StandUpTo code from pc

@@ -56,8 +56,7 @@ abbrev pub rules : Rules
 rules = package_rules applet_linked
 
 abbrev pub install_code : MethodBody
-install_code =
-    record { offset = 1; code_offset = 3; code = 0x8F ∷ 0 ∷ 0 ∷ 0x8B ∷ 0 ∷ 1 ∷ 0x7A ∷ []; handlers = [] }
+install_code = record { offset = 1; code_offset = 3; code = 0x8F ∷ 0 ∷ 0 ∷ 0x8B ∷ 0 ∷ 1 ∷ 0x7A ∷ []; handlers = [] }
 
 abbrev pub install : Method
 install = method_of applet_linked install_code
@@ -86,8 +85,7 @@ abbrev pub with_applet : Types
 with_applet = record { locals = arguments; operands = types.Class (Loaded 1 0) ∷ [] }
 
 abbrev pub typing : Typing
-typing pc =
-    if pc == 0 then Some empty else if pc == 3 then Some with_applet else if pc == 6 then Some empty else None
+typing pc = if pc == 0 then Some empty else if pc == 3 then Some with_applet else if pc == 6 then Some empty else None
 
 -- what holds of the three states holds of each that the typing has
 pub by_state : (P : ℕ → Types → Type 0) → P 0 empty → P 3 with_applet → P 6 empty → (pc : ℕ) (t : Types)

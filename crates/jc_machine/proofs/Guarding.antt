@@ -115,8 +115,7 @@ leaves_still h operands = goes_still h h.next_pc h.machine.top.locals operands
 
 pub throws_still : {C : Type 0} {before : List Touch} (h : Here C) (object : ℕ)
     → KeepsLaw h.around h.machine before (throws h object)
-throws_still h object =
-    stays (Throws h.machine object) h.machine refl refl (is_apart_itself h.around h.machine)
+throws_still h object = stays (Throws h.machine object) h.machine refl refl (is_apart_itself h.around h.machine)
 
 jumps_still : {C : Type 0} {before : List Touch} (h : Here C) (to : ℤ) (operands : List TaggedValue)
     → KeepsLaw h.around h.machine before (jumps h to operands)
@@ -281,8 +280,7 @@ pub behind_allowed : {C : Type 0} {around : Surroundings C} {m : Machine C} {bef
     (s : Stepped C) → IsJudged (setting_of around m) t → are_allowed (t ∷ []) ≡ true
     → ((keeps : C → Bool) → IsApartIn keeps around m → SparesPlain m.heap t)
     → KeepsLaw around m (before ++ t ∷ []) s → KeepsLaw around m before (touched (t ∷ []) s)
-behind_allowed t s judges h spares k =
-    behind (t ∷ []) s (judges, tt) (allowed h) (λ keeps p. (spares keeps p, tt)) k
+behind_allowed t s judges h spares k = behind (t ∷ []) s (judges, tt) (allowed h) (λ keeps p. (spares keeps p, tt)) k
 
 denied_still : {C : Type 0} {before : List Touch} (h : Here C) (t : Touch)
     → IsJudged (setting_of h.around h.machine) t
@@ -304,8 +302,7 @@ at_verdict h asked Allowed go judges k =
 at_verdict h asked (AllowedSwitch owner) go judges k =
     behind_allowed (touch_of h asked (AllowedSwitch owner)) (go (Some owner)) judges refl
     (own_spares h.around h.machine (touch_of h asked (AllowedSwitch owner)) refl) (k refl (Some owner) refl)
-at_verdict h asked (Denied rule) go judges k =
-    denied_still h (touch_of h asked (Denied rule)) judges refl refl
+at_verdict h asked (Denied rule) go judges k = denied_still h (touch_of h asked (Denied rule)) judges refl refl
 
 -- the firewall's verdict on what is asked in a place, and the access with it
 abbrev pub verdict_in : {C : Type 0} → Here C → Asked → Object TaggedValue → Verdict

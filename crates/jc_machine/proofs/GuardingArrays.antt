@@ -2,8 +2,7 @@
 use Rattle.std.proofs.Common.{[], length, slice_get, inr, refl, arith}
 use Rattle.jc_code.specs.declared.object.Form.{Form}
 use Rattle.jc_code.specs.declared.object.Form.TheVariants as Forms
-use Rattle.jc_firewall.specs.declared.access.Access.TheVariants.{LoadComponent, StoreComponent}
-use Rattle.jc_firewall.specs.declared.access.Access.TheVariants.{StoreReference}
+use Rattle.jc_firewall.specs.declared.access.Access.TheVariants.{LoadComponent, StoreComponent, StoreReference}
 use Rattle.jc_machine.specs.Arrays.{act_length, act_load, act_store, act_store_reference, act_store_word}
 use Rattle.jc_machine.specs.Arrays.{is_array_of, is_in_bounds, is_there, stored_as}
 use Rattle.jc_machine.specs.Going.{Here, asking, storing}

@@ -37,8 +37,7 @@ invokes_keeps : {C : Type 0} {before : List Touch} (h : Here C) → AreNativesGu
     → KeepsLaw h.around h.machine before (invokes h switch method arguments operands)
 invokes_keeps h natives switch (Loaded number offset) arguments operands runs =
     enters_keeps h switch (record { number = number; offset = offset }) arguments operands (runs refl)
-invokes_keeps h natives switch (Api member) arguments operands runs =
-    native_keeps h natives member arguments operands
+invokes_keeps h natives switch (Api member) arguments operands runs = native_keeps h natives member arguments operands
 
 -- a call that doesn't switch
 unswitched_keeps : {C : Type 0} {before : List Touch} (h : Here C) → AreNativesGuarded h.around.natives

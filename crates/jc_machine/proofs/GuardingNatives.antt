@@ -13,10 +13,9 @@ use Rattle.jc_names.specs.declared.owner.Owner.{Owner}
 use Rattle.jc_store.specs.Heap.{Heap, Object, object_at}
 use Rattle.jc_machine.specs.Apart.{IsApartAnswer, IsSetApart, SparesPlain, is_applets}
 use Rattle.jc_machine.specs.Calls.{VirtualMember, active_in, after_native, called_as, callback_fits, calls_back}
-use Rattle.jc_machine.specs.Calls.{entered, enters, inner_native_ends, is_in_place_of}
-use Rattle.jc_machine.specs.Calls.{is_member_or_loaded, native_answer, native_call, native_ends, native_gives}
-use Rattle.jc_machine.specs.Calls.{native_may_begin, on_native, type_of_member}
-use Rattle.jc_machine.specs.Calls.{virtual_member, with_given}
+use Rattle.jc_machine.specs.Calls.{entered, enters, inner_native_ends, is_in_place_of, is_member_or_loaded}
+use Rattle.jc_machine.specs.Calls.{native_answer, native_call, native_ends, native_gives, native_may_begin, on_native}
+use Rattle.jc_machine.specs.Calls.{type_of_member, virtual_member, with_given}
 use Rattle.jc_machine.specs.Going.{Here, check, moved, plain, stuck, throws, touched}
 use Rattle.jc_machine.specs.Guarded.{AreGuarded, AreMade, IsCalledBack, IsJudged, as_owner, as_they_were, by_callback}
 use Rattle.jc_machine.specs.Guarded.{by_frame, frame_answer, setting_of}
@@ -67,8 +66,7 @@ by_room : {C : Type 0} {before : List Touch} (h : Here C) (f : Frame) (operands 
     → KeepsLaw h.around h.machine before (cond room (plain (Next (above h f operands))) (plain (UsedUp h.machine)))
 by_room h f operands true runs =
     stays (Next (above h f operands)) (above h f operands) refl refl (above_apart h f operands runs)
-by_room h f operands false runs =
-    stays (UsedUp h.machine) h.machine refl refl (is_apart_itself h.around h.machine)
+by_room h f operands false runs = stays (UsedUp h.machine) h.machine refl refl (is_apart_itself h.around h.machine)
 
 entered_keeps : {C : Type 0} {before : List Touch} (h : Here C) (f : Frame) (max_stack : ℕ)
     (operands : List TaggedValue) → RunsApplets h.around h.machine f.active

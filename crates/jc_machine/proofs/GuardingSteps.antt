@@ -53,8 +53,7 @@ at_keeps s natives m =
 -- what an outcome leaves has these objects, and is apart where the machine is
 record LeavesHeap {C : Type 0} (m : Machine C) (o : Outcome C) : Type 0 where
   same : (after : Machine C) → machine_of o ≡ Some after → m.heap ≡ after.heap
-  apart : (keeps : C → Bool) → IsApart keeps m → (after : Machine C) → machine_of o ≡ Some after
-      → IsApart keeps after
+  apart : (keeps : C → Bool) → IsApart keeps m → (after : Machine C) → machine_of o ≡ Some after → IsApart keeps after
   kept : (after : Machine C) → machine_of o ≡ Some after → m.runtime ≡ after.runtime
   statics : (after : Machine C) → machine_of o ≡ Some after → m.statics ≡ after.statics
 

@@ -26,8 +26,7 @@ shuffle_keeps h (Pop count) vs = at_operands count vs _ (leaves_still h (drop co
 shuffle_keeps h (Duplicate count below) vs =
     at_operands (max count below) vs _ (at_check (nat_le (length vs + count) h.max_stack) _
     (leaves_still h (duplicated count below vs)))
-shuffle_keeps h (Swap upper lower) vs =
-    at_operands (upper + lower) vs _ (leaves_still h (swapped upper lower vs))
+shuffle_keeps h (Swap upper lower) vs = at_operands (upper + lower) vs _ (leaves_still h (swapped upper lower vs))
 
 pub word_keeps : {C : Type 0} {before : List Touch} (h : Here C) (operation : WordOperation)
     → KeepsLaw h.around h.machine before (act_word h operation)

@@ -65,8 +65,7 @@ blank_each f none (x ∷ xs) = (none x, blank_each f none xs)
 module _ (world : List Shape) (there : (c : ApiClass) → StandsThere world c) where
   own_blank : (c : ApiClass) → AreBlank (own_fields world (Api c)) (tables.size_of c)
   own_blank c = record {
-    blank =
-        blank_each (instance_type_of world (Api c)) (there c).fields (range_with_len 0 (size_of world (Api c)));
+    blank = blank_each (instance_type_of world (Api c)) (there c).fields (range_with_len 0 (size_of world (Api c)));
     counted =
         length-map (range_with_len 0 (size_of world (Api c))) (instance_type_of world (Api c))
         ∙ length-range_with_len 0 (size_of world (Api c)) ∙ (there c).size;
@@ -98,8 +97,7 @@ zeros_are_bytes (suc n) = (refl, zeros_are_bytes n)
 passed : {A : Type 0} (P : A → Type 0) (test : A → Bool) → ((x : A) → test x ≡ true → P x) → (xs : List A)
     → list_all test xs ≡ true → AllByRecursion P xs
 passed P test each [] e = tt
-passed P test each (x ∷ xs) e =
-    let b = both (test x) (list_all test xs) e in (each x b.0, passed P test each xs b.1)
+passed P test each (x ∷ xs) e = let b = both (test x) (list_all test xs) e in (each x b.0, passed P test each xs b.1)
 
 -- an object of so many cells may be of a type: its class has objects, of so many cells, none of them a field's; an
 -- array is of bytes, and has no more components than a word counts

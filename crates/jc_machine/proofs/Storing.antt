@@ -10,8 +10,7 @@ use Rattle.jc_base.specs.declared.declared_type.DeclaredType.TheVariants as Decl
 use Rattle.jc_cap_desc.specs.Shape.{Shape}
 use Rattle.jc_code.specs.declared.object.Form.{Form}
 use Rattle.jc_code.specs.declared.object.Form.TheVariants as Forms
-use Rattle.jc_firewall.specs.Verdict.{is_never_stored, runtime_context, stores_reference}
-use Rattle.jc_firewall.specs.Verdict.{verdict_of}
+use Rattle.jc_firewall.specs.Verdict.{is_never_stored, runtime_context, stores_reference, verdict_of}
 use Rattle.jc_firewall.specs.declared.access.Access.{Access}
 use Rattle.jc_firewall.specs.declared.access.Facts.{Facts}
 use Rattle.jc_firewall.specs.declared.access.Rule.TheVariants.{Storing}

@@ -1,9 +1,7 @@
 -- An operation on words that has an effect on types comes to values of the types behind it.
 use Rattle.std.proofs.Common.{◌≡◌, ℕ, ℤ, zero, suc, ◌+◌, ◌-◌, ◌<◌, max, List, [], ◌∷◌, ◌++◌, length, take, drop}
-use Rattle.std.proofs.Common.{reverse}
-use Rattle.std.proofs.Common.{set, Bool, true, false, ◌&&◌, not, if◌then◌else◌, Option, Some, None, Ok, Err, nat_lt}
-use Rattle.std.proofs.Common.{nat_le}
-use Rattle.std.proofs.Common.{slice_get, unwrap_or, refl, sym, ap, subst, arith, length-drop}
+use Rattle.std.proofs.Common.{reverse, set, Bool, true, false, ◌&&◌, not, if◌then◌else◌, Option, Some, None, Ok, Err}
+use Rattle.std.proofs.Common.{nat_lt, nat_le, slice_get, unwrap_or, refl, sym, ap, subst, arith, length-drop}
 use Rattle.std.proofs.lemmas.Bool.{le-leb, lt-ltb, ltb-false, ltb-true}
 use Rattle.std.proofs.lemmas.Int.{ints}
 use Rattle.std.specs.Int.{w16}
@@ -32,8 +30,7 @@ use Rattle.jc_types.specs.declared.ty.Ty.TheVariants as types
 use Rattle.jc_words.specs.Laws.{WordLaws}
 use Rattle.jc_words.specs.Shorts.{binary_of, holds, incremented, lookup_offset, short, stable_offset, unary_of, word_of}
 use Rattle.jc_words.specs.Values.{TaggedValue, Word, all_written}
-use Rattle.jc_machine.specs.Going.{Here, branches, check, gives, leaves_operands, on_operands, on_word}
-use Rattle.jc_machine.specs.Going.{on_word_local}
+use Rattle.jc_machine.specs.Going.{Here, branches, check, gives, leaves_operands, on_operands, on_word, on_word_local}
 use Rattle.jc_machine.specs.Machine.{Stepped}
 use Rattle.jc_machine.specs.Reading.{Pointwise}
 use Rattle.jc_machine.specs.Typed.{HaveTypes, HoldTypes, IsOperand, has_type}
@@ -180,8 +177,7 @@ module _ (world : List Shape) (heap : Heap TaggedValue) (below : ClassName → C
   module _ {C : Type 0} (P : Stepped C → Type 0) (go : ℕ → List TaggedValue → Stepped C) where
     on_one : (v : TaggedValue) (vs : List TaggedValue) → IsWord v → ((n : ℕ) → n < 65536 → P (go n vs))
         → P (on_word (v ∷ vs) go)
-    on_one v vs w each =
-        subst (λ (x : TaggedValue). P (on_word (x ∷ vs) go)) (sym w.is) (each w.number w.small)
+    on_one v vs w each = subst (λ (x : TaggedValue). P (on_word (x ∷ vs) go)) (sym w.is) (each w.number w.small)
 
     one_word : (vs : List TaggedValue) (ts : List Ty) → Hold vs ts → nat_lt (length ts) 1 ≡ false
         → all_meet below (word ∷ []) (reverse (take 1 ts)) ≡ true

@@ -79,8 +79,7 @@ pub record IsJudged (g : Setting) (t : Touch) : Type 0 where
   pub active : IsActive g t t.by
   pub object : Object TaggedValue
   pub found : object_at g.heap t.object ≡ Some object
-  pub verdict : t.verdict
-      ≡ verdict_of t.access t.active (facts_for g.shapes g.selected g.heap (asked_by t) object)
+  pub verdict : t.verdict ≡ verdict_of t.access t.active (facts_for g.shapes g.selected g.heap (asked_by t) object)
 
 abbrev pub is_allowed : Verdict → Bool
 is_allowed Allowed = true

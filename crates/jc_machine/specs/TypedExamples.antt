@@ -19,8 +19,7 @@ use Rattle.jc_words.specs.Values.{Ref, Word}
 
 -- a machine with these objects, static fields and one frame
 abbrev pub new_machine : List (List StaticValue) → Frame → Machine (Unit {0})
-new_machine statics frame =
-    record { heap = new_heap; statics = statics; runtime = tt; top = frame; waiting = [] }
+new_machine statics frame = record { heap = new_heap; statics = statics; runtime = tt; top = frame; waiting = [] }
 
 -- a world, with native members that do nothing
 abbrev pub idle_in : World → Surroundings (Unit {0})
@@ -32,8 +31,7 @@ idle_in world = record { world = world; natives = idle; limits = bounds; selecte
 abbrev pub applet_body : LinkedBody
 applet_body = record {
   kept = kept_of applet.body;
-  targets =
-      Class (Loaded 1 0) ∷ VirtualMethod (Loaded 1 0) 1 (record { parameters = []; result = Void }) ∷ [];
+  targets = Class (Loaded 1 0) ∷ VirtualMethod (Loaded 1 0) 1 (record { parameters = []; result = Void }) ∷ [];
 }
 
 abbrev pub applet_world : World

@@ -62,8 +62,7 @@ module _ {C : Type 0} (s : Surroundings C) (ground : Ground s) where
       → is_class_at s.world.shapes e ≡ true → e ≡ Api api.Object
   interface_object c e (same k) one class = absurd (not_both k class one)
   interface_object c e (object k) one class = refl
-  interface_object c e (by_superclass k d f up h) one class =
-      absurd (not_both k (ground.names.heirs k d up) one)
+  interface_object c e (by_superclass k d f up h) one class = absurd (not_both k (ground.names.heirs k d up) one)
   interface_object c e (by_interface k i f listed h) one class =
       interface_object i f h (ground.sound.superclasses.orderly.interfaces k i listed) class
 

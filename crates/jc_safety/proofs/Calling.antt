@@ -153,8 +153,7 @@ module _ {C : Type 0} (s : Surroundings C) (ground : Ground s) (m : Machine C) (
   record IsLeft (ds : List Demand) (r : ReturnType ClassName) (later : Types) : Type 0 where
     is : later ≡ record {
       locals = state.locals;
-      operands = with_result_type (returned_type r) (drop
-          (length ds) state.operands);
+      operands = with_result_type (returned_type r) (drop (length ds) state.operands);
     }
     room : length (with_result_type (returned_type r) (drop (length ds) state.operands)) ≤ most
 
@@ -254,8 +253,7 @@ module _ {C : Type 0} (s : Surroundings C) (ground : Ground s) (m : Machine C) (
 
       object_made : (n : ℕ) (o : heaps.Object TaggedValue) → object_at m.heap n ≡ Some o
           → IsMade s ground (class_of o.kind.object)
-      object_made n o found =
-          class_made s ground o.kind.object (typed_at shapes m.heap t.beside.heap n o found).made
+      object_made n o found = class_made s ground o.kind.object (typed_at shapes m.heap t.beside.heap n o found).made
 
       -- ---- a method that is looked up from the object's class
 

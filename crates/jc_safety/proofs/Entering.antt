@@ -153,8 +153,7 @@ module _ {C : Type 0} (s : Surroundings C) (ground : Ground s) (m : Machine C) (
           (record {
             fine = record {
               beside = beside_now f (still vs ∷ m.waiting);
-              top =
-                  runs s ground heap place body loaded code there typed of arguments fit active previous;
+              top = runs s ground heap place body loaded code there typed of arguments fit active previous;
               waiting = (
                 waits (given_by s.world f) vs (subst (λ (r : Option Ty). Site r vs next) (sym gives) site),
                 waiting_still s.world m.heap heap b.keeps (given_by s.world m.top) m.waiting t.waiting,

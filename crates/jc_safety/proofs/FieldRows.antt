@@ -121,8 +121,7 @@ module _ {C : Type 0} (s : Surroundings C) (ground : Ground s) (m : Machine C) (
         → has_type shapes m.heap v (type_of_declared declared) ≡ true
         → IsSafe s x → IsSafe s (stored_in_static (at us) v x)
     object_stored us (Word n) x w h safe = safe
-    object_stored us (Ref n) x w h safe =
-        by_object (object_at m.heap n) refl (ref_there shapes m.heap declared n h)
+    object_stored us (Ref n) x w h safe = by_object (object_at m.heap n) refl (ref_there shapes m.heap declared n h)
       where
         by_object : (o : Option (heaps.Object TaggedValue)) → object_at m.heap n ≡ o
             → option_map_or (λ (o : heaps.Object TaggedValue). any_object o.kind.object) o false ≡ true

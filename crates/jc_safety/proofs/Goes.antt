@@ -79,8 +79,7 @@ module _ {C : Type 0} (s : Surroundings C) (ground : Ground s) where
         let up = stands.orders.states after leads.state leads.below in
         let b = both (all_below (is_class_below s.world.shapes) after.locals leads.state.locals)
         (all_below (is_class_below s.world.shapes) after.operands leads.state.operands) up in record {
-          beside =
-              beside_with m t.beside heap statics (moved m.top pc locals operands) m.waiting typed fields keeps;
+          beside = beside_with m t.beside heap statics (moved m.top pc locals operands) m.waiting typed fields keeps;
           top = record {
             placed = record {
               body = placed.body;
@@ -92,8 +91,7 @@ module _ {C : Type 0} (s : Surroundings C) (ground : Ground s) where
               shaped = placed.shaped;
               state = leads.state;
               stated = leads.typed;
-              locals_typed =
-                  types_up s.world.shapes ground.order heap locals after.locals leads.state.locals b.0 has;
+              locals_typed = types_up s.world.shapes ground.order heap locals after.locals leads.state.locals b.0 has;
             };
             operands_typed =
                 operands_up s.world.shapes ground.order heap operands after.operands leads.state.operands b.1 holds;

@@ -78,8 +78,7 @@ pub record Ground {C : Type 0} (s : Surroundings C) : Type 0 where
   pub on_api : StandsOnApi s.world.shapes
   pub api : (c : ApiClass) → StandsThere s.world.shapes c
   pub code : HaveCode s.world
-  pub packages : (number : ℕ) (body : LinkedBody) → body_at s.world number ≡ Some body
-      → Stands s.world number body
+  pub packages : (number : ℕ) (body : LinkedBody) → body_at s.world number ≡ Some body → Stands s.world number body
   pub fields : (home : ℕ) (entry : PoolEntry) (class : ClassName) (cell : ℕ) (declared : DeclaredType ClassName)
       → pool_target_of s.world.shapes home entry ≡ Some (InstanceField class cell declared) → (c : ClassName)
       → is_class_below s.world.shapes c class ≡ true → slice_get (fields_of s.world.shapes c) cell ≡ Some (Some declared)

@@ -37,8 +37,7 @@ keeps_through one two three a b n o e =
       found = q.found;
       kind = q.kind ∙ p.kind;
       owner = q.owner ∙ p.owner;
-      size = q.size ∙
-          p.size;
+      size = q.size ∙ p.size;
     }
 
 pub keeps_new : (heap : Heap TaggedValue) (o : heaps.Object TaggedValue) → KeepsObjects heap (with_new heap o)

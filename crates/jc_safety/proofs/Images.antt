@@ -127,8 +127,7 @@ found_as x [] n f at is few = absurd cc
 found_as x (h ∷ fs) n f at is few = by_static (λ n at few. found_as x fs n f at is few) (static_of h) refl n at
   where
     Later : Type 0
-    Later = (n : ℕ) → slice_get fs n ≡ Some f → count_by (share_a_byte x) (filter_map static_of fs) ≤ 1
-        → FoundAs fs x
+    Later = (n : ℕ) → slice_get fs n ≡ Some f → count_by (share_a_byte x) (filter_map static_of fs) ≤ 1 → FoundAs fs x
 
     -- past one without the offset
     past : is_static_field x.offset h.place ≡ false → FoundAs fs x → FoundAs (h ∷ fs) x
@@ -266,8 +265,7 @@ module _ (world : List Shape) (heap : Heap TaggedValue) (number first : ℕ) (bo
       → (offset % 2 == 0) ≡ true → is_of_another_array image (record { offset = offset; type = type }) ≡ false
       → ((array : StaticArray) → is_of_type array type ≡ true → test (type_of_array array) ≡ true)
       → leads_to heap test (reference_at first image offset) ≡ true
-  reference_leads test type offset even matches passes =
-      by_place (nat_lt (offset / 2) (length image.arrays)) refl
+  reference_leads test type offset even matches passes = by_place (nat_lt (offset / 2) (length image.arrays)) refl
     where
       by_place : (b : Bool) → nat_lt (offset / 2) (length image.arrays) ≡ b
           → leads_to heap test (if b then Ref (first + offset / 2) else Null) ≡ true

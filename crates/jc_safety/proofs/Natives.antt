@@ -328,8 +328,7 @@ module _ {C : Type 0} (s : Surroundings C) (ground : Ground s) (m : Machine C) (
           → IsSafe s (with_given (spot heap runtime b us) value vs)
       gives_safe None None us vs site is =
           record {
-            fine = goes_on_typed None vs vs site (operands_still m.heap heap b.keeps shapes vs site.left
-                site.holds);
+            fine = goes_on_typed None vs vs site (operands_still m.heap heap b.keeps shapes vs site.left site.holds);
           }
       gives_safe (Some v) (Some u) us vs site is =
           let count = same_length (IsOperand shapes m.heap) vs site.left site.holds in

@@ -110,8 +110,7 @@ module _ {C : Type 0} (s : Surroundings C) (ground : Ground s) where
               shaped = p.shaped;
               state = w.leads.state;
               stated = w.leads.typed;
-              locals_typed =
-                  types_up shapes ground.order m.heap f.locals w.after.locals w.leads.state.locals b.0 has;
+              locals_typed = types_up shapes ground.order m.heap f.locals w.after.locals w.leads.state.locals b.0 has;
             };
             operands_typed =
                 operands_up shapes ground.order m.heap (with_it value) w.after.operands w.leads.state.operands b.1

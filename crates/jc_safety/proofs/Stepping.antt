@@ -31,8 +31,7 @@ use Rattle.jc_machine.specs.Going.{Here}
 use Rattle.jc_machine.specs.Lookup.{code_at, declared_at, instruction_at}
 use Rattle.jc_machine.specs.Machine.{Machine, Outcome, Stepped, Surroundings}
 use Rattle.jc_machine.specs.Objects.{act_object}
-use Rattle.jc_machine.specs.Step.{Called, act, act_at, continued, defensive_step, settled}
-use Rattle.jc_machine.specs.Step.{steps_of}
+use Rattle.jc_machine.specs.Step.{Called, act, act_at, continued, defensive_step, settled, steps_of}
 use Rattle.jc_machine.specs.declared.stop.Budget.{Budget}
 use Rattle.jc_machine.specs.declared.stop.CodePoint.{CodePoint}
 use Rattle.jc_machine.specs.Runtime.{arithmetic_exception}

@@ -187,7 +187,6 @@ module _ (below : ClassName → ClassName → Bool) (most : ℕ) (ds : List Dema
   unfolding after
   leaves_nothing a = grind arith
 
-  pub leaves_one : (u : Ty) → Applied below most (takes ds (Exactly u)) s t
-      → Leaves (u ∷ drop (length ds) s.operands)
+  pub leaves_one : (u : Ty) → Applied below most (takes ds (Exactly u)) s t → Leaves (u ∷ drop (length ds) s.operands)
   unfolding after
   leaves_one u a = grind arith

@@ -66,8 +66,7 @@ all_pass : {A B : Type 0} (P : B → Type 0) (f : A → B) (passes wanted : A �
     → AllByRecursion P (map f xs) → ((x : A) → P (f x) → passes x ≡ true → wanted x ≡ true)
     → list_all wanted (filter passes xs) ≡ true
 all_pass P f passes wanted [] h each = refl
-all_pass {A} {B} P f passes wanted (y ∷ xs) h each =
-    by_pass (passes y) refl (all_pass P f passes wanted xs h.1 each)
+all_pass {A} {B} P f passes wanted (y ∷ xs) h each = by_pass (passes y) refl (all_pass P f passes wanted xs h.1 each)
   where
     by_pass : (b : Bool) → passes y ≡ b → list_all wanted (filter passes xs) ≡ true
         → list_all wanted (cond b (y ∷ filter passes xs) (filter passes xs)) ≡ true

@@ -86,8 +86,7 @@ short_at image offset = 256 * byte_at image offset + byte_at image (offset + 1)
 
 -- the first references lead to the initialised arrays, of which the first has a number; the others are null
 abbrev pub reference_at : ℕ → StaticImage → ℕ → TaggedValue
-reference_at first image offset =
-    if nat_lt (offset / 2) (length image.arrays) then Ref (first + offset / 2) else Null
+reference_at first image offset = if nat_lt (offset / 2) (length image.arrays) then Ref (first + offset / 2) else Null
 
 -- what a field of a type holds at an offset of the image
 abbrev pub value_at : ℕ → StaticImage → ℕ → DeclaredType ClassRef → TaggedValue

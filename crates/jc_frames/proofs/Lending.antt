@@ -1,15 +1,14 @@
 -- What is left in words that were lent out of the top frame.
-use Rattle.std.proofs.Common.{◌≡◌, ◌⊎◌, inl, inr, suc, subst, [], ℕ, ◌+◌, ◌-◌, ◌≤◌, List, ◌∷◌, ◌++◌, length, map}
+use Rattle.std.proofs.Common.{◌≡◌, ◌⊎◌, inl, inr, suc, [], ℕ, ◌+◌, ◌-◌, ◌≤◌, List, ◌∷◌, ◌++◌, length}
 use Rattle.std.proofs.Common.{take, drop, reverse, Some, slice_get, refl, sym, ap, ◌∙◌, arith}
-use Rattle.std.proofs.lemmas.List.{length-append}
 use Rattle.std.specs.List.{refill}
-use Rattle.jc_frames.specs.Frames.{Frame, with_locals_left, with_operands, with_operands_left, written_over}
+use Rattle.jc_frames.specs.Frames.{with_words_left, written_over}
 use Rattle.jc_frames.specs.Operands.{of_first, words_of}
 use Rattle.jc_frames.specs.PrivateLaid.{AreLaid, first_word, frame_in, frames_in, part}
 use Rattle.jc_frames.specs.declared.place.FramePlace.{FramePlace}
 use Rattle.jc_frames.proofs.Places.{last_first, same_frames, top_ends}
-use Rattle.jc_frames.proofs.Words.{drop_first, drop_taken, drop_twice, filled_before, filled_part, left_over}
-use Rattle.jc_frames.proofs.Words.{part_before, part_length, take_both, take_first, take_less, take_long}
+use Rattle.jc_frames.proofs.Words.{drop_taken, drop_twice, filled_before, filled_part, left_over}
+use Rattle.jc_frames.proofs.Words.{part_length, take_both, take_less}
 
 module _ (places : List FramePlace) (words : List ℕ) (used : ℕ) (laid : AreLaid (reverse places) used)
     (within : used ≤ length words) (p : FramePlace)
@@ -33,39 +32,8 @@ module _ (places : List FramePlace) (words : List ℕ) (used : ℕ) (laid : AreL
   locals_length : length (part words p.start p.locals) ≡ p.locals
   locals_length = let e = ends in part_length words p.start p.locals (omega (arith, e, within))
 
-  pub operands_left : frames_in (filled (p.start + p.locals)) places
-      ≡ with_operands_left (frames_in words places) left
-  operands_left =
-      let e = ends in
-      let start : ℕ = p.start + p.locals in
-      let fits : start ≤ length words = omega (arith, e, within) in
-      let n : length (part words start p.operands) ≡ p.operands = operands_length in
-      let before : take start (filled start) ≡ take start words = filled_before words start left fits (length words)
-      fits in
-      let own : part (filled start) start p.operands
-      ≡ refill p.operands (part words start p.operands) left = filled_part words start left fits (length words)
-      p.operands (omega (arith, e, within)) in
-      let locals : part (filled start) p.start p.locals ≡ part words p.start p.locals =
-      sym (part_before (filled start) p.start p.locals start (omega arith))
-      ∙ ap (λ xs. part xs p.start p.locals) before ∙ part_before words p.start p.locals start (omega arith) in
-      let lower : take p.start (filled start) ≡ take p.start words = sym
-      (take_less (filled start) p.start start (omega arith)) ∙ ap (take p.start) before
-      ∙ take_less words p.start start (omega arith) in
-      frames_are (filled start) lower
-      ∙ ap (λ xs. record { header = p.header; locals = xs; operands = part (filled start) start p.operands } ∷
-      frames_in words (take (length places - 1) places)) locals
-      ∙ ap (λ xs. record { header = p.header; locals = part words p.start p.locals; operands = xs } ∷ frames_in words
-      (take (length places - 1) places)) own
-      ∙ ap (λ k. record {
-        header = p.header;
-        locals = part words p.start p.locals;
-        operands = refill k
-            (part words start p.operands) left;
-      } ∷ frames_in words (take (length places - 1) places)) (sym n)
-      ∙ ap (λ fs. with_operands_left fs left) (sym was)
-
-  pub locals_left : frames_in (filled p.start) places ≡ with_locals_left (frames_in words places) left
-  locals_left =
+  pub words_filled : frames_in (filled p.start) places ≡ with_words_left (frames_in words places) left
+  words_filled =
       let e = ends in
       let start : ℕ = p.start in
       let both : ℕ = p.locals + p.operands in
@@ -108,7 +76,7 @@ module _ (places : List FramePlace) (words : List ℕ) (used : ℕ) (laid : AreL
         operands = xs;
       } ∷ frames_in words
       (take (length places - 1) places)) operands
-      ∙ ap (λ fs. with_locals_left fs left) (sym was)
+      ∙ ap (λ fs. with_words_left fs left) (sym was)
 
 -- ---- locals and operands in one, also where there is no frame
 
@@ -134,14 +102,14 @@ module _ (places : List FramePlace) (words : List ℕ) (used : ℕ) (laid : AreL
   abbrev IsLeft : List ℕ → List FramePlace → ℕ → Type 0
   IsLeft left ps start = frames_in (take (length words)
       (left_over words start left ++ drop (length (left_over words start left)) words)) ps
-      ≡ with_locals_left (frames_in words ps) left
+      ≡ with_words_left (frames_in words ps) left
 
   pub words_left : (left : List ℕ) → IsLeft left places from
   words_left left = which (ends_in places)
     where
       which : (places ≡ []) ⊎ ((p : FramePlace) × (slice_get places (length places - 1) ≡ Some p))
           → IsLeft left places from
-      which h1 = grind (arith, reverse, last_first, locals_left)
+      which h1 = grind (arith, reverse, last_first, words_filled)
 
   pub words_lent : take (used - from) (drop from words) ≡ of_first [] words_of (frames_in words places)
   words_lent = which (ends_in places)
@@ -149,12 +117,3 @@ module _ (places : List FramePlace) (words : List ℕ) (used : ℕ) (laid : AreL
       which : (places ≡ []) ⊎ ((p : FramePlace) × (slice_get places (length places - 1) ≡ Some p))
           → take (used - from) (drop from words) ≡ of_first [] words_of (frames_in words places)
       which h1 = grind (arith, reverse, top_ends, last_first, take_both, drop_twice)
-
--- where as many words are left as were lent, they are the locals, or the operands
-pub same_locals : (f : Frame) (below : List Frame) (left : List ℕ) → length left ≡ length f.locals
-    → with_locals_left (f ∷ below) left ≡ record { header = f.header; locals = left; operands = f.operands } ∷ below
-same_locals f below left n = grind (arith, drop_first, take_long, length-append, take_first)
-
-pub same_operands : (f : Frame) (below : List Frame) (left : List ℕ) → length left ≡ length f.operands
-    → with_operands_left (f ∷ below) left ≡ with_operands f left ∷ below
-same_operands f below left n = grind (arith, take_first)

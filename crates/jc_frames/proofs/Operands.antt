@@ -1,16 +1,14 @@
 -- The operands in use of the frame at a place, and the words that hold them.
-use Rattle.std.proofs.Common.{◌≡◌, ◌⊎◌, ℕ, suc, ◌+◌, ◌-◌, ◌<◌, ◌≤◌, min, inl, inr, true, false, ◌&&◌, if◌then◌else◌}
+use Rattle.std.proofs.Common.{◌≡◌, ◌⊎◌, ℕ, suc, ◌+◌, ◌-◌, ◌<◌, ◌≤◌, min, inl, inr, true, false, if◌then◌else◌}
 use Rattle.std.proofs.Common.{nat_lt, nat_le, List, [], ◌∷◌, ◌++◌, length, take, drop, reverse, set, refl, sym, ap}
 use Rattle.std.proofs.Common.{◌∙◌, arith}
-use Rattle.std.proofs.lemmas.Bool.{and_from, le-leb, lt-ltb}
+use Rattle.std.proofs.lemmas.Bool.{lt-ltb}
 use Rattle.std.proofs.lemmas.Bool.Decides.{leb_tells}
-use Rattle.std.proofs.lemmas.List.{append_assoc, drop-set-add, drop-set-lt, length-append, length-drop}
+use Rattle.std.proofs.lemmas.List.{append_assoc, length-append, length-drop}
 use Rattle.std.proofs.lemmas.List.{length-reverse, length-take, length-take-le, reverse-append, reverse-reverse}
-use Rattle.std.proofs.lemmas.List.{set_split, take-append-drop, take-set-le}
-use Rattle.std.proofs.Math.Seq.{take-set-lt}
-use Rattle.jc_base.specs.Stack.{duplicated, swapped}
+use Rattle.std.proofs.lemmas.List.{set_split, take-append-drop}
 use Rattle.jc_frames.specs.Frames.{Frame}
-use Rattle.jc_frames.specs.Operands.{dropped, in_use, pushed, with_duplicated, with_in_use, with_local, with_swapped}
+use Rattle.jc_frames.specs.Operands.{dropped, in_use, pushed, with_in_use}
 use Rattle.jc_frames.specs.PrivateLaid.{IsChanged, IsWithin, frame_in, part}
 use Rattle.jc_frames.specs.declared.place.FramePlace.{FramePlace}
 use Rattle.jc_frames.proofs.Places.{more_first}
@@ -173,48 +171,3 @@ module _ (p : FramePlace) (words : List ℕ) (within : IsWithin p words) (from d
       ∙ ap (drop count) (sym in_use_are))
       refl (sym (ap (λ xs. take from words ++ xs) (take-append-drop n (drop from words))
       ∙ take-append-drop from words))
-
-  -- a slice that ends where what moved in it ends
-  module _ (n : ℕ) (old new others : List ℕ) (fits : n ≤ p.operands) (more : d ≤ n)
-      (was : old ≡ take n (drop from words)) (count : length new ≡ n)
-      (are : others ≡ take from words ++ (new ++ drop n (drop from words))) where
-    in_old : in_use f ≡ reverse (take d old)
-    in_old = in_use_are ∙ ap reverse (sym (take_less (drop from words) d n more) ∙ ap (take d) (sym was))
-
-    whole : take n new ≡ new
-    whole = take_long new n (omega (arith, count))
-
-    pub duplicate_changed : (again below : ℕ) → n ≡ d + again → again ≤ d → below ≤ d
-        → reverse (take n new) ≡ duplicated again below (reverse (take d old))
-        → IsChanged (with_duplicated again below) p words (record p { header = record p.header { depth = n } }) others
-    duplicate_changed again below n_is some deep moved =
-        let room = room_is in
-        let size = in_use_count in
-        let test : (nat_le again (length (in_use f)) && nat_le below (length (in_use f)) && nat_le
-        (length (in_use f) + again) (length f.operands)) ≡ true =
-        and_from (nat_le again (length (in_use f)) && nat_le below (length (in_use f)))
-        (nat_le (length (in_use f) + again) (length f.operands))
-        (and_from (nat_le again (length (in_use f))) (nat_le below (length (in_use f)))
-        (le-leb again (length (in_use f)) (omega (arith, size, some)))
-        (le-leb below (length (in_use f)) (omega (arith, size, deep))))
-        (le-leb (length (in_use f) + again) (length f.operands) (omega (arith, size, room, fits, n_is))) in
-        part_changed (with_duplicated again below) n (duplicated again below (in_use f)) new others fits count
-        (ap reverse (sym whole) ∙ moved ∙ ap (duplicated again below) (sym in_old))
-        (ap (λ b. if b then with_in_use f (duplicated again below (in_use f)) else f) test) are
-
-    pub swap_changed : (upper lower : ℕ) → n ≡ d → upper + lower ≤ d
-        → reverse (take n new) ≡ swapped upper lower (reverse (take d old))
-        → IsChanged (with_swapped upper lower) p words (record p { header = record p.header { depth = n } }) others
-    swap_changed upper lower n_is some moved =
-        let size = in_use_count in
-        let test : nat_le (upper + lower) (length (in_use f))
-        ≡ true = le-leb (upper + lower) (length (in_use f)) (omega (arith, size, some)) in
-        part_changed (with_swapped upper lower) n (swapped upper lower (in_use f)) new others fits count
-        (ap reverse (sym whole) ∙ moved ∙ ap (swapped upper lower) (sym in_old))
-        (ap (λ b. if b then with_in_use f (swapped upper lower (in_use f)) else f) test) are
-
--- ---- a local
-
-pub local_changed : (p : FramePlace) (words : List ℕ) (index word at : ℕ) → at ≡ p.start + index → index < p.locals
-    → IsChanged (with_local index word) p words p (set words at word)
-local_changed p words index word at at_is lt = grind (arith, set, drop-set-add, take-set-lt, drop-set-lt, take-set-le)

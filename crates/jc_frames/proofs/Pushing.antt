@@ -1,5 +1,6 @@
 -- One frame more, and one less.
-use Rattle.std.proofs.Common.{◌≡◌, ◌⊎◌, inl, inr, ℕ, zero, suc, ◌+◌, ◌-◌, ◌<◌, ◌≤◌, List, [], ◌∷◌, ◌++◌, length, map, take, drop, reverse, set, Some, slice_get, refl, sym, ap, subst, ◌∙◌, arith}
+use Rattle.std.proofs.Common.{◌≡◌, ◌⊎◌, ℕ, zero, suc, ◌+◌, ◌-◌, ◌<◌, ◌≤◌, List, [], ◌∷◌, ◌++◌, length, take}
+use Rattle.std.proofs.Common.{reverse, set, Some, slice_get, refl, sym, ap, subst, ◌∙◌, arith}
 use Rattle.std.proofs.lemmas.List.{length-append, length-set, length-take-le, take-set-le}
 use Rattle.jc_frames.specs.Frames.{Frames, IsFull, IsNew, IsPushed, with_frames, words_in}
 use Rattle.jc_frames.specs.PrivateLaid.{AreLaid, HasRoom, IsLaid, Sizes, frame_in, frames_in, put_at}

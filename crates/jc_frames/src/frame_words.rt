@@ -1,14 +1,11 @@
 //! The words of the frame at a place.
 
-ghost use Rattle.std.specs.Prelude.{◌≡◌, ◌+◌, ◌≤◌, length, min};
-ghost use Rattle.jc_frames.specs.Operands.{arguments_in, in_use, local_in, operand_in, pushed, with_duplicated};
-ghost use Rattle.jc_frames.specs.Operands.{with_local};
-ghost use Rattle.jc_frames.specs.Operands.{with_swapped};
+ghost use Rattle.std.specs.Prelude.{◌≡◌, ◌+◌, length, min};
+ghost use Rattle.jc_frames.specs.Operands.{arguments_in, in_use, local_in, operand_in, pushed};
 ghost use Rattle.jc_frames.specs.PrivateLaid.{IsChanged, IsWithin, frame_in};
 
 use crate::header::FrameSize;
 use crate::place::FramePlace;
-use jc_base::stack::{duplicate_top, swap_top};
 
 /// How many operands are in use; no more than there is room for.
 #[inline]
@@ -88,17 +85,6 @@ pub(crate) fn local_at(place: &FramePlace, words: &[u16], index: u8) -> u16
     }
 }
 
-/// Writes a local, where there is one with the index.
-#[inline]
-pub(crate) fn set_local_at(place: &mut FramePlace, words: &mut [u16], index: u8, word: u16)
-    requires { IsWithin place.old words.old }
-    ensures { IsChanged (with_local index word) place.old words.old place.new words.new }
-{
-    if u16::from(index) < place.locals {
-        words[usize::from(place.start) + usize::from(index)] = word;
-    }
-}
-
 /// Puts an operand on top, where there is room for it.
 #[inline]
 pub(crate) fn push_at(place: &mut FramePlace, words: &mut [u16], word: u16)
@@ -109,44 +95,5 @@ pub(crate) fn push_at(place: &mut FramePlace, words: &mut [u16], word: u16)
     if depth < place.operands {
         place.header.depth = depth + 1;
         words[operands_at(place) + usize::from(depth)] = word;
-    }
-}
-
-/// Puts so many of the top operands again, below others, where these are there and there is room.
-#[inline]
-pub(crate) fn duplicate_at(place: &mut FramePlace, words: &mut [u16], count: u8, below: u8)
-    requires { IsWithin place.old words.old }
-    ensures { IsChanged (with_duplicated count below) place.old words.old place.new words.new }
-{
-    let depth = depth_at(place);
-    if count <= depth && below <= depth && count <= place.operands - depth {
-        let start = operands_at(place);
-        let more = depth + count;
-        place.header.depth = more;
-        duplicate_top(
-            &mut words[start..start + usize::from(more)],
-            usize::from(depth),
-            usize::from(count),
-            usize::from(below),
-        );
-    }
-}
-
-/// So many of the top operands and so many below them change places, where they are there.
-#[inline]
-pub(crate) fn swap_at(place: &mut FramePlace, words: &mut [u16], upper: u8, lower: u8)
-    requires { IsWithin place.old words.old }
-    ensures { IsChanged (with_swapped upper lower) place.old words.old place.new words.new }
-{
-    let depth = depth_at(place);
-    if upper <= depth && lower <= depth - upper {
-        let start = operands_at(place);
-        place.header.depth = depth;
-        swap_top(
-            &mut words[start..start + usize::from(depth)],
-            usize::from(depth),
-            usize::from(upper),
-            usize::from(lower),
-        );
     }
 }

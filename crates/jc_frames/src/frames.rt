@@ -1,20 +1,16 @@
 //! The frames of the methods that run.
 
 ghost use Rattle.std.specs.Prelude.{◌≡◌, ◌+◌, ◌≤◌, ℕ, List, true, false, [], ◌∷◌, Some, None};
-ghost use Rattle.std.specs.Prelude.{length, nat_le, take, drop, reverse, slice_get, slice_range, IfOk};
+ghost use Rattle.std.specs.Prelude.{length, nat_le, take, drop, reverse, slice_range, IfOk};
 ghost use Rattle.std.specs.Borrow.{sem};
-ghost use Rattle.jc_frames.specs.Frames.{Frame, HasOperands, HasTop, IsFull, IsPushed, with_frames};
-ghost use Rattle.jc_frames.specs.Frames.{with_locals, with_locals_left, with_operands, with_operands_left};
-ghost use Rattle.jc_frames.specs.Lending.{LendsLocals, LendsOperands, LendsWords};
+ghost use Rattle.jc_frames.specs.Frames.{Frame, HasOperands, HasTop, IsFull, IsPushed, with_frames, with_words_left};
+ghost use Rattle.jc_frames.specs.Lending.{LendsWords};
 ghost use Rattle.jc_frames.specs.Operands.{HasInUse, arguments_in, at_pc, dropped, in_use, local_in, of_top, on_top};
-ghost use Rattle.jc_frames.specs.Operands.{operand_in, placed, pushed, with_duplicated, with_in_use, with_local};
-ghost use Rattle.jc_frames.specs.Operands.{with_swapped};
-ghost use Rattle.jc_frames.specs.Operands.{with_words, words_of};
+ghost use Rattle.jc_frames.specs.Operands.{operand_in, placed, pushed, with_in_use, with_words, words_of};
 ghost use Rattle.jc_frames.specs.PrivateLaid.{HasRoom};
 
 use crate::frame_words::{
-    arguments_at, depth_at, duplicate_at, in_use_at, local_at, operand_at, push_at, set_local_at,
-    size_at, swap_at,
+    arguments_at, depth_at, in_use_at, local_at, operand_at, push_at, size_at,
 };
 use crate::header::{FrameHeader, FrameSize};
 use crate::place::{FramePlace, copy_arguments, put_arguments, top_of, top_start};
@@ -86,42 +82,6 @@ impl Frames {
         ensures { result ≡ nat_le self.now.most_frames (length self.now.frames) }
     {
         usize::from(self.most_frames) <= self.places.len()
-    }
-
-    /// What is known of the top frame.
-    #[inline]
-    pub fn header(&self) -> FrameHeader
-        requires there { HasTop self.now }
-        ensures { (top : Frame) (below : List Frame) → self.now.frames ≡ top ∷ below → result ≡ top.header }
-    {
-        top_of(&self.places).header
-    }
-
-    /// The locals of the top frame, for writing.
-    #[inline]
-    pub fn locals(&mut self) -> &mut [u16]
-        requires there { HasTop self.old }
-        ensures* given_back { sem 𝓛 (LendsLocals self.entry result) }
-        ensures locals { (top : Frame) (below : List Frame) → self.old.frames ≡ top ∷ below → result.now ≡ top.locals }
-    {
-        let place = top_of(&self.places);
-        let start = usize::from(place.start);
-        self.words
-            .slice_mut(start..start + usize::from(place.locals))
-    }
-
-    /// The operands of the top frame, for writing.
-    #[inline]
-    pub fn operands(&mut self) -> &mut [u16]
-        requires there { HasTop self.old }
-        ensures* given_back { sem 𝓛 (LendsOperands self.entry result) }
-        ensures operands { (top : Frame) (below : List Frame) → self.old.frames ≡ top ∷ below
-            → result.now ≡ top.operands }
-    {
-        let place = top_of(&self.places);
-        let start = usize::from(place.start) + usize::from(place.locals);
-        self.words
-            .slice_mut(start..start + usize::from(place.operands))
     }
 
     // Whether there is room for one frame more of a size.
@@ -289,40 +249,6 @@ impl Frames {
         place.header.depth = depth_at(place).saturating_sub(count);
     }
 
-    /// Puts so many of the top operands again, below so many of the top ones; below none is on top. Nothing is changed
-    /// where they aren't there, or there is no room.
-    #[inline]
-    pub fn duplicate_operands(&mut self, count: u8, below: u8)
-        ensures { self.new ≡ on_top (with_duplicated count below) self.old }
-    {
-        let Some(place) = self.places.last_mut() else {
-            return;
-        };
-        duplicate_at(place, &mut self.words, count, below);
-    }
-
-    /// So many of the top operands and so many below them change places, where they are there.
-    #[inline]
-    pub fn swap_operands(&mut self, upper: u8, lower: u8)
-        ensures { self.new ≡ on_top (with_swapped upper lower) self.old }
-    {
-        let Some(place) = self.places.last_mut() else {
-            return;
-        };
-        swap_at(place, &mut self.words, upper, lower);
-    }
-
-    /// Writes a local of the top frame, where there is one with the index.
-    #[inline]
-    pub fn set_local(&mut self, index: u8, word: u16)
-        ensures { self.new ≡ on_top (with_local index word) self.old }
-    {
-        let Some(place) = self.places.last_mut() else {
-            return;
-        };
-        set_local_at(place, &mut self.words, index, word);
-    }
-
     /// The top frame is at another pc.
     #[inline]
     pub fn set_pc(&mut self, pc: u16)
@@ -430,24 +356,18 @@ impl Frames {
     }
 }
 
-/// As many words as were lent are left in a slice, so what is left are the locals, or the operands, or both.
+/// As many words as were lent are left in a slice, so what is left are the locals and the operands.
 pub fn lending_laws()
-    ensures locals { (top : Frame) (below : List Frame) (left : List ℕ) → length left ≡ length top.locals
-        → with_locals_left (top ∷ below) left ≡ with_locals top left ∷ below }
-    ensures operands { (top : Frame) (below : List Frame) (left : List ℕ) → length left ≡ length top.operands
-        → with_operands_left (top ∷ below) left ≡ with_operands top left ∷ below }
     ensures words { (top : Frame) (below : List Frame) (left : List ℕ)
         → length left ≡ length top.locals + length top.operands
-        → with_locals_left (top ∷ below) left ≡ with_words top left ∷ below }
+        → with_words_left (top ∷ below) left ≡ with_words top left ∷ below }
 {}
 
-/// What holds of the operands in use, and of the locals.
+/// What holds of the operands in use.
 pub fn operand_laws()
     ensures in_use { (f : Frame) (words : List ℕ) → in_use (with_in_use f words) ≡ words }
     ensures within { (f : Frame) → length (in_use f) ≤ length f.operands }
     ensures room { (f : Frame) (words : List ℕ) → length words ≤ length f.operands
         → length (with_in_use f words).operands ≡ length f.operands }
     ensures at_pc { (f : Frame) (pc : ℕ) → in_use (at_pc pc f) ≡ in_use f }
-    ensures with_local { (f : Frame) (index word : ℕ) → in_use (with_local index word f) ≡ in_use f }
-    ensures locals { (f : Frame) (index word : ℕ) → length (with_local index word f).locals ≡ length f.locals }
 {}

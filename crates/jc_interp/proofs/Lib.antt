@@ -1,4 +1,3 @@
-mod Cases
 mod Points
 mod Framing
 mod ClassEntries
@@ -36,6 +35,7 @@ mod WordRoom
 mod WordScenes
 mod Leafing
 mod SceneSteps
+mod Stopping
 mod LeafRuns
 mod LeafCalls
 mod LoadedAgree

@@ -7,7 +7,6 @@ pub mod Calling
 pub mod PrivateSeen
 pub mod PrivateDone
 pub mod PrivateReturns
-pub mod PrivateWords
 pub mod PrivateArrays
 pub mod PrivateFields
 pub mod PrivateCasts

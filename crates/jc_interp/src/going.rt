@@ -1,24 +1,11 @@
 //! How an instruction goes on.
 
 ghost use Rattle.std.specs.Prelude.{◌≡◌};
-ghost use Rattle.jc_code.specs.Targets.{target_of};
-ghost use Rattle.jc_interp.specs.PrivateDone.{branches, done, gives, goes_to, leaves, local, operand, pc_of, puts};
-ghost use Rattle.jc_interp.specs.PrivateDone.{place_at};
+ghost use Rattle.jc_interp.specs.PrivateDone.{done, gives, goes_to, leaves, local, operand, puts};
 
 use crate::ends::StepEnd;
 use crate::here::Here;
 use crate::machine::WordMachine;
-
-/// The place that lies an offset from a pc; 0 where it is none of 16 bits.
-#[inline]
-fn place_from(pc: u16, offset: i16) -> u16
-    ensures { result ≡ pc_of (target_of pc offset) }
-{
-    match u16::try_from(i32::from(pc) + i32::from(offset)) {
-        Ok(place) => place,
-        Err(_) => 0,
-    }
-}
 
 impl WordMachine {
     /// The operand with an index, the top one first.
@@ -69,25 +56,5 @@ impl WordMachine {
     {
         self.frames.drop_operands(count);
         self.puts(here, word)
-    }
-
-    /// A branch that takes so many operands.
-    #[inline]
-    pub(crate) fn branches(
-        &mut self,
-        here: &Here<'_>,
-        taken: bool,
-        count: u8,
-        offset: i16,
-    ) -> StepEnd
-        ensures { done self.new result ≡ branches here.now taken count offset self.old }
-    {
-        let pc = if taken {
-            place_from(here.frame.pc, offset)
-        } else {
-            here.next_pc
-        };
-        self.frames.drop_operands(count);
-        self.goes_to(pc)
     }
 }

@@ -30,10 +30,9 @@ mod statics;
 mod step;
 mod told;
 mod unwinding;
-mod words;
 
 pub use call::FirstCall;
-pub use ends::{RunEnd, StepEnd};
+pub use ends::RunEnd;
 pub use image::static_words;
 pub use laws::loads_stay_in_agreement;
 pub use machine::WordMachine;

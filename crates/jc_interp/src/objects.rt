@@ -12,7 +12,7 @@ use jc_code::ObjectOperation;
 use jc_machine::Natives;
 
 impl WordMachine {
-    /// An instruction on references.
+    /// An instruction on references at which the loop stopped.
     pub(crate) fn perform_object<N: Natives>(
         &mut self,
         natives: &mut N,
@@ -23,15 +23,12 @@ impl WordMachine {
             (done_with (done self.new result) (N.kept natives.new)) (do_object here.now operation self.old) }
     {
         match operation {
-            ObjectOperation::PushNull => self.puts(here, 0),
-            ObjectOperation::Load(local) => self.puts(here, self.local(local)),
-            ObjectOperation::Store(local) => self.store_local(here, local),
+            // The loop has these, and never stops at them.
+            ObjectOperation::PushNull | ObjectOperation::Load(_) => StepEnd::UsedUp,
+            ObjectOperation::Store(_) | ObjectOperation::Branch { .. } => StepEnd::UsedUp,
             ObjectOperation::LoadComponent(form) => self.load_component(here, form),
             ObjectOperation::StoreComponent(form) => self.store_component(here, form),
             ObjectOperation::ArrayLength => self.array_length(here),
-            ObjectOperation::Branch { when, offset } => {
-                self.branch_on_reference(here, when, offset)
-            }
             ObjectOperation::Field { access, index } => self.perform_field(here, access, index),
             ObjectOperation::Invoke(invocation) => self.invoke(natives, here, invocation),
             ObjectOperation::Create(creation) => self.perform_creation(here, creation),

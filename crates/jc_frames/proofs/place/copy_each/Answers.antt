@@ -1,4 +1,4 @@
-use Rattle.std.proofs.Common.{◌≡◌, ◌+◌, ◌∙◌, ap, arith, drop, get_or, set}
+use Rattle.std.proofs.Common.{◌+◌, ◌∙◌, ap, arith, drop, get_or, set}
 use Rattle.std.proofs.Math.Seq.{paste-zero}
 use Rattle.jc_frames.proofs.Copying.{all_copied, copied_more}
 use Rattle.jc_frames.proofs.place.copy_each.Goals as goal

@@ -1,4 +1,4 @@
-use Rattle.std.proofs.Common.{◌≡◌, ◌<◌, false, nat_eq, zero, suc, ℕ, sym, ap, ◌∙◌, arith, vec_len}
+use Rattle.std.proofs.Common.{◌≡◌, ◌<◌, false, nat_eq, ℕ, sym, ap, ◌∙◌, arith, vec_len}
 use Rattle.jc_frames.specs.Frames.{Frames}
 use Rattle.jc_frames.proofs.Tops.{has_top}
 use Rattle.jc_frames.proofs.frames.Frames.drop_frame.Goals as goal

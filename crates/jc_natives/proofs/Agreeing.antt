@@ -46,8 +46,7 @@ of_range None rest = rest
 of_range (Some r) rest = HasRange r.array r.offset r.length ∷ rest
 
 abbrev pub checks_of : MemberRow → List Check
-checks_of row =
-    of_test row.first (of_test row.second (of_range row.first_range (of_range row.second_range [])))
+checks_of row = of_test row.first (of_test row.second (of_range row.first_range (of_range row.second_range [])))
 
 -- ---- both come to the same, or the tests on tagged values are stuck, with accesses that were allowed
 
@@ -99,8 +98,7 @@ module _ (ts us : List Touch) (t : Checked) (u : Tested) where
       stuck (rest ++ u.touches) (ap (λ x. x ++ u.touches) e ∙ append_assoc ts rest u.touches) refl g
   both_follow Unfit (Some object) (stuck rest e f g) k = stuck rest e refl g
 
-follow : (t t2 : Checked) (u u2 : Tested) → Agrees t u → Agrees t2 u2
-    → Agrees (checks.followed t t2) (followed u u2)
+follow : (t t2 : Checked) (u u2 : Tested) → Agrees t u → Agrees t2 u2 → Agrees (checks.followed t t2) (followed u u2)
 follow t t2 u u2 a b = both_follow t.touches u.touches t2 u2 t.ends u.thrown a b
 
 not_zero : (n : ℕ) → (suc n == 0) ≡ false
@@ -140,8 +138,7 @@ module _ (w : World) (call : NativeCall Kept) where
     abbrev used_so : ℕ → Tested
     used_so number = cond (number == 0) also (used s way number)
 
-    object_agrees : (n : ℕ)
-        → Agrees (option_map_or (checks.judged h way n) (object_at heap n) unfit) (used_so n)
+    object_agrees : (n : ℕ) → Agrees (option_map_or (checks.judged h way n) (object_at heap n) unfit) (used_so n)
     object_agrees zero = stops (used_so 0)
     object_agrees (suc n) =
         subst (λ b. Agrees (option_map_or (checks.judged h way (suc n)) (object_at heap (suc n)) unfit)
@@ -175,8 +172,7 @@ module _ (w : World) (call : NativeCall Kept) where
   not_null : (way : Way) (number : ℕ) → cond (number == 0) (fails 6) (used s way number) ≡ used s way number
   not_null way number = grind (arith, not_zero)
 
-  object_used : (place : ℕ) (way : Way)
-      → Agrees (uses h place way (refused 6)) (used s way (argument args place))
+  object_used : (place : ℕ) (way : Way) → Agrees (uses h place way (refused 6)) (used s way (argument args place))
   object_used place way =
       subst (Agrees (uses h place way (refused 6))) (not_null way (argument args place))
       (uses_agree way (refused 6) (fails 6) (same refl refl (λ e. absurd cc)) place)
@@ -205,8 +201,7 @@ module _ (w : World) (call : NativeCall Kept) where
       (sym (size_is heap number o found))))))
 
   range_agrees : (r : Range) → Only (checks.is_in_range h r.array r.offset r.length) (is_in_range s args r)
-  range_agrees r =
-      at_reference w call r.array _ _ (by_null (argument args r.array == 0))
+  range_agrees r = at_reference w call r.array _ _ (by_null (argument args r.array == 0))
     where
       by_null : (b : Bool)
           → Only (cond b (Some true) (checks.is_range_in h (argument args r.array) r.offset r.length))

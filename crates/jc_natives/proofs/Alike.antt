@@ -17,7 +17,7 @@ use Rattle.jc_natives.specs.Kept.{Kept}
 use Rattle.jc_natives.specs.Meaning.{answer_of, begun, done, ended, unchanged, with_room}
 use Rattle.jc_natives.specs.Members.{member_of_native, natives}
 use Rattle.jc_natives.specs.PrivateMeaning.{answer_on_words, begun_on_words, ended_on_words, work_of}
-use Rattle.jc_natives.specs.PrivateRows.{row_of}
+use Rattle.jc_natives.specs.PrivateMeaning.{row_of}
 use Rattle.jc_natives.specs.PrivateSeen.{Seen, arguments_of, seen_of}
 use Rattle.jc_natives.specs.PrivateTests.{tested}
 use Rattle.jc_natives.specs.Taking.{Called, called}

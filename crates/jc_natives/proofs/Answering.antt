@@ -21,7 +21,7 @@ use Rattle.jc_natives.specs.Meaning.{own_touches, registering, unchanged, with_r
 use Rattle.jc_natives.specs.Members.{natives}
 use Rattle.jc_natives.specs.PrivateCells.{argument}
 use Rattle.jc_natives.specs.PrivateMeaning.{answer_on_words, begun_on_words, ended_on_words, work_of}
-use Rattle.jc_natives.specs.PrivateRows.{row_of}
+use Rattle.jc_natives.specs.PrivateMeaning.{row_of}
 use Rattle.jc_natives.specs.PrivateSeen.{Seen, arguments_of, seen_of}
 use Rattle.jc_natives.specs.PrivateTests.{Tested, by_verdict, followed, on_object, tested, used}
 use Rattle.jc_natives.specs.Work.{Asks, Does, Ending, Makes, NewArray, Throws, Work, no_transient_space}
@@ -110,8 +110,7 @@ module _ (w : World) (call : NativeCall Kept) where
       record {
         touches = all_both (IsJudged (setting_for meaning w call)) touches (own_touches call.heap writes)
             (natives_of w call touches uses) (own_natives w call touches writes placed);
-        guarded = allowed (allowed_both touches (own_touches call.heap writes) fine
-            (own_allowed w call writes));
+        guarded = allowed (allowed_both touches (own_touches call.heap writes) fine (own_allowed w call writes));
         kept = keeps_written call.heap writes;
         changes = changes_accessed w call touches writes uses fine placed;
         adds = λ number o found none.
@@ -169,8 +168,7 @@ module _ (w : World) (call : NativeCall Kept) where
             from = 0;
             words = no_transient_space ∷ [];
           } ∷ []) call.runtime (Throws system_exception) uses fine ((owns call touches).system, tt)
-  done_fine touches (Asks question) uses fine placed =
-      unchanged_fine touches _ uses (allowed fine) (asks_so _ refl)
+  done_fine touches (Asks question) uses fine placed = unchanged_fine touches _ uses (allowed fine) (asks_so _ refl)
 
   abbrev s : Seen
   s = seen_of w call
@@ -185,8 +183,7 @@ module _ (w : World) (call : NativeCall Kept) where
     abbrev work : Work
     work = work_of s call.runtime args native
 
-    placed_work : t.thrown ≡ None
-        → IsApartWork (IsPlaced (registering call.runtime) t.touches) s call.runtime work
+    placed_work : t.thrown ≡ None → IsApartWork (IsPlaced (registering call.runtime) t.touches) s call.runtime work
     placed_work e =
         work_apart (IsPlaced (registering call.runtime) t.touches) s call.runtime (owns call t.touches) args native own
         (λ place way change by. record {

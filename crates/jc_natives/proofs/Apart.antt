@@ -34,7 +34,7 @@ use Rattle.jc_natives.specs.Members.{natives}
 use Rattle.jc_natives.specs.PrivateApplets.{owner_of}
 use Rattle.jc_natives.specs.PrivateCells.{bare, bared}
 use Rattle.jc_natives.specs.PrivateMeaning.{answer_on_words, begun_on_words, ended_on_words, work_of}
-use Rattle.jc_natives.specs.PrivateRows.{row_of}
+use Rattle.jc_natives.specs.PrivateMeaning.{row_of}
 use Rattle.jc_natives.specs.PrivateSeen.{Seen, arguments_of, seen_of}
 use Rattle.jc_natives.specs.PrivateTests.{tested}
 use Rattle.jc_natives.specs.declared.kept.Installing.{Installing}

@@ -20,7 +20,6 @@ use Rattle.jc_names.specs.declared.name.ClassName.TheVariants.{Api}
 use Rattle.jc_natives.specs.MemberTypes.{counted_name}
 use Rattle.jc_natives.proofs.Bare.{both}
 use Rattle.jc_natives.proofs.Simulation.{passed_some}
-use Rattle.jc_natives.proofs.Suits.{IsBytes}
 use Rattle.jc_natives.specs.Cells.{bits}
 use Rattle.jc_natives.specs.Kept.{is_instance_number}
 use Rattle.jc_natives.specs.Meaning.{fits_instance}
@@ -30,6 +29,10 @@ use Rattle.jc_store.specs.Heap.{Heap, Object, object_at}
 use Rattle.jc_store.specs.declared.kind.ObjectType.{ObjectType}
 use Rattle.jc_store.specs.declared.kind.ObjectType.TheVariants.{ByteArray}
 use Rattle.jc_words.specs.Values.{TaggedValue}
+
+-- a parameter is an array of bytes
+abbrev pub IsBytes : ApiMember → ℕ → Type 0
+IsBytes m place = slice_get m.signature.parameters place ≡ Some types.ByteArray
 
 -- ---- arguments
 

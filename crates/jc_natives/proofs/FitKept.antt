@@ -25,8 +25,8 @@ use Rattle.jc_natives.proofs.FitWrites.{system_thrown}
 use Rattle.jc_natives.proofs.Keeping.{both_are}
 use Rattle.jc_natives.proofs.Numbered.{registered_numbers}
 use Rattle.jc_natives.proofs.Ranges.{length_of_bytes}
-use Rattle.jc_natives.proofs.Suits as suits
-use Rattle.jc_natives.proofs.Suits.{Gives}
+use Rattle.jc_natives.proofs.Takes as suits
+use Rattle.jc_natives.proofs.Takes.{Gives}
 use Rattle.jc_natives.specs.Cells.{is_count}
 use Rattle.jc_natives.specs.Kept.{are_bytes, has_aid_length, has_numbers, instance_with, is_aid}
 use Rattle.jc_natives.specs.Kept.{is_instance_number, now_registered, waits, with_instance}

@@ -1,7 +1,6 @@
 -- A work that fits leaves objects typed and ends as it is declared to; and what tests throw may be thrown.
 use Rattle.std.specs.Prelude.{⊤}
-use Rattle.std.proofs.Common.{◌≡◌, ℕ, ◌<◌, Bool, true, cond, List, [], ◌∷◌, Option, Some, None}
-use Rattle.std.proofs.Common.{refl, ap, ◌∙◌, arith}
+use Rattle.std.proofs.Common.{◌≡◌, ℕ, ◌<◌, Bool, true, cond, List, [], ◌∷◌, Option, Some, None, refl, ap, ◌∙◌, arith}
 use Rattle.std.proofs.lemmas.Bool.{lt-ltb}
 use Rattle.jc_api.specs.declared.class.ApiClass.{ApiClass}
 use Rattle.jc_api.specs.declared.class.ApiClass.TheVariants as api
@@ -21,16 +20,15 @@ use Rattle.jc_natives.proofs.FitWrites.{Known, Writes, index_thrown, null_thrown
 use Rattle.jc_natives.proofs.FitWrites.{system_reason, system_thrown}
 use Rattle.jc_natives.proofs.Guarding.{keeps_new, keeps_written}
 use Rattle.jc_natives.proofs.Keeping.{array_typed, kept_fits_still, type_still, write_typed}
-use Rattle.jc_natives.proofs.Suits as suits
-use Rattle.jc_natives.proofs.Suits.{Gives, is_word_type}
+use Rattle.jc_natives.proofs.Takes as suits
+use Rattle.jc_natives.proofs.Takes.{Gives, is_word_type}
 use Rattle.jc_natives.specs.Cells.{Write, has_room, written}
 use Rattle.jc_natives.specs.Kept.{Kept}
 use Rattle.jc_natives.specs.Meaning.{array_or_refusal, asked, did, done, end_of, fits_kept, new_array, reference}
 use Rattle.jc_natives.specs.Meaning.{with_room}
 use Rattle.jc_natives.specs.PrivateMeaning.{ended_on_words}
 use Rattle.jc_natives.specs.PrivateSeen.{Seen}
-use Rattle.jc_natives.specs.PrivateTests.{Tested, by_verdict, followed}
-use Rattle.jc_natives.specs.PrivateTests.{on_object, ranged, test, tested, used}
+use Rattle.jc_natives.specs.PrivateTests.{Tested, by_verdict, followed, on_object, ranged, test, tested, used}
 use Rattle.jc_natives.specs.Work.{Asks, Does, Ending, GivesReference, GivesWord, Makes, NoResult, Throws, Work}
 use Rattle.jc_natives.specs.declared.ended.Question.{Question}
 use Rattle.jc_natives.specs.declared.row.Range.{Range}
@@ -188,11 +186,11 @@ module _ (known : Known) where
     pub void_ends : Gives suits.nothing r → Ends NoResult
     void_ends g = gives_as Void g None call.heap refl
 
-    pub word_ends : (n : ℕ) → n < 65536 → Gives suits.word r → Ends (GivesWord n)
+    pub word_ends : (n : ℕ) → n < 65536 → Gives suits.a_word r → Ends (GivesWord n)
     word_ends n small g = grind (arith, gives_as, is_word_type, lt-ltb)
 
     pub null_ends : Gives suits.shareable r → Ends (GivesReference 0)
     null_ends g = gives_as (Value (types.Reference api.Shareable)) g (Some Null) call.heap refl
 
-    pub buffer_ends : Gives suits.bytes r → Ends (GivesReference 12)
+    pub buffer_ends : Gives suits.some_bytes r → Ends (GivesReference 12)
     buffer_ends g = grind (arith, own_object, gives_as)

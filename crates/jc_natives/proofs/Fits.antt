@@ -32,8 +32,8 @@ use Rattle.jc_natives.proofs.FitWrites.{runtime_reason, same_bytes_fit, system_r
 use Rattle.jc_natives.proofs.Keeping.{FitsWrite, both_are}
 use Rattle.jc_natives.proofs.Ranges.{length_of_bytes}
 use Rattle.jc_natives.proofs.Simulation.{passed_some}
-use Rattle.jc_natives.proofs.Suits as suits
-use Rattle.jc_natives.proofs.Suits.{Gives, HasObject, HasReason, Suits}
+use Rattle.jc_natives.proofs.Takes as suits
+use Rattle.jc_natives.proofs.Takes.{Gives, HasObject, HasReason, Suits}
 use Rattle.jc_natives.specs.Cells.{extended, high, low}
 use Rattle.jc_natives.specs.Kept.{Kept, are_bytes, expected_of, has_aid_length, instance_with, is_fresh}
 use Rattle.jc_natives.specs.Kept.{is_incoming, is_length_set, is_outgoing}
@@ -82,8 +82,7 @@ module _ (known : Known) where
       (asking_signature : signature_map counted_name asking.signature
       ≡ record {
         parameters = types.Reference (Api api.Aid) ∷ types.Byte ∷ [];
-        result =
-            Value (types.Reference (Api api.Object));
+        result = Value (types.Reference (Api api.Object));
       })
     where
       abbrev s : Seen
@@ -101,14 +100,14 @@ module _ (known : Known) where
       nothing_given : Gives suits.nothing m.signature.result → Fits known (Does [] k NoResult)
       nothing_given g = (tt, (fit.fits, void_ends known m.signature.result is g))
 
-      word_given : (n : ℕ) → n < 65536 → Gives suits.word m.signature.result → Fits known (Does [] k (GivesWord n))
+      word_given : (n : ℕ) → n < 65536 → Gives suits.a_word m.signature.result → Fits known (Does [] k (GivesWord n))
       word_given n small g = (tt, (fit.fits, word_ends known m.signature.result is n small g))
 
       null_given : Gives suits.shareable m.signature.result → Fits known (Does [] k (GivesReference 0))
       null_given g = (tt, (fit.fits, null_ends known m.signature.result is g))
 
       aid_given : (n : ℕ) → leads_to call.heap (is_of_class w.shapes (Api api.Aid)) (reference n) ≡ true
-          → Gives suits.aid m.signature.result → Fits known (Does [] k (GivesReference n))
+          → Gives suits.an_aid m.signature.result → Fits known (Does [] k (GivesReference n))
       aid_given n leads g = grind (arith, leads, gives_as)
 
       -- the object of a member

@@ -278,8 +278,7 @@ pub record IsPlaced (registers : Option ℕ) (touches : List Touch) (by : By) (n
   pub runtime : by ≡ ByRuntime → is_runtimes registers number ≡ true
 
 abbrev pub ArePlaced : Option ℕ → List Touch → List Write → Type 0
-ArePlaced registers touches writes =
-    AllByRecursion (λ (x : Write). IsPlaced registers touches x.by x.object) writes
+ArePlaced registers touches writes = AllByRecursion (λ (x : Write). IsPlaced registers touches x.by x.object) writes
 
 module _ (w : World) (call : NativeCall Kept) where
   abbrev active : ℕ

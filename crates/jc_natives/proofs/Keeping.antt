@@ -26,7 +26,7 @@ use Rattle.jc_natives.proofs.Putting.{put_none, put_some}
 use Rattle.jc_natives.proofs.Simulation.{passed_some}
 use Rattle.jc_natives.specs.Cells.{Write, put, put_all, written}
 use Rattle.jc_natives.specs.Kept.{Kept, is_aid, is_instance_number, is_same_owner}
-use Rattle.jc_natives.specs.Meaning.{blank_of, fits_installing, fits_instance, fits_kept, has_applet, new_array}
+use Rattle.jc_natives.specs.Meaning.{blank_of, fits_instance, fits_kept, has_applet, new_array}
 use Rattle.jc_natives.specs.Work.{NewArray, array_type}
 use Rattle.jc_natives.specs.declared.kept.Instance.{Instance}
 use Rattle.jc_natives.specs.declared.native.Elements.{Elements}

@@ -33,7 +33,7 @@ use Rattle.jc_natives.proofs.Answering.{answers_guarded}
 use Rattle.jc_natives.proofs.Keeping.{kept_fits_still}
 use Rattle.jc_natives.proofs.Simulation.{Begins, begins_of}
 use Rattle.jc_natives.proofs.Same.{same_answer}
-use Rattle.jc_natives.proofs.Suits.{suits}
+use Rattle.jc_natives.proofs.Takes.{suits}
 use Rattle.jc_natives.specs.Kept.{Kept}
 use Rattle.jc_natives.specs.Meaning.{answer_of, meaning, unchanged}
 use Rattle.jc_natives.specs.Members.{natives}

@@ -10,7 +10,6 @@ mod Guarding
 mod Keeping
 mod Numbers
 mod Tables
-mod Suits
 mod Facts
 mod FitWrites
 mod FitWork

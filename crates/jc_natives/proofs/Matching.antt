@@ -34,8 +34,7 @@ goes_with go o x y h1 h2 = grind arith
 pub mapped : {A B : Type 0} (f : A → B) (o : Option A) (x : A) → Only o x → Only (option_map f o) (f x)
 mapped f o x h1 = grind arith
 
-pub either : {A : Type 0} (b : Bool) (o p : Option A) (x y : A) → Only o x → Only p y
-    → Only (cond b o p) (cond b x y)
+pub either : {A : Type 0} (b : Bool) (o p : Option A) (x y : A) → Only o x → Only p y → Only (cond b o p) (cond b x y)
 either b o p x y h1 h2 = grind arith
 
 -- ---- values

@@ -12,8 +12,7 @@ use Rattle.jc_natives.specs.declared.row.Way.{Way}
 use Rattle.jc_store.specs.Store.{IsOwn, Store}
 
 -- no use stores a reference
-stores_none : (way : Way)
-    → (stores_reference (access_of way) && option_map_or is_never_stored None false) ≡ false
+stores_none : (way : Way) → (stores_reference (access_of way) && option_map_or is_never_stored None false) ≡ false
 stores_none way = grind arith
 
 -- the runtime may use each object in each way

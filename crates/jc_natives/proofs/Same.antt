@@ -23,7 +23,7 @@ use Rattle.jc_natives.proofs.Unstuck.{has_words, is_fit, object_leads, of_leads,
 use Rattle.jc_natives.proofs.Unstuck.{there_unless_null}
 use Rattle.jc_natives.specs.Checks.{Passed, TestEnd, are_aids}
 use Rattle.jc_natives.specs.Cells.{is_within}
-use Rattle.jc_natives.specs.Kept.{Kept, has_aid_length, is_fresh, is_incoming, is_length_set, is_outgoing, most_sent}
+use Rattle.jc_natives.specs.Kept.{Kept, has_aid_length, is_incoming, most_sent}
 use Rattle.jc_natives.specs.Meaning.{answer_of, begun, done, end_of, ended}
 use Rattle.jc_natives.specs.Members as members
 use Rattle.jc_natives.specs.Members.{ends_with, in_buffer, member_of_native, natives, on_installing, sends_at_once}
@@ -47,7 +47,7 @@ use Rattle.jc_natives.specs.declared.native.SystemNative.{SystemNative}
 use Rattle.jc_natives.specs.declared.native.SystemNative.TheVariants as system
 use Rattle.jc_natives.specs.declared.native.UtilityNative.{UtilityNative}
 use Rattle.jc_natives.specs.declared.native.UtilityNative.TheVariants as utilities
-use Rattle.jc_natives.specs.declared.row.Length.TheVariants.{ByteAt, ShortAt}
+use Rattle.jc_natives.specs.declared.row.Length.TheVariants.{ByteAt}
 use Rattle.jc_store.specs.Heap.{Heap}
 use Rattle.jc_words.specs.Values.{TaggedValue}
 
@@ -202,8 +202,7 @@ module _ (known : Known) (c : ApiClass) where
       refl)))))
   utility_has native t shown = search (arith, has_range, has_reference, has_word, has_component, bytes_at)
 
-  native_has : (native : Native) (t : Typed native) → Shows known c native t
-      → Has ((member_of_native native).does h)
+  native_has : (native : Native) (t : Typed native) → Shows known c native t → Has ((member_of_native native).does h)
   native_has (OfObject native) t shown = object_has native t shown
   native_has (OfAid native) t shown = aid_has native t shown
   native_has (OfApdu native) t shown = apdu_has native t shown

@@ -12,7 +12,7 @@ use Rattle.jc_cap_desc.specs.Shape.{Shape}
 use Rattle.jc_link.specs.Linked.{World}
 use Rattle.jc_link.specs.Named.{is_concrete}
 use Rattle.jc_machine.specs.Reading.{HeapReads, Pointwise, Reads}
-use Rattle.jc_machine.specs.Lookup.{are_of_instance, are_of_types, may_begin_with}
+use Rattle.jc_machine.specs.Lookup.{are_of_instance, may_begin_with}
 use Rattle.jc_machine.specs.Machine.{Calls, Gives, IsStuck, NativeAnswer, NativeCall, ThrowsObject}
 use Rattle.jc_machine.specs.Natives.{IsFitCall}
 use Rattle.jc_machine.specs.WordNatives.{AnswerAgrees, CallAgrees, ReadsEnd, WordState}

@@ -26,7 +26,10 @@ use Rattle.jc_natives.specs.PrivateApplets.{allowed, applet_work, on_allowed, ow
 use Rattle.jc_natives.specs.PrivateCells.{argument}
 use Rattle.jc_natives.specs.PrivateMeaning.{work_of}
 use Rattle.jc_natives.specs.PrivateObjects.{object_work}
-use Rattle.jc_natives.specs.PrivateRows.{aid_row, object_row, row_of, utility_row}
+use Rattle.jc_natives.specs.PrivateAids.{aid_row}
+use Rattle.jc_natives.specs.PrivateMeaning.{row_of}
+use Rattle.jc_natives.specs.PrivateObjects.{object_row}
+use Rattle.jc_natives.specs.PrivateUtilities.{utility_row}
 use Rattle.jc_natives.specs.PrivateSeen.{Seen}
 use Rattle.jc_natives.specs.PrivateSystem.{asks, makes, system_work}
 use Rattle.jc_natives.specs.PrivateUtilities.{utility_work}

@@ -64,8 +64,7 @@ above_in (suc n) d c = is_same_name (Api c) (Api d) || option_map_or (above_in n
 module _ (world : List Shape) (there : (c : ApiClass) → StandsThere world c) where
   own_blank : (c : ApiClass) → AreBlank (own_fields world (Api c)) (tables.size_of c)
   own_blank c = record {
-    blank =
-        blank_each (instance_type_of world (Api c)) (there c).fields (range_with_len 0 (size_of world (Api c)));
+    blank = blank_each (instance_type_of world (Api c)) (there c).fields (range_with_len 0 (size_of world (Api c)));
     counted =
         length-map (range_with_len 0 (size_of world (Api c))) (instance_type_of world (Api c))
         ∙ length-range_with_len 0 (size_of world (Api c)) ∙ (there c).size;

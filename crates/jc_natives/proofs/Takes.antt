@@ -1,6 +1,7 @@
--- The kinds of the arguments that native members take: words, arrays of bytes, references to objects of a class.
-use Rattle.std.proofs.Common.{◌≡◌, ℕ, zero, suc, true, cond, List, [], ◌∷◌, map, slice_get, arith}
-use Rattle.std.proofs.Common.{Some, refl, ap, subst}
+-- What native members take and give, against the members of the API with their numbers: the kinds of their arguments
+-- (words, arrays of bytes, references to objects of a class), and what each suits.
+use Rattle.std.proofs.Common.{◌≡◌, ℕ, zero, suc, true, cond, List, [], ◌∷◌, map, slice_get, arith, Some, refl}
+use Rattle.std.proofs.Common.{ap, subst, ◌⊎◌, Bool, false}
 use Rattle.std.proofs.lemmas.Option.{none-some, same_Some}
 use Rattle.jc_api.specs.Member.{ApiMember, member_of, members}
 use Rattle.jc_api.specs.Numbered.{numbered}
@@ -11,25 +12,30 @@ use Rattle.jc_base.specs.declared.declared_type.DeclaredType.{DeclaredType}
 use Rattle.jc_base.specs.declared.declared_type.DeclaredType.TheVariants as types
 use Rattle.jc_cap_desc.specs.Shape.{Shape}
 use Rattle.jc_classes.specs.Api.{is_static}
-use Rattle.jc_machine.specs.Lookup.{are_of_types, is_byte_array, is_object_of}
-use Rattle.jc_machine.specs.Lookup.{is_of_class, is_of_type, is_word, leads_to}
+use Rattle.jc_machine.specs.Lookup.{are_of_types, is_byte_array, is_object_of, is_of_class, is_of_type, is_word}
+use Rattle.jc_machine.specs.Lookup.{leads_to}
 use Rattle.jc_machine.specs.Reading.{Pointwise}
 use Rattle.jc_names.specs.declared.name.ClassName.{ClassName}
 use Rattle.jc_names.specs.declared.name.ClassName.TheVariants.{Api}
 use Rattle.jc_natives.proofs.Bare.{both}
-use Rattle.jc_natives.proofs.Facts.{AreTyped}
+use Rattle.jc_natives.proofs.Facts.{AreTyped, IsBytes}
 use Rattle.jc_natives.specs.MemberTypes.{counted_name}
 use Rattle.jc_natives.specs.Members.{natives}
 use Rattle.jc_natives.specs.declared.native.AidNative.TheVariants as aids
 use Rattle.jc_natives.specs.declared.native.ApduNative.TheVariants as apdus
 use Rattle.jc_natives.specs.declared.native.AppletNative.TheVariants as applets
 use Rattle.jc_natives.specs.declared.native.Native.{Native}
-use Rattle.jc_natives.specs.declared.native.Native.TheVariants.{OfAid, OfApdu, OfApplet, OfObject, OfSystem, OfUtility}
+use Rattle.jc_natives.specs.declared.native.Native.TheVariants.{OfAid, OfApdu, OfApplet, OfObject, OfSystem}
+use Rattle.jc_natives.specs.declared.native.Native.TheVariants.{OfUtility}
 use Rattle.jc_natives.specs.declared.native.ObjectNative.TheVariants as objects
 use Rattle.jc_natives.specs.declared.native.SystemNative.TheVariants as system
 use Rattle.jc_natives.specs.declared.native.UtilityNative.TheVariants as utilities
 use Rattle.jc_store.specs.Heap.{Heap}
 use Rattle.jc_words.specs.Values.{TaggedValue}
+use Rattle.std.specs.Prelude.{⊤}
+use Rattle.jc_api.specs.declared.member.MemberKind.TheVariants.{Constructor, Static, Virtual}
+use Rattle.jc_base.specs.declared.declared_type.ReturnType.{ReturnType}
+use Rattle.jc_base.specs.declared.declared_type.ReturnType.TheVariants.{Void, Value}
 
 -- a word; an array of bytes, or null; an object of a class, or null; an object of a class; another array, or null
 pub data Kind : Type 0 where
@@ -164,3 +170,121 @@ module _ (world : List Shape) (heap : Heap TaggedValue) where
   kind_at (v ∷ vs) [] place kind all e = absurd all
   kind_at (v ∷ vs) (k ∷ kinds) zero kind all e = (v, refl, subst (IsOfKind v) (same_Some k kind e) all.0)
   kind_at (v ∷ vs) (k ∷ kinds) (suc place) kind all e = kind_at vs kinds place kind all.1 e
+
+-- ---- results
+
+pub data Result : Type 0 where
+  nothing : Result
+  a_word : Result
+  some_bytes : Result
+  booleans : Result
+  shorts : Result
+  references : Result
+  an_aid : Result
+  shareable : Result
+
+abbrev pub is_word_type : DeclaredType ApiClass → Bool
+is_word_type types.Boolean = true
+is_word_type types.Byte = true
+is_word_type types.Short = true
+is_word_type (types.Reference c) = false
+is_word_type types.BooleanArray = false
+is_word_type types.ByteArray = false
+is_word_type types.ShortArray = false
+is_word_type (types.ReferenceArray c) = false
+
+-- a member gives such a result
+abbrev pub Gives : Result → ReturnType ApiClass → Type 0
+Gives nothing r = r ≡ Void
+Gives a_word r = (t : DeclaredType ApiClass) × (r ≡ Value t) × (is_word_type t ≡ true)
+Gives some_bytes r = r ≡ Value types.ByteArray
+Gives booleans r = r ≡ Value types.BooleanArray
+Gives shorts r = r ≡ Value types.ShortArray
+Gives references r = r ≡ Value (types.ReferenceArray api.Object)
+Gives an_aid r = r ≡ Value (types.Reference api.Aid)
+Gives shareable r = r ≡ Value (types.Reference api.Shareable)
+
+-- ---- arguments
+
+-- a member with an object, and without
+abbrev pub HasObject : ApiMember → ApiClass → Type 0
+HasObject m c = ((m.kind ≡ Constructor) ⊎ (m.kind ≡ Virtual)) × (m.class ≡ c)
+
+-- it has a reason: of CardRuntimeException, or of a class right below it
+abbrev pub HasReason : ApiMember → Type 0
+HasReason m = ((m.kind ≡ Constructor) ⊎ (m.kind ≡ Virtual))
+    × ((m.class ≡ api.CardRuntimeException) ⊎
+    ((m.class ≡ api.IsoException) ⊎ ((m.class ≡ api.SystemException) ⊎ (m.class ≡ api.ApduException))))
+
+-- what a native member asks of the member with its number
+abbrev pub Suits : Native → ApiMember → Type 0
+Suits (OfObject objects.Construct) m = Gives nothing m.signature.result
+Suits (OfObject objects.Equals) m = Gives a_word m.signature.result
+Suits (OfObject objects.ConstructWithReason) m = Gives nothing m.signature.result × HasReason m
+Suits (OfObject objects.GetReason) m = Gives a_word m.signature.result
+Suits (OfObject objects.SetReason) m = Gives nothing m.signature.result × HasReason m
+Suits (OfObject (objects.ThrowIt number)) m =
+    Gives nothing m.signature.result × ((number ≡ 8) ⊎ ((number ≡ 9) ⊎ (number ≡ 10)))
+Suits (OfAid aids.Construct) m = Gives nothing m.signature.result × HasObject m api.Aid
+Suits (OfAid aids.Equals) m = Gives a_word m.signature.result
+Suits (OfAid aids.GetBytes) m = Gives a_word m.signature.result × HasObject m api.Aid × IsBytes m 0
+Suits (OfApdu apdus.GetBuffer) m = Gives some_bytes m.signature.result
+Suits (OfApdu apdus.SetIncomingAndReceive) m = Gives a_word m.signature.result
+Suits (OfApdu apdus.SetOutgoing) m = Gives a_word m.signature.result
+Suits (OfApdu apdus.SetOutgoingLength) m = Gives nothing m.signature.result
+Suits (OfApdu apdus.SendBytes) m = Gives nothing m.signature.result
+Suits (OfApdu apdus.SendBytesLong) m = Gives nothing m.signature.result
+Suits (OfApdu apdus.SetOutgoingAndSend) m = Gives nothing m.signature.result
+Suits (OfApplet applets.Register) m = Gives nothing m.signature.result × HasObject m api.Applet
+Suits (OfApplet applets.RegisterBytes) m = Gives nothing m.signature.result × HasObject m api.Applet
+Suits (OfApplet applets.Select) m = Gives a_word m.signature.result
+Suits (OfApplet applets.Deselect) m = Gives nothing m.signature.result
+Suits (OfApplet applets.Process) m = Gives nothing m.signature.result
+Suits (OfApplet applets.SelectingApplet) m = Gives a_word m.signature.result
+Suits (OfApplet applets.GetShareable) m = Gives shareable m.signature.result
+Suits (OfSystem system.GetAid) m = Gives an_aid m.signature.result
+Suits (OfSystem system.LookupAid) m = Gives an_aid m.signature.result
+Suits (OfSystem system.GetPreviousAid) m = Gives an_aid m.signature.result
+Suits (OfSystem system.AskForShareable) m = Gives shareable m.signature.result × (m.kind ≡ Static)
+Suits (OfSystem system.MakeBooleans) m = Gives booleans m.signature.result
+Suits (OfSystem system.MakeBytes) m = Gives some_bytes m.signature.result
+Suits (OfSystem system.MakeShorts) m = Gives shorts m.signature.result
+Suits (OfSystem system.MakeReferences) m = Gives references m.signature.result
+Suits (OfUtility utilities.ArrayCopy) m =
+    Gives a_word m.signature.result × (m.kind ≡ Static) × IsBytes m 0 × IsBytes m 2
+Suits (OfUtility utilities.ArrayFill) m = Gives a_word m.signature.result × (m.kind ≡ Static) × IsBytes m 0
+Suits (OfUtility utilities.ArrayCompare) m = Gives a_word m.signature.result
+Suits (OfUtility utilities.GetShort) m = Gives a_word m.signature.result
+Suits (OfUtility utilities.SetShort) m = Gives a_word m.signature.result × (m.kind ≡ Static) × IsBytes m 0
+Suits (OfUtility utilities.MakeShort) m = Gives a_word m.signature.result
+
+-- ---- all do
+
+abbrev AllSuit : List Native → List ApiMember → Type 0
+AllSuit [] ms = ⊤
+AllSuit (n ∷ ns) [] = ⊥
+AllSuit (n ∷ ns) (m ∷ ms) = Suits n m × AllSuit ns ms
+
+gives_short : Gives a_word (Value types.Short)
+gives_short = (types.Short, refl, refl)
+
+gives_boolean : Gives a_word (Value types.Boolean)
+gives_boolean = (types.Boolean, refl, refl)
+
+gives_byte : Gives a_word (Value types.Byte)
+gives_byte = (types.Byte, refl, refl)
+
+all_suit : AllSuit natives members
+all_suit = grind (arith, gives_boolean, gives_short, gives_byte)
+
+suit_at : (ns : List Native) (ms : List ApiMember) (i : ℕ) (n : Native) (m : ApiMember) → AllSuit ns ms
+    → slice_get ns i ≡ Some n → slice_get ms i ≡ Some m → Suits n m
+suit_at [] ms i n m all e f = absurd (none-some n e)
+suit_at (x ∷ ns) [] i n m all e f = absurd all
+suit_at (x ∷ ns) (y ∷ ms) zero n m all e f = grind (arith, same_Some)
+suit_at (x ∷ ns) (y ∷ ms) (suc i) n m all e f = suit_at ns ms i n m all.1 e f
+
+pub suits : (number : ℕ) (n : Native) (m : ApiMember) → numbered natives number ≡ Some n → member_of number ≡ Some m
+    → Suits n m
+suits zero n m e f = absurd (none-some n e)
+suits (suc i) n m e f = suit_at natives members i n m all_suit e f

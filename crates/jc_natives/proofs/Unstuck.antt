@@ -27,7 +27,7 @@ use Rattle.jc_natives.specs.Checks.{CallsOtherAid, Check, Checked, HasRange, Pas
 use Rattle.jc_natives.specs.Checks.{UsesUnlessNull, are_aids, calls_other, goes_on, in_range, is_aid_at, is_aid_value}
 use Rattle.jc_natives.specs.Checks.{is_in_range, is_range_in, judged, refused, test, tested, unfit, uses, uses_value}
 use Rattle.jc_natives.specs.PrivateCells.{aid_bytes, argument, bared, bytes_of, cell_of, cells_from}
-use Rattle.jc_natives.specs.PrivateSeen.{Seen, arguments_of, seen_of}
+use Rattle.jc_natives.specs.PrivateSeen.{arguments_of}
 use Rattle.jc_natives.specs.Taking.{Called, as_reference, as_word, called, on_aid, on_bytes, on_component}
 use Rattle.jc_natives.specs.Taking.{on_length, on_object, on_range, on_reference, on_word, on_words}
 use Rattle.jc_natives.specs.declared.row.Length.{Length}
@@ -79,8 +79,7 @@ module _ (kinds : List Kind) where
   fits_kinds (Uses place way) = at is_leading place
   fits_kinds (UsesUnlessNull place way) = at is_leading place
   fits_kinds CallsOtherAid = at is_leading 0 && at is_leading 1
-  fits_kinds (HasRange array offset count) =
-      at is_leading array && (at is_word_kind offset && length_fits count)
+  fits_kinds (HasRange array offset count) = at is_leading array && (at is_word_kind offset && length_fits count)
 
 -- ---- ends of tests
 
@@ -194,8 +193,7 @@ module _ (known : Known) (kinds : List Kind)
   -- one that isn't null
   pub there_unless_null : (place : ℕ) → at kinds is_leading place ≡ true → (argument args place == 0) ≡ false
       → There heap (argument args place)
-  there_unless_null place e other =
-      let v = leads_at place e in by_value v.value v.is v.leads
+  there_unless_null place e other = let v = leads_at place e in by_value v.value v.is v.leads
     where
       unequal : false ≡ true → ⊥
       unequal g = cc
@@ -351,8 +349,7 @@ module _ (known : Known) (kinds : List Kind)
   range_has : (place offset : ℕ) (count : Length) → at kinds is_leading place ≡ true
       → at kinds is_word_kind offset ≡ true → length_fits kinds count ≡ true
       → Has (is_in_range h place offset count)
-  range_has place offset count e f g =
-      has_reference place e _ (by_null (argument args place == 0) refl)
+  range_has place offset count e f g = has_reference place e _ (by_null (argument args place == 0) refl)
     where
       by_null : (b : Bool) → (argument args place == 0) ≡ b
           → Has (cond b (Some true) (is_range_in h (argument args place) offset count))
@@ -407,8 +404,7 @@ module _ (known : Known) (kinds : List Kind)
 
   pub tests_show : (tests : List Check) → (tested h tests).ends ≡ Passed → AllByRecursion IsShown tests
   tests_show [] e = tt
-  tests_show (one ∷ tests) e =
-      by_end (test h one).touches (test h one).ends refl (tests_show tests) e
+  tests_show (one ∷ tests) e = by_end (test h one).touches (test h one).ends refl (tests_show tests) e
     where
       by_end : (touches : List _) (end : TestEnd) → (test h one).ends ≡ end
           → ((tested h tests).ends ≡ Passed → AllByRecursion IsShown tests)

@@ -1,5 +1,5 @@
 -- What a member does on tagged values it does on words without tags, or it is stuck.
-use Rattle.std.proofs.Common.{◌≡◌, ℕ, ◌+◌, ◌==◌, ◌&&◌, ◌||◌, Bool, true, false, cond, List, [], ◌∷◌, bytes_eq}
+use Rattle.std.proofs.Common.{◌≡◌, ℕ, ◌==◌, ◌&&◌, ◌||◌, Bool, true, false, cond, List, [], ◌∷◌, bytes_eq}
 use Rattle.std.proofs.Common.{length, nat_le, Option, Some, refl, sym, ap, subst, ◌∙◌, arith}
 use Rattle.std.proofs.lemmas.Bool.{eq-eqb, ltb-true}
 use Rattle.std.specs.Option.{option_and_then}
@@ -15,7 +15,7 @@ use Rattle.jc_natives.proofs.Ranges.{bytes_differ, length_of_bytes}
 use Rattle.jc_natives.specs.Cells as cells
 use Rattle.jc_natives.specs.Cells.{bit, extended, is_within}
 use Rattle.jc_natives.specs.Checks.{are_aids}
-use Rattle.jc_natives.specs.Kept.{Kept, has_aid_length, is_fresh, is_incoming, is_length_set, is_outgoing, most_sent}
+use Rattle.jc_natives.specs.Kept.{Kept, has_aid_length, is_incoming, most_sent}
 use Rattle.jc_natives.specs.Members as members
 use Rattle.jc_natives.specs.Members.{allowed, ends_with, in_buffer, keeps_aid, makes_array, member_of_native}
 use Rattle.jc_natives.specs.Members.{on_allowed, on_installing, sends, sends_at_once, sets_reason}
@@ -27,7 +27,7 @@ use Rattle.jc_natives.specs.PrivateApplets.{applet_work, owner_of}
 use Rattle.jc_natives.specs.PrivateCells.{aid_bytes, aid_count, argument, bared, bytes_of, cell_of}
 use Rattle.jc_natives.specs.PrivateMeaning.{work_of}
 use Rattle.jc_natives.specs.PrivateObjects.{equals, have_same_aid, object_work}
-use Rattle.jc_natives.specs.PrivateRows.{row_of}
+use Rattle.jc_natives.specs.PrivateMeaning.{row_of}
 use Rattle.jc_natives.specs.PrivateSeen.{Seen, arguments_of, is_aid_object, seen_of}
 use Rattle.jc_natives.specs.PrivateSystem as systems
 use Rattle.jc_natives.specs.PrivateSystem.{system_work}
@@ -50,7 +50,7 @@ use Rattle.jc_natives.specs.declared.native.SystemNative.{SystemNative}
 use Rattle.jc_natives.specs.declared.native.SystemNative.TheVariants as system
 use Rattle.jc_natives.specs.declared.native.UtilityNative.{UtilityNative}
 use Rattle.jc_natives.specs.declared.native.UtilityNative.TheVariants as utilities
-use Rattle.jc_natives.specs.declared.row.Length.TheVariants.{ByteAt, ShortAt}
+use Rattle.jc_natives.specs.declared.row.Length.TheVariants.{ByteAt}
 use Rattle.jc_store.specs.Heap.{Heap, Object, object_at}
 use Rattle.jc_words.specs.Values.{TaggedValue}
 
@@ -99,8 +99,7 @@ module _ (w : World) (call : NativeCall Kept) where
   same_bytes one other = search (arith, at_aid, just, counted_first, aid_counted)
 
   two_equal : Only (members.equals h) (gives k (GivesWord (bit (equals s (argument args 0) (argument args 1)))))
-  two_equal =
-      at_reference w call 0 _ _ (at_reference w call 1 _ _ (by_number (argument args 0 == argument args 1)))
+  two_equal = at_reference w call 0 _ _ (at_reference w call 1 _ _ (by_number (argument args 0 == argument args 1)))
     where
       by_both : (b : Bool)
           → Only (cond b (members.have_same_bytes h (argument args 0) (argument args 1)) (ends_with h (GivesWord 0)))
@@ -115,8 +114,7 @@ module _ (w : World) (call : NativeCall Kept) where
           && have_same_aid o (argument args 0) (argument args 1)))))
       by_number b = grind (arith, just, goes_with, both_aids, by_both)
 
-  reason_set : Only (sets_reason h)
-      (writes_to k (argument args 0) 0 (cells.word (argument args 1) ∷ []) NoResult)
+  reason_set : Only (sets_reason h) (writes_to k (argument args 0) 0 (cells.word (argument args 1) ∷ []) NoResult)
   reason_set = at_reference w call 0 _ _ (at_word w call 1 _ _ (just refl))
 
   object_does : (native : ObjectNative) → Only ((members.object_member native).does h) (object_work s k args native)
@@ -133,8 +131,7 @@ module _ (w : World) (call : NativeCall Kept) where
   aid_does aids.Construct =
       at_reference w call 0 _ _ (at_range w call 1 2 (ByteAt 3) _ _
       (aid_kept (argument args 0) (argument args 1) (argument args 2) (extended (argument args 3))))
-  aid_does aids.Equals =
-      at_reference w call 0 _ _ (at_reference w call 1 _ _ (by_null (argument args 1 == 0)))
+  aid_does aids.Equals = at_reference w call 0 _ _ (at_reference w call 1 _ _ (by_null (argument args 1 == 0)))
     where
       by_null : (b : Bool)
           → Only (cond b (ends_with h (GivesWord 0)) (members.is_range h (argument args 0)))

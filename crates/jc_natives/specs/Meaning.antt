@@ -121,8 +121,7 @@ array_or_refusal false array k = throws_system k no_transient_space
 -- where there is no room for an array the work is to throw
 abbrev pub with_room : {V : Type 0} → ℕ → ℕ → Heap V → Kept → Work → Work
 with_room objects cells heap k (Does writes runtime ending) = Does writes runtime ending
-with_room objects cells heap k (Makes array) =
-    array_or_refusal (has_room objects cells heap array.size) array k
+with_room objects cells heap k (Makes array) = array_or_refusal (has_room objects cells heap array.size) array k
 with_room objects cells heap k (Asks question) = Asks question
 
 abbrev pub done : NativeCall Kept → List Touch → Work → NativeAnswer Kept

@@ -154,8 +154,7 @@ object_member objects.Equals = record { tests = Uses 0 Calls ∷ CallsOtherAid �
 object_member objects.ConstructWithReason = record { tests = Uses 0 Fields ∷ []; does = sets_reason }
 object_member objects.GetReason = record {
   tests = Uses 0 Calls ∷ [];
-  does = λ h.
-      on_reference h 0 (λ object. on_component h object 0 (λ reason. ends_with h (GivesWord (word reason))));
+  does = λ h. on_reference h 0 (λ object. on_component h object 0 (λ reason. ends_with h (GivesWord (word reason))));
 }
 object_member objects.SetReason = record { tests = Uses 0 Calls ∷ []; does = sets_reason }
 -- throwIt sets the reason of the runtime's exception, and throws it
@@ -217,8 +216,7 @@ sends h bytes =
 
 -- what is sent at once is all that is sent
 abbrev pub sends_at_once : Called → ℕ → List ℕ → Option Work
-sends_at_once h count bytes =
-    Some (gives (with_sent (with_announced (kept_of h) LengthSet count) bytes) NoResult)
+sends_at_once h count bytes = Some (gives (with_sent (with_announced (kept_of h) LengthSet count) bytes) NoResult)
 
 abbrev pub apdu_member : ApduNative → Member
 apdu_member apdus.GetBuffer = record {

@@ -1,5 +1,5 @@
--- What members of AID do on words without tags.
-use Rattle.std.specs.Prelude.{ℕ, ◌==◌, ◌&&◌, Bool, false, List, ◌∷◌, bytes_eq, if◌then◌else◌}
+-- What members of AID test and do on words without tags.
+use Rattle.std.specs.Prelude.{ℕ, ◌==◌, ◌&&◌, Bool, false, List, ◌∷◌, bytes_eq, if◌then◌else◌, None}
 use Rattle.jc_natives.specs.Cells.{bit, extended, word}
 use Rattle.jc_natives.specs.Kept.{Kept, has_aid_length}
 use Rattle.jc_natives.specs.PrivateCells.{aid_bytes, aid_count, argument, bytes_of}
@@ -7,6 +7,17 @@ use Rattle.jc_natives.specs.PrivateSeen.{Seen}
 use Rattle.jc_natives.specs.Work.{GivesWord, NoResult, Work, gives, illegal_value, unless_system, writes_to}
 use Rattle.jc_natives.specs.declared.native.AidNative.{AidNative}
 use Rattle.jc_natives.specs.declared.native.AidNative.TheVariants.{Construct, Equals, GetBytes}
+use Rattle.jc_natives.specs.PrivateRows.{rows_of, range, called_on}
+use Rattle.jc_natives.specs.declared.row.MemberRow.{MemberRow}
+use Rattle.jc_natives.specs.declared.row.Length.TheVariants.{ByteAt, OfAid as AsAid}
+use Rattle.jc_natives.specs.declared.row.Test.TheVariants.{Object, ObjectOrNull}
+use Rattle.jc_natives.specs.declared.row.Way.TheVariants.{Fields, Loads, Stores}
+
+-- what each tests
+abbrev pub aid_row : AidNative → MemberRow
+aid_row Construct = rows_of (Object 0 Fields) (Object 1 Loads) (range 1 2 (ByteAt 3)) None
+aid_row Equals = called_on (ObjectOrNull 1 Loads) (ByteAt 3)
+aid_row GetBytes = called_on (Object 1 Stores) (AsAid 0)
 
 -- so many bytes of an array, from an offset on
 abbrev pub range_bytes : Seen → ℕ → ℕ → ℕ → List ℕ

@@ -1,4 +1,4 @@
--- What members of APDU do on words without tags.
+-- What members of APDU test and do on words without tags.
 use Rattle.std.specs.Prelude.{ℕ, ◌+◌, Bool, List, ◌++◌, length, nat_le, if◌then◌else◌}
 use Rattle.jc_machine.specs.Runtime.{apdu_buffer}
 use Rattle.jc_natives.specs.Cells.{is_within}
@@ -15,6 +15,21 @@ use Rattle.jc_natives.specs.declared.native.ApduNative.{ApduNative}
 use Rattle.jc_natives.specs.declared.native.ApduNative.TheVariants.{GetBuffer, SendBytes, SendBytesLong}
 use Rattle.jc_natives.specs.declared.native.ApduNative.TheVariants.{SetIncomingAndReceive, SetOutgoing}
 use Rattle.jc_natives.specs.declared.native.ApduNative.TheVariants.{SetOutgoingAndSend, SetOutgoingLength}
+use Rattle.jc_natives.specs.PrivateRows.{called, called_on}
+use Rattle.jc_natives.specs.declared.row.MemberRow.{MemberRow}
+use Rattle.jc_natives.specs.declared.row.Length.TheVariants.{ShortAt}
+use Rattle.jc_natives.specs.declared.row.Test.TheVariants.{Object}
+use Rattle.jc_natives.specs.declared.row.Way.TheVariants.{Loads}
+
+-- what each tests
+abbrev pub apdu_row : ApduNative → MemberRow
+apdu_row GetBuffer = called
+apdu_row SetIncomingAndReceive = called
+apdu_row SetOutgoing = called
+apdu_row SetOutgoingLength = called
+apdu_row SendBytes = called
+apdu_row SendBytesLong = called_on (Object 1 Loads) (ShortAt 3)
+apdu_row SetOutgoingAndSend = called
 
 -- what goes on where a test passes, and what is thrown else
 abbrev pub unless_apdu : Kept → ℕ → Bool → Work → Work

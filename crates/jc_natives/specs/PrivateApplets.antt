@@ -1,4 +1,4 @@
--- What members of Applet do on words without tags.
+-- What members of Applet test and do on words without tags.
 use Rattle.std.specs.Prelude.{ℕ, Bool, List, Option, Some, None}
 use Rattle.std.specs.Option.{option_map_or}
 use Rattle.jc_firewall.specs.Verdict.{runtime}
@@ -16,6 +16,21 @@ use Rattle.jc_natives.specs.declared.native.AppletNative.{AppletNative}
 use Rattle.jc_natives.specs.declared.native.AppletNative.TheVariants.{Deselect, GetShareable, Process, Register}
 use Rattle.jc_natives.specs.declared.native.AppletNative.TheVariants.{RegisterBytes, Select, SelectingApplet}
 use Rattle.jc_store.specs.Heap.{Heap, object_at}
+use Rattle.jc_natives.specs.PrivateRows.{called, called_on}
+use Rattle.jc_natives.specs.declared.row.MemberRow.{MemberRow}
+use Rattle.jc_natives.specs.declared.row.Length.TheVariants.{ByteAt}
+use Rattle.jc_natives.specs.declared.row.Test.TheVariants.{Object}
+use Rattle.jc_natives.specs.declared.row.Way.TheVariants.{Loads}
+
+-- what each tests
+abbrev pub applet_row : AppletNative → MemberRow
+applet_row Register = called
+applet_row RegisterBytes = called_on (Object 1 Loads) (ByteAt 3)
+applet_row Select = called
+applet_row Deselect = called
+applet_row Process = called
+applet_row SelectingApplet = called
+applet_row GetShareable = called
 
 -- the owner of an object; of none the runtime
 abbrev pub owner_of : Heap ℕ → ℕ → Owner

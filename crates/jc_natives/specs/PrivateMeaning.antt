@@ -7,18 +7,27 @@ use Rattle.jc_machine.specs.Machine.{IsStuck, NativeAnswer, NativeCall, ThrowsOb
 use Rattle.jc_natives.specs.Kept.{Kept}
 use Rattle.jc_natives.specs.Meaning.{done, unchanged, with_room}
 use Rattle.jc_natives.specs.Members.{natives}
-use Rattle.jc_natives.specs.PrivateAids.{aid_work}
-use Rattle.jc_natives.specs.PrivateApdus.{apdu_work}
-use Rattle.jc_natives.specs.PrivateApplets.{applet_work}
-use Rattle.jc_natives.specs.PrivateObjects.{object_work}
-use Rattle.jc_natives.specs.PrivateRows.{row_of}
+use Rattle.jc_natives.specs.PrivateAids.{aid_row, aid_work}
+use Rattle.jc_natives.specs.PrivateApdus.{apdu_row, apdu_work}
+use Rattle.jc_natives.specs.PrivateApplets.{applet_row, applet_work}
+use Rattle.jc_natives.specs.PrivateObjects.{object_row, object_work}
 use Rattle.jc_natives.specs.PrivateSeen.{Seen, arguments_of, seen_of}
-use Rattle.jc_natives.specs.PrivateSystem.{system_work}
+use Rattle.jc_natives.specs.PrivateSystem.{system_row, system_work}
 use Rattle.jc_natives.specs.PrivateTests.{tested}
-use Rattle.jc_natives.specs.PrivateUtilities.{utility_work}
+use Rattle.jc_natives.specs.PrivateUtilities.{utility_row, utility_work}
 use Rattle.jc_natives.specs.Work.{Work}
 use Rattle.jc_natives.specs.declared.native.Native.{Native}
 use Rattle.jc_natives.specs.declared.native.Native.TheVariants.{OfAid, OfApdu, OfApplet, OfObject, OfSystem, OfUtility}
+use Rattle.jc_natives.specs.declared.row.MemberRow.{MemberRow}
+
+-- what a member tests
+abbrev pub row_of : Native → MemberRow
+row_of (OfObject native) = object_row native
+row_of (OfAid native) = aid_row native
+row_of (OfApdu native) = apdu_row native
+row_of (OfApplet native) = applet_row native
+row_of (OfSystem native) = system_row native
+row_of (OfUtility native) = utility_row native
 
 -- ---- the work of a member
 

@@ -1,5 +1,5 @@
--- What members of Object and of exceptions do on words without tags.
-use Rattle.std.specs.Prelude.{ℕ, ◌==◌, ◌&&◌, ◌||◌, Bool, List, [], ◌∷◌, bytes_eq}
+-- What members of Object and of exceptions test and do on words without tags.
+use Rattle.std.specs.Prelude.{ℕ, ◌==◌, ◌&&◌, ◌||◌, Bool, List, [], ◌∷◌, bytes_eq, None}
 use Rattle.jc_natives.specs.Cells.{bit, word}
 use Rattle.jc_natives.specs.Kept.{Kept}
 use Rattle.jc_natives.specs.PrivateCells.{aid_bytes, aid_count, argument, cell_of}
@@ -9,6 +9,19 @@ use Rattle.jc_natives.specs.declared.native.ObjectNative.{ObjectNative}
 use Rattle.jc_natives.specs.declared.native.ObjectNative.TheVariants.{Construct, ConstructWithReason, Equals, GetReason}
 use Rattle.jc_natives.specs.declared.native.ObjectNative.TheVariants.{SetReason, ThrowIt}
 use Rattle.jc_store.specs.Heap.{Heap}
+use Rattle.jc_natives.specs.PrivateRows.{rows_of, untested, constructed, called}
+use Rattle.jc_natives.specs.declared.row.MemberRow.{MemberRow}
+use Rattle.jc_natives.specs.declared.row.Test.TheVariants.{BesideAid, Object}
+use Rattle.jc_natives.specs.declared.row.Way.TheVariants.{Calls}
+
+-- what each tests
+abbrev pub object_row : ObjectNative → MemberRow
+object_row Construct = constructed
+object_row Equals = rows_of (Object 0 Calls) BesideAid None None
+object_row ConstructWithReason = constructed
+object_row GetReason = called
+object_row SetReason = called
+object_row (ThrowIt object) = untested
 
 -- objects have the same bytes as AIDs; and they are AIDs that do
 abbrev pub have_same_aid : Heap ℕ → ℕ → ℕ → Bool
@@ -29,6 +42,5 @@ object_work s k arguments Equals = gives k (GivesWord (bit (equals s (argument a
 object_work s k arguments ConstructWithReason =
     writes_to k (argument arguments 0) 0 (word (argument arguments 1) ∷ []) NoResult
 object_work s k arguments GetReason = gives k (GivesWord (word (cell_of s.objects (argument arguments 0) 0)))
-object_work s k arguments SetReason =
-    writes_to k (argument arguments 0) 0 (word (argument arguments 1) ∷ []) NoResult
+object_work s k arguments SetReason = writes_to k (argument arguments 0) 0 (word (argument arguments 1) ∷ []) NoResult
 object_work s k arguments (ThrowIt object) = throws_with k object (word (argument arguments 0))

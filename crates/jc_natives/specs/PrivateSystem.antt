@@ -1,4 +1,4 @@
--- What members of JCSystem do on words without tags.
+-- What members of JCSystem test and do on words without tags.
 use Rattle.std.specs.Prelude.{ℕ, Bool, List, Option, Some}
 use Rattle.jc_natives.specs.Cells.{extended}
 use Rattle.jc_natives.specs.Kept.{Kept, instance_with}
@@ -16,6 +16,22 @@ use Rattle.jc_natives.specs.declared.native.SystemNative.TheVariants.{AskForShar
 use Rattle.jc_natives.specs.declared.native.SystemNative.TheVariants.{LookupAid, MakeBooleans, MakeBytes}
 use Rattle.jc_natives.specs.declared.native.SystemNative.TheVariants.{MakeReferences, MakeShorts}
 use Rattle.jc_store.specs.declared.kind.ClearingEvent.{ClearingEvent}
+use Rattle.jc_natives.specs.PrivateRows.{untested, called, on_array}
+use Rattle.jc_natives.specs.declared.row.MemberRow.{MemberRow}
+use Rattle.jc_natives.specs.declared.row.Length.TheVariants.{ByteAt}
+use Rattle.jc_natives.specs.declared.row.Test.TheVariants.{Object}
+use Rattle.jc_natives.specs.declared.row.Way.TheVariants.{Loads}
+
+-- what each tests
+abbrev pub system_row : SystemNative → MemberRow
+system_row GetAid = untested
+system_row LookupAid = on_array (Object 0 Loads) (ByteAt 2)
+system_row GetPreviousAid = untested
+system_row AskForShareable = called
+system_row MakeBooleans = untested
+system_row MakeBytes = untested
+system_row MakeShorts = untested
+system_row MakeReferences = untested
 
 -- an instance is asked by the active owner
 abbrev pub asks : Seen → Kept → ℕ → Option Instance → Work

@@ -79,8 +79,7 @@ by_verdict s way number (Denied rule) =
     record { touches = touch_of s way number (Denied rule) ∷ []; thrown = Some security_exception }
 
 abbrev pub judged : Seen → Way → ℕ → heaps.Object ℕ → Tested
-judged s way number object =
-    by_verdict s way number (verdict_of (access_of way) s.active.context (facts_of s object))
+judged s way number object = by_verdict s way number (verdict_of (access_of way) s.active.context (facts_of s object))
 
 -- null is no object
 abbrev pub on_object : Seen → Way → ℕ → Option (heaps.Object ℕ) → Tested

@@ -1,4 +1,4 @@
--- What members of Util do on words without tags.
+-- What members of Util test and do on words without tags.
 use Rattle.std.specs.Prelude.{ℕ, ◌+◌, List, [], ◌∷◌, replicate}
 use Rattle.jc_natives.specs.Cells.{high, low, order_of, word, word_of_bytes}
 use Rattle.jc_natives.specs.Kept.{Kept}
@@ -9,6 +9,20 @@ use Rattle.jc_natives.specs.Work.{GivesWord, Work, gives, writes_to}
 use Rattle.jc_natives.specs.declared.native.UtilityNative.{UtilityNative}
 use Rattle.jc_natives.specs.declared.native.UtilityNative.TheVariants.{ArrayCompare, ArrayCopy, ArrayFill, GetShort}
 use Rattle.jc_natives.specs.declared.native.UtilityNative.TheVariants.{MakeShort, SetShort}
+use Rattle.jc_natives.specs.PrivateRows.{untested, on_array, on_arrays}
+use Rattle.jc_natives.specs.declared.row.MemberRow.{MemberRow}
+use Rattle.jc_natives.specs.declared.row.Length.TheVariants.{Fixed, ShortAt}
+use Rattle.jc_natives.specs.declared.row.Test.TheVariants.{Object}
+use Rattle.jc_natives.specs.declared.row.Way.TheVariants.{Loads, Stores}
+
+-- what each tests
+abbrev pub utility_row : UtilityNative → MemberRow
+utility_row ArrayCopy = on_arrays (Object 0 Loads) (Object 2 Stores)
+utility_row ArrayFill = on_array (Object 0 Stores) (ShortAt 2)
+utility_row ArrayCompare = on_arrays (Object 0 Loads) (Object 2 Loads)
+utility_row GetShort = on_array (Object 0 Loads) (Fixed 2)
+utility_row SetShort = on_array (Object 0 Stores) (Fixed 2)
+utility_row MakeShort = untested
 
 -- A copy is as through a copy of the source. What the source holds is written as it is: arrays of bytes hold bytes, so
 -- these are bytes. What is written ends behind the offset that is given.

@@ -8,8 +8,7 @@ use Rattle.jc_names.specs.declared.owner.Owner.{Owner}
 use Rattle.jc_natives.specs.Cells.{Write, put_all}
 use Rattle.jc_natives.specs.Kept.{Kept}
 use Rattle.jc_natives.specs.Meaning.{with_room}
-use Rattle.jc_natives.specs.PrivateMeaning.{work_of}
-use Rattle.jc_natives.specs.PrivateRows.{row_of}
+use Rattle.jc_natives.specs.PrivateMeaning.{row_of, work_of}
 use Rattle.jc_natives.specs.PrivateSeen.{Seen}
 use Rattle.jc_natives.specs.PrivateTests.{tested}
 use Rattle.jc_machine.specs.Natives.{shareable_member}

@@ -63,8 +63,7 @@ aid_length count = if nat_lt count 16 then count else 16
 
 -- the bytes of an AID: their count comes first
 abbrev pub aid_in : Heap TaggedValue → ℕ → Option (List ℕ)
-aid_in heap number =
-    option_and_then (λ count. bytes_in heap number 1 (aid_length count)) (word_at heap number 0)
+aid_in heap number = option_and_then (λ count. bytes_in heap number 1 (aid_length count)) (word_at heap number 0)
 
 -- ---- what a member goes on with: an argument at a place
 

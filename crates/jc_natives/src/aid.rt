@@ -16,8 +16,8 @@ use crate::ended::{Ended, throw_system};
 use crate::kept::Runtime;
 use crate::member::{Member, tested};
 use crate::native::AidNative;
-use crate::row::MemberRow;
-use crate::rows::aid_row;
+use crate::row::{Length, MemberRow, Test, Way};
+use crate::rows::{called_on, range};
 use jc_machine::WordCall;
 use jc_store::Store;
 
@@ -119,7 +119,16 @@ impl Member for AidNative {
 
     #[inline(always)]
     fn row(self) -> MemberRow {
-        aid_row(self)
+        match self {
+            AidNative::Construct => MemberRow {
+                first: Test::Object(0, Way::Fields),
+                second: Test::Object(1, Way::Loads),
+                first_range: range(1, 2, Length::ByteAt(3)),
+                second_range: None,
+            },
+            AidNative::Equals => called_on(Test::ObjectOrNull(1, Way::Loads), Length::ByteAt(3)),
+            AidNative::GetBytes => called_on(Test::Object(1, Way::Stores), Length::OfAid(0)),
+        }
     }
 
     #[inline(always)]

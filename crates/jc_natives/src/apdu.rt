@@ -13,8 +13,8 @@ use crate::ended::{Ended, throw_apdu};
 use crate::kept::{ApduState, Runtime};
 use crate::member::{Member, tested};
 use crate::native::ApduNative;
-use crate::row::MemberRow;
-use crate::rows::apdu_row;
+use crate::row::{Length, MemberRow, Test, Way};
+use crate::rows::{called, called_on};
 use jc_machine::WordCall;
 use jc_store::Store;
 
@@ -234,7 +234,15 @@ impl Member for ApduNative {
 
     #[inline(always)]
     fn row(self) -> MemberRow {
-        apdu_row(self)
+        match self {
+            ApduNative::SendBytesLong => called_on(Test::Object(1, Way::Loads), Length::ShortAt(3)),
+            ApduNative::GetBuffer
+            | ApduNative::SetIncomingAndReceive
+            | ApduNative::SetOutgoing
+            | ApduNative::SetOutgoingLength
+            | ApduNative::SendBytes
+            | ApduNative::SetOutgoingAndSend => called(),
+        }
     }
 
     #[inline(always)]

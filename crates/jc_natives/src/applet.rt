@@ -16,8 +16,8 @@ use crate::ended::{Ended, throw_system};
 use crate::kept::{Installing, Instance, Runtime};
 use crate::member::{Member, tested};
 use crate::native::AppletNative;
-use crate::row::MemberRow;
-use crate::rows::applet_row;
+use crate::row::{Length, MemberRow, Test, Way};
+use crate::rows::{called, called_on};
 use arrayvec::ArrayVec;
 use jc_base::Aid;
 use jc_machine::WordCall;
@@ -187,7 +187,18 @@ impl Member for AppletNative {
 
     #[inline(always)]
     fn row(self) -> MemberRow {
-        applet_row(self)
+        match self {
+            AppletNative::RegisterBytes => called_on(
+                Test::Object(1, Way::Loads),
+                Length::ByteAt(3),
+            ),
+            AppletNative::Register
+            | AppletNative::Select
+            | AppletNative::Deselect
+            | AppletNative::Process
+            | AppletNative::SelectingApplet
+            | AppletNative::GetShareable => called(),
+        }
     }
 
     #[inline(always)]

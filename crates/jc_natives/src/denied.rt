@@ -1,12 +1,12 @@
 //! What the firewall denies of the arguments of a member, to be told of it.
 
 ghost use Rattle.std.specs.Prelude.{◌≡◌};
-ghost use Rattle.jc_natives.specs.PrivateRows.{row_of};
+ghost use Rattle.jc_natives.specs.PrivateMeaning.{row_of};
 
 use crate::cells::argument;
+use crate::member::Member;
 use crate::native::Native;
 use crate::row::{MemberRow, Test, Way};
-use crate::rows::{aid_row, apdu_row, applet_row, object_row, system_row, utility_row};
 use crate::tests::{access_of, facts_of};
 use jc_firewall::{Denial, denial};
 use jc_machine::WordCall;
@@ -17,12 +17,12 @@ fn row_of(native: Native) -> MemberRow
     ensures { result ≡ row_of native }
 {
     match native {
-        Native::OfObject(native) => object_row(native),
-        Native::OfAid(native) => aid_row(native),
-        Native::OfApdu(native) => apdu_row(native),
-        Native::OfApplet(native) => applet_row(native),
-        Native::OfSystem(native) => system_row(native),
-        Native::OfUtility(native) => utility_row(native),
+        Native::OfObject(native) => native.row(),
+        Native::OfAid(native) => native.row(),
+        Native::OfApdu(native) => native.row(),
+        Native::OfApplet(native) => native.row(),
+        Native::OfSystem(native) => native.row(),
+        Native::OfUtility(native) => native.row(),
     }
 }
 

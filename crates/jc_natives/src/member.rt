@@ -1,8 +1,7 @@
 //! A native member: what it tests of its arguments, and what it does where they pass.
 
 ghost use Rattle.std.specs.Prelude.{◌≡◌};
-ghost use Rattle.jc_natives.specs.PrivateMeaning.{work_of};
-ghost use Rattle.jc_natives.specs.PrivateRows.{row_of};
+ghost use Rattle.jc_natives.specs.PrivateMeaning.{row_of, work_of};
 ghost use Rattle.jc_natives.specs.PrivateWords.{Passes, done_of, native_work, seen_in};
 ghost use Rattle.jc_natives.specs.declared.native.Native.{Native as Named};
 

@@ -12,8 +12,8 @@ use crate::ended::{Ended, throw_with};
 use crate::kept::Runtime;
 use crate::member::{Member, tested};
 use crate::native::ObjectNative;
-use crate::row::MemberRow;
-use crate::rows::object_row;
+use crate::row::{MemberRow, Test, Way};
+use crate::rows::{UNTESTED, called, constructed};
 use crate::tests::is_aid_object;
 use jc_machine::WordCall;
 use jc_store::Store;
@@ -73,7 +73,16 @@ impl Member for ObjectNative {
 
     #[inline(always)]
     fn row(self) -> MemberRow {
-        object_row(self)
+        match self {
+            ObjectNative::Construct | ObjectNative::ConstructWithReason => constructed(),
+            ObjectNative::Equals => MemberRow {
+                first: Test::Object(0, Way::Calls),
+                second: Test::BesideAid,
+                ..UNTESTED
+            },
+            ObjectNative::GetReason | ObjectNative::SetReason => called(),
+            ObjectNative::ThrowIt(_) => UNTESTED,
+        }
     }
 
     #[inline(always)]

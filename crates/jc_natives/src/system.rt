@@ -18,8 +18,8 @@ use crate::ended::{Ended, Question, throw_system};
 use crate::kept::{Instance, Runtime};
 use crate::member::{Member, tested};
 use crate::native::{Elements, SystemNative};
-use crate::row::MemberRow;
-use crate::rows::system_row;
+use crate::row::{Length, MemberRow, Test, Way};
+use crate::rows::{UNTESTED, called, on_array};
 use jc_api::ApiClass;
 use jc_machine::WordCall;
 use jc_names::{ClassName, Owner};
@@ -236,7 +236,16 @@ impl Member for SystemNative {
 
     #[inline(always)]
     fn row(self) -> MemberRow {
-        system_row(self)
+        match self {
+            SystemNative::LookupAid => on_array(Test::Object(0, Way::Loads), Length::ByteAt(2)),
+            SystemNative::AskForShareable => called(),
+            SystemNative::GetAid
+            | SystemNative::GetPreviousAid
+            | SystemNative::MakeBooleans
+            | SystemNative::MakeBytes
+            | SystemNative::MakeShorts
+            | SystemNative::MakeReferences => UNTESTED,
+        }
     }
 
     #[inline(always)]

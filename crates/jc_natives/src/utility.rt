@@ -12,8 +12,8 @@ use crate::ended::Ended;
 use crate::kept::Runtime;
 use crate::member::{Member, tested};
 use crate::native::UtilityNative;
-use crate::row::MemberRow;
-use crate::rows::utility_row;
+use crate::row::{Length, MemberRow, Test, Way};
+use crate::rows::{UNTESTED, on_array, on_arrays};
 use crate::words::low;
 use jc_machine::WordCall;
 use jc_store::Store;
@@ -34,6 +34,7 @@ fn array_copy(store: &mut Store, call: &WordCall<'_>, runtime: &Runtime) -> Ende
     Ended::Returned(Some(sum(to, count)))
 }
 
+#[tactic(auto, using(crate::proofs::Passing::named, crate::proofs::Passing::one_part))]
 fn array_fill(store: &mut Store, call: &WordCall<'_>, runtime: &Runtime) -> Ended
     requires passed { Passes (seen_in store.old call.now) call.now.arguments.now
         (OfUtility natives.ArrayFill) }
@@ -65,6 +66,7 @@ fn array_compare(store: &mut Store, call: &WordCall<'_>, runtime: &Runtime) -> E
 }
 
 #[inline(always)]
+#[tactic(auto, using(crate::proofs::Passing::named, crate::proofs::Passing::one_part))]
 fn get_short(store: &mut Store, call: &WordCall<'_>, runtime: &Runtime) -> Ended
     requires passed { Passes (seen_in store.old call.now) call.now.arguments.now
         (OfUtility natives.GetShort) }
@@ -78,6 +80,7 @@ fn get_short(store: &mut Store, call: &WordCall<'_>, runtime: &Runtime) -> Ended
 }
 
 #[inline(always)]
+#[tactic(auto, using(crate::proofs::Passing::named, crate::proofs::Passing::one_part))]
 fn set_short(store: &mut Store, call: &WordCall<'_>, runtime: &Runtime) -> Ended
     requires passed { Passes (seen_in store.old call.now) call.now.arguments.now
         (OfUtility natives.SetShort) }
@@ -132,7 +135,20 @@ impl Member for UtilityNative {
 
     #[inline(always)]
     fn row(self) -> MemberRow {
-        utility_row(self)
+        match self {
+            UtilityNative::ArrayCopy => on_arrays(
+                Test::Object(0, Way::Loads),
+                Test::Object(2, Way::Stores),
+            ),
+            UtilityNative::ArrayFill => on_array(Test::Object(0, Way::Stores), Length::ShortAt(2)),
+            UtilityNative::ArrayCompare => on_arrays(
+                Test::Object(0, Way::Loads),
+                Test::Object(2, Way::Loads),
+            ),
+            UtilityNative::GetShort => on_array(Test::Object(0, Way::Loads), Length::Fixed(2)),
+            UtilityNative::SetShort => on_array(Test::Object(0, Way::Stores), Length::Fixed(2)),
+            UtilityNative::MakeShort => UNTESTED,
+        }
     }
 
     #[inline(always)]

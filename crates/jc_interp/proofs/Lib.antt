@@ -37,7 +37,9 @@ mod Leafing
 mod SceneSteps
 mod Stopping
 mod LeafRuns
+mod ByName
 mod LeafCalls
+mod TopFrames
 mod LoadedAgree
 mod ImageWords
 mod MadeArrays

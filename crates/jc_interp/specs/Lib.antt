@@ -26,5 +26,6 @@ pub mod PrivateSimulates
 pub mod PrivateRuns
 pub mod PrivateLaws
 pub mod PrivateLeaf
+pub mod PrivateRunning
 pub mod PrivateScenes
 pub mod PrivateCalling

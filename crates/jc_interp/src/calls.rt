@@ -2,11 +2,15 @@
 //! invokeinterface).
 
 ghost use Rattle.std.specs.Prelude.{◌≡◌, ◌-◌, None, false};
-ghost use Rattle.jc_firewall.specs.declared.access.Access.TheVariants.{InvokeVirtual};
+ghost use Rattle.jc_firewall.specs.declared.access.Access.TheVariants.{InvokeInterface, InvokeVirtual};
+ghost use Rattle.jc_interp.specs.PrivateCasts.{is_shared_interface};
 ghost use Rattle.jc_interp.specs.PrivateCalls.{guarded_call, interface_plan, listed_plan, on_interface};
 ghost use Rattle.jc_interp.specs.PrivateCalls.{receiver};
 ghost use Rattle.jc_interp.specs.PrivateCalls.{special_plan, static_plan, virtual_called, virtual_plan};
+ghost use Rattle.jc_interp.specs.PrivateRunning.{CallsByName, IsCalledByName};
 ghost use Rattle.jc_interp.specs.PrivateSeen.{verdict_on};
+ghost use Rattle.jc_link.specs.Linked.{World as LinkedWorld};
+ghost use Rattle.jc_program.specs.Program.{IsProgramOf};
 
 use crate::casts::is_shared_interface;
 use crate::ends::{CLASS_CAST_EXCEPTION, NULL_POINTER_EXCEPTION, SECURITY_EXCEPTION};
@@ -40,9 +44,12 @@ pub(crate) enum Plan {
 }
 
 /// What an object's class has at a virtual token, for the package whose method runs.
-#[inline]
-fn virtual_called(here: &Here<'_>, class: u16, token: u8) -> Called
-    ensures { result ≡ virtual_called here.now class token }
+#[inline(always)]
+#[tactic(auto, using(crate::proofs::ByName::virtual_by_name, crate::proofs::ByName::visible_by_name))]
+pub(crate) fn virtual_called(here: &Here<'_>, class: u16, token: u8) -> Called
+    ensures is { result ≡ virtual_called here.now class token }
+    ensures by_name { (w : LinkedWorld) → IsProgramOf w here.now.program.now
+        → IsCalledByName here.now.program.now result }
 {
     let number = ClassNumber::new(class);
     if token < PACKAGE_VISIBLE {
@@ -56,16 +63,35 @@ fn virtual_called(here: &Here<'_>, class: u16, token: u8) -> Called
 }
 
 /// The firewall's verdict on a call of a virtual method. An applet may call its context's own objects, whatever else is
-/// known of them.
+/// known of them. Copies are handed on, so that what is asked of others alone needn't lie in memory.
 #[inline(always)]
-fn verdict_on_call(here: &Here<'_>, object: Seen) -> Verdict
+pub(crate) fn verdict_on_call(here: &Here<'_>, object: Seen) -> Verdict
     ensures { result ≡ verdict_on here.now InvokeVirtual object None false }
 {
     let context = here.frame.active.context;
     if context != RUNTIME && object.owner.context == context {
         Verdict::Allowed
     } else {
-        verdict(here, Access::InvokeVirtual, object, None, false)
+        let here = *here;
+        let object = object;
+        verdict(&here, Access::InvokeVirtual, object, None, false)
+    }
+}
+
+/// The same of a method of an interface: whether that is shared is asked for the objects of others alone.
+#[inline(always)]
+fn verdict_on_interface(here: &Here<'_>, object: Seen, interface: ClassName) -> Verdict
+    ensures { result ≡ verdict_on here.now InvokeInterface object None
+        (is_shared_interface here.now.program.now interface) }
+{
+    let context = here.frame.active.context;
+    if context != RUNTIME && object.owner.context == context {
+        Verdict::Allowed
+    } else {
+        let here = *here;
+        let object = object;
+        let is_shared = is_shared_interface(here.program, interface);
+        verdict(&here, Access::InvokeInterface, object, None, is_shared)
     }
 }
 
@@ -106,7 +132,7 @@ fn listed_plan(verdict: Verdict, call: InterfaceCall, words: u8) -> Plan
 impl WordMachine {
     /// The object of a call of so many words.
     #[inline(always)]
-    fn receiver(&self, words: u8) -> Option<Seen>
+    pub(crate) fn receiver(&self, words: u8) -> Option<Seen>
         ensures { result ≡ receiver self.now words }
     {
         look_at(&self.store, self.operand(words.saturating_sub(1)))
@@ -115,7 +141,9 @@ impl WordMachine {
     /// invokevirtual
     #[inline(always)]
     pub(crate) fn plan_virtual(&self, here: &Here<'_>, index: u16) -> Plan
-        ensures { result ≡ virtual_plan here.now index self.now }
+        ensures is { result ≡ virtual_plan here.now index self.now }
+        ensures by_name { (w : LinkedWorld) → IsProgramOf w here.now.program.now
+            → CallsByName here.now.program.now result }
     {
         let (token, words) = match here.program.entries.at(here.frame.method.package, index) {
             Some(Entry::VirtualMethod { token, words }) => (token, words),
@@ -135,7 +163,9 @@ impl WordMachine {
     /// invokespecial: no access is tested, and no owner changes. Where no method is found the object is taken for null.
     #[inline(always)]
     pub(crate) fn plan_special(&self, here: &Here<'_>, index: u16) -> Plan
-        ensures { result ≡ special_plan here.now index self.now }
+        ensures is { result ≡ special_plan here.now index self.now }
+        ensures by_name { (w : LinkedWorld) → IsProgramOf w here.now.program.now
+            → CallsByName here.now.program.now result }
     {
         match self.plan_static(here, index) {
             Plan::Calls {
@@ -158,7 +188,9 @@ impl WordMachine {
     /// invokestatic
     #[inline(always)]
     pub(crate) fn plan_static(&self, here: &Here<'_>, index: u16) -> Plan
-        ensures { result ≡ static_plan here.now index }
+        ensures is { result ≡ static_plan here.now index }
+        ensures by_name { (w : LinkedWorld) → IsProgramOf w here.now.program.now
+            → CallsByName here.now.program.now result }
     {
         let Some(entry) = here.program.entries.at(here.frame.method.package, index) else {
             return Plan::Nothing;
@@ -174,9 +206,11 @@ impl WordMachine {
     }
 
     /// invokeinterface, of a method of this interface.
-    #[inline]
+    #[inline(always)]
     fn plan_on_interface(&self, here: &Here<'_>, words: u8, token: u8, interface: ClassName) -> Plan
-        ensures { result ≡ on_interface here.now words token self.now interface }
+        ensures is { result ≡ on_interface here.now words token self.now interface }
+        ensures by_name { (w : LinkedWorld) → IsProgramOf w here.now.program.now
+            → CallsByName here.now.program.now result }
     {
         let Some(number) = here.program.classes.number_of(interface) else {
             return Plan::Nothing;
@@ -184,8 +218,7 @@ impl WordMachine {
         let Some(object) = self.receiver(words) else {
             return Plan::Throws(NULL_POINTER_EXCEPTION);
         };
-        let is_shared = is_shared_interface(here.program, interface);
-        let verdict = verdict(here, Access::InvokeInterface, object, None, is_shared);
+        let verdict = verdict_on_interface(here, object, interface);
         let class = ClassNumber::new(object.class);
         let call = here
             .program
@@ -195,9 +228,11 @@ impl WordMachine {
     }
 
     /// invokeinterface
-    #[inline]
+    #[inline(always)]
     pub(crate) fn plan_interface(&self, here: &Here<'_>, words: u8, index: u16, token: u8) -> Plan
-        ensures { result ≡ interface_plan here.now words index token self.now }
+        ensures is { result ≡ interface_plan here.now words index token self.now }
+        ensures by_name { (w : LinkedWorld) → IsProgramOf w here.now.program.now
+            → CallsByName here.now.program.now result }
     {
         match class_named(here, index) {
             Some(interface) => self.plan_on_interface(here, words, token, interface),

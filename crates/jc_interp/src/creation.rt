@@ -6,6 +6,7 @@ ghost use Rattle.jc_interp.specs.PrivateCreation.{do_create, do_create_array, do
 ghost use Rattle.jc_interp.specs.PrivateCreation.{made_in};
 ghost use Rattle.jc_interp.specs.PrivateCreation.{word_array};
 ghost use Rattle.jc_interp.specs.PrivateDone.{done, operand};
+ghost use Rattle.jc_interp.specs.declared.ends.StepEnd.TheVariants.{GoesOn};
 
 use crate::ends::{NEGATIVE_SIZE_EXCEPTION, NO_RESOURCE, SYSTEM_EXCEPTION, StepEnd};
 use crate::here::Here;
@@ -39,7 +40,7 @@ fn is_count(word: u16) -> bool
 }
 
 /// Makes a plain object, where there is room for it. The answer is its number.
-#[inline]
+#[inline(always)]
 fn make(store: &mut Store, object: ObjectType, owner: Owner, len: usize, class: u16) -> Option<u16>
     ensures { made store.new result ≡ made_in store.old object owner len class }
 {
@@ -62,7 +63,8 @@ impl WordMachine {
         class: u16,
         count: u8,
     ) -> StepEnd
-        ensures { done self.new result ≡ do_create here.now object len class count self.old }
+        ensures is { done self.new result ≡ do_create here.now object len class count self.old }
+        ensures stays { (result ≡ GoesOn → ⊥) → self.new.frames ≡ self.old.frames }
     {
         match make(&mut self.store, object, here.frame.active, len, class) {
             Some(number) => self.gives(here, count, number),
@@ -87,7 +89,8 @@ impl WordMachine {
     /// new, of this class
     #[inline(always)]
     fn create_object(&mut self, here: &Here<'_>, class: ClassName) -> StepEnd
-        ensures { done self.new result ≡ do_new here.now class self.old }
+        ensures is { done self.new result ≡ do_new here.now class self.old }
+        ensures stays { (result ≡ GoesOn → ⊥) → self.new.frames ≡ self.old.frames }
     {
         let Some(number) = here.program.classes.number_of(class) else {
             return StepEnd::UsedUp;
@@ -99,7 +102,8 @@ impl WordMachine {
     /// new, of the class that an entry of the constant pool names
     #[inline(always)]
     pub(crate) fn create_named(&mut self, here: &Here<'_>, index: u16) -> StepEnd
-        ensures { done self.new result ≡ do_creation here.now (Object index) self.old }
+        ensures is { done self.new result ≡ do_creation here.now (Object index) self.old }
+        ensures stays { (result ≡ GoesOn → ⊥) → self.new.frames ≡ self.old.frames }
     {
         match class_named(here, index) {
             Some(class) => self.create_object(here, class),

@@ -3,10 +3,13 @@
 ghost use Rattle.std.specs.Prelude.{◌≡◌};
 ghost use Rattle.jc_interp.specs.PrivateDone.{done};
 ghost use Rattle.jc_interp.specs.PrivateEntering.{Enters, EntersWith, header_of, owners_of, size_of};
+ghost use Rattle.jc_interp.specs.PrivateRunning.{IsByName, RunsTop};
+ghost use Rattle.jc_interp.specs.declared.ends.StepEnd.TheVariants.{GoesOn};
 
 use crate::ends::StepEnd;
 use crate::here::Here;
 use crate::machine::WordMachine;
+use crate::top::Running;
 use jc_cap::MethodHeader;
 use jc_frames::{CodePlace, FrameHeader, FrameSize};
 use jc_names::Owner;
@@ -68,25 +71,33 @@ pub(crate) fn size_of(header: MethodHeader, words: u8) -> FrameSize
 impl WordMachine {
     /// Calls a method on so many of the operands, which the caller loses.
     #[inline(always)]
-    pub(crate) fn enter(
+    pub(crate) fn enter<'p>(
         &mut self,
-        here: &Here<'_>,
+        here: &Here<'p>,
         number: MethodNumber,
         owners: Owners,
         words: u8,
+        running: &mut Running<'p>,
     ) -> StepEnd
-        ensures { Enters here.now number owners words self.old (done self.new result) }
+        requires by_name { IsByName here.now.program.now number }
+        ensures enters { Enters here.now number owners words self.old (done self.new result) }
+        ensures runs { result ≡ GoesOn → RunsTop here.now.program.now self.new running.new }
+        ensures stays { (result ≡ GoesOn → ⊥) → self.new.frames ≡ self.old.frames }
     {
         let Some(method) = here.program.methods.get(number) else {
             return StepEnd::UsedUp;
         };
         let header = header_of(&method, owners);
         let size = size_of(method.header, words);
-        if self.frames.enter_call(header, size, words) {
-            StepEnd::GoesOn
-        } else {
-            StepEnd::UsedUp
+        if !self.frames.enter_call(header, size, words) {
+            return StepEnd::UsedUp;
         }
+        *running = Running {
+            method: header.method,
+            code: method.code,
+            context: header.active.context,
+        };
+        StepEnd::GoesOn
     }
 
     /// Calls a method on arguments for a native member, whose own arguments were so many of the operands: the caller
@@ -99,7 +110,8 @@ impl WordMachine {
         arguments: &[u16],
         words: u8,
     ) -> StepEnd
-        ensures { EntersWith here.now number owners arguments.now words self.old (done self.new result) }
+        ensures enters { EntersWith here.now number owners arguments.now words self.old (done self.new result) }
+        ensures stays { (result ≡ GoesOn → ⊥) → self.new.frames ≡ self.old.frames }
     {
         let Some(method) = here.program.methods.get(number) else {
             return StepEnd::UsedUp;

@@ -9,7 +9,7 @@ use crate::machine::WordMachine;
 
 impl WordMachine {
     /// The operand with an index, the top one first.
-    #[inline]
+    #[inline(always)]
     pub(crate) fn operand(&self, index: u8) -> u16
         ensures { result ≡ operand self.now index }
     {
@@ -23,7 +23,7 @@ impl WordMachine {
         self.frames.local(index)
     }
 
-    #[inline]
+    #[inline(always)]
     pub(crate) fn goes_to(&mut self, pc: u16) -> StepEnd
         ensures { done self.new result ≡ goes_to pc self.old }
     {
@@ -32,7 +32,7 @@ impl WordMachine {
     }
 
     /// It goes on behind the instruction, without so many operands.
-    #[inline]
+    #[inline(always)]
     pub(crate) fn leaves(&mut self, here: &Here<'_>, count: u8) -> StepEnd
         ensures { done self.new result ≡ leaves here.now count self.old }
     {
@@ -41,7 +41,7 @@ impl WordMachine {
     }
 
     /// It goes on behind the instruction, with a word on top of the operands.
-    #[inline]
+    #[inline(always)]
     pub(crate) fn puts(&mut self, here: &Here<'_>, word: u16) -> StepEnd
         ensures { done self.new result ≡ puts here.now word self.old }
     {
@@ -50,7 +50,7 @@ impl WordMachine {
     }
 
     /// It goes on behind the instruction, with a word in place of so many operands.
-    #[inline]
+    #[inline(always)]
     pub(crate) fn gives(&mut self, here: &Here<'_>, count: u8, word: u16) -> StepEnd
         ensures { done self.new result ≡ gives here.now count word self.old }
     {

@@ -29,6 +29,7 @@ mod seen;
 mod statics;
 mod step;
 mod told;
+mod top;
 mod unwinding;
 
 pub use call::FirstCall;

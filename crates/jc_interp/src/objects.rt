@@ -4,6 +4,7 @@ ghost use Rattle.jc_interp.specs.PrivateDone.{done};
 ghost use Rattle.jc_interp.specs.PrivateNatives.{done_with};
 ghost use Rattle.jc_interp.specs.PrivateObjects.{do_object};
 ghost use Rattle.jc_interp.specs.PrivatePerform.{PerformsObject};
+ghost use Rattle.jc_program.specs.Program.{IsProgramOf};
 
 use crate::ends::StepEnd;
 use crate::here::Here;
@@ -19,6 +20,7 @@ impl WordMachine {
         here: &Here<'_>,
         operation: ObjectOperation,
     ) -> StepEnd
+        requires program { IsProgramOf here.now.world.now here.now.program.now }
         ensures { PerformsObject N.meaning here.now self.old (N.kept natives.old)
             (done_with (done self.new result) (N.kept natives.new)) (do_object here.now operation self.old) }
     {
@@ -37,9 +39,11 @@ impl WordMachine {
             ObjectOperation::Throw => self.throw(here),
             ObjectOperation::ReturnReference => {
                 let word = self.operand(0);
-                self.returns(here, Some(word))
+                self.returns(here, Some(word), &mut self.running(here.program))
             }
-            ObjectOperation::ReturnVoid => self.returns(here, None),
+            ObjectOperation::ReturnVoid => {
+                self.returns(here, None, &mut self.running(here.program))
+            }
         }
     }
 }

@@ -12,8 +12,8 @@ use jc_firewall::Access;
 
 impl WordMachine {
     /// athrow
-    pub(crate) fn throw(&mut self, here: &Here<'_>) -> StepEnd
-        ensures { done self.new result ≡ do_throw here.now (operand self.old 0) self.old }
+    pub(crate) fn throw(&self, here: &Here<'_>) -> StepEnd
+        ensures { done self.now result ≡ do_throw here.now (operand self.now 0) self.now }
     {
         let number = self.operand(0);
         let Some(object) = look_at(&self.store, number) else {

@@ -12,4 +12,4 @@ returns-clause-calls g c =
     subst (CallsBackBy g.N.Natives.meaning h c.args.words (callback_words c.args.callback.now) u kept d)
     (sym c.in-Some.is ∙ c.called_back.ensures)
     (subst (λ xs. CallsBackBy g.N.Natives.meaning h c.args.words xs u kept d (Some c.in-Some.callee))
-    (c.as_slice.ensures.value ∙ c.arguments_of-arguments.ensures.words) c.call_callee.ensures)
+    (c.as_slice.ensures.value ∙ c.arguments_of-arguments.ensures.words) c.call_callee.ensures.calls)

@@ -4,8 +4,8 @@ use Rattle.jc_interp.specs.PrivateDone.{done, throws, with_store}
 use Rattle.jc_interp.specs.PrivateNatives.{EndsNative, done_with, native_gives, state_of}
 use Rattle.jc_interp.proofs.machine.WordMachine.call_native.Goals as goal
 
-pub returns-in-Returned : goal.returns-in-Returned
-returns-in-Returned g c =
+pub returns-in-Returned-clause-calls : goal.returns-in-Returned-clause-calls
+returns-in-Returned-clause-calls g c =
     let kept = g.N.Natives.kept c.ask.new.natives in
     let u = with_store c.args.self.now c.ask.new.self.store in
     record {
@@ -14,12 +14,12 @@ returns-in-Returned g c =
       answer = c.ask.ensures.answer;
       goes_on = subst (EndsNative g.N.Natives.meaning c.args.here.now c.args.words u kept
           (done_with (done c.native_gives.new.self c.native_gives.result) kept)) (sym c.in-Returned.is)
-          (ap (λ d. done_with d kept) (c.native_gives.ensures
+          (ap (λ d. done_with d kept) (c.native_gives.ensures.is
           ∙ ap (native_gives c.args.here.now c.args.words c.in-Returned.value) c.ask.ensures.frames));
     }
 
-pub returns-in-Thrown : goal.returns-in-Thrown
-returns-in-Thrown g c =
+pub returns-in-Thrown-clause-calls : goal.returns-in-Thrown-clause-calls
+returns-in-Thrown-clause-calls g c =
     let kept = g.N.Natives.kept c.ask.new.natives in
     let u = with_store c.args.self.now c.ask.new.self.store in
     record {
@@ -31,8 +31,8 @@ returns-in-Thrown g c =
           (ap (λ v. done_with (throws c.in-Thrown.object v) kept) c.ask.ensures.frames);
     }
 
-pub returns-in-CallsBack : goal.returns-in-CallsBack
-returns-in-CallsBack g c =
+pub returns-in-CallsBack-clause-calls : goal.returns-in-CallsBack-clause-calls
+returns-in-CallsBack-clause-calls g c =
     let kept = g.N.Natives.kept c.ask.new.natives in
     let u = with_store c.args.self.now c.ask.new.self.store in
     let d = done_with (done c.call_back.new.self c.call_back.result) (g.N.Natives.kept c.call_back.new.natives) in

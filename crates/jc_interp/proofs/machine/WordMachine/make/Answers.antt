@@ -20,6 +20,6 @@ returns g c = record {
   performed =
       done_with (done c.perform-end.new.self c.perform-end.result) (g.N.Natives.kept c.perform-end.new.natives);
   performs = c.perform-end.ensures;
-  settled = c.settle.ensures;
+  settled = c.settle.ensures.settled;
   kept_is = refl;
 }

@@ -1,5 +1,5 @@
 -- When native members on words do what they mean on tagged values: the contract by which an interpreter calls them.
-use Rattle.std.specs.Prelude.{◌≡◌, ℕ, true, Some, None}
+use Rattle.std.specs.Prelude.{⊤, ◌≡◌, ℕ, true, List, Option, Some, None}
 use Rattle.jc_link.specs.Linked.{World}
 use Rattle.jc_store.specs.Heap.{Object, object_at}
 use Rattle.jc_store.specs.Store.{Store, class_number_at}
@@ -9,6 +9,8 @@ use Rattle.jc_machine.specs.Machine.{Callback, NativeAnswer, NativeCall, Natives
 use Rattle.jc_machine.specs.Machine.{Calls, Gives, IsStuck, NativeEnd, ThrowsObject}
 use Rattle.jc_machine.specs.Natives.{IsFitCall}
 use Rattle.jc_machine.specs.Reading.{HeapReads, Pointwise, Reads, ReadsResult}
+use Rattle.jc_machine.specs.declared.natives.AtOnce.{AtOnce}
+use Rattle.jc_machine.specs.declared.natives.AtOnce.TheVariants as at_once
 use Rattle.jc_machine.specs.declared.natives.WordCall.{WordCall}
 use Rattle.jc_machine.specs.declared.natives.WordCallback.{WordCallback}
 use Rattle.jc_machine.specs.declared.natives.WordOutcome.{WordOutcome}
@@ -63,6 +65,19 @@ abbrev pub Answers : {C : Type 0} → Natives C → World → WordCall → WordS
 Answers {C} natives w word before after outcome =
     (call : NativeCall C) → CallAgrees before word call → IsAccepted w → IsFitCall natives w call
     → AnswerAgrees after outcome (natives.answer w call)
+
+-- what holds of what is given, nothing or a word, where a member was done at once
+abbrev pub IfDone : AtOnce → (Option ℕ → Type 0) → Type 0
+IfDone (at_once.Gives word) holds = holds (Some word)
+IfDone at_once.GivesNothing holds = holds None
+IfDone at_once.NotAtOnce holds = ⊤
+
+-- where a member was done at once it does what it means, for each call of it with these arguments in this context
+abbrev pub AnswersAtOnce :
+    {C : Type 0} → Natives C → ℕ → List ℕ → ℕ → WordState C → WordState C → AtOnce → Type 0
+AnswersAtOnce {C} natives member arguments context before after given =
+    (word : WordCall) → word.member ≡ member → word.arguments.now ≡ arguments → word.active.context ≡ context
+    → IfDone given (λ value. Answers natives word.world.now word before after (Returned value))
 
 -- what stands for the class of an array where classes have numbers: Object is the first of a world's classes
 abbrev pub number_of_object : ℕ

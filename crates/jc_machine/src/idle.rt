@@ -4,7 +4,7 @@ ghost use Rattle.jc_machine.specs.Reading.{ReadsResult};
 ghost use Rattle.jc_machine.specs.Idle.{idle_result, idle_value};
 
 use crate::member::member_with;
-use crate::natives::{Natives, WordCall, WordOutcome};
+use crate::natives::{AtOnce, Natives, WordCall, WordOutcome};
 use jc_api::ApiClass;
 use jc_base::ReturnType;
 use jc_firewall::Denial;
@@ -47,6 +47,16 @@ impl Natives for IdleNatives {
 
     fn call(&mut self, _store: &mut Store, call: &WordCall<'_>) -> WordOutcome {
         WordOutcome::Returned(idle_result(call.member))
+    }
+
+    fn call_at_once(
+        &mut self,
+        _store: &mut Store,
+        _member: u16,
+        _arguments: &[u16],
+        _context: u8,
+    ) -> AtOnce {
+        AtOnce::NotAtOnce
     }
 
     fn denial(&self, _store: &Store, _call: &WordCall<'_>) -> Option<Denial> {

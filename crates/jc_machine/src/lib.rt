@@ -19,5 +19,5 @@ pub use laws::{
     instructions_begin_in_turn, methods_have_code, operations_on_words_keep_types,
     runtime_objects_stay, steps_stay_apart,
 };
-pub use natives::{MOST_ARGUMENTS, Natives, WordCall, WordCallback, WordOutcome};
+pub use natives::{AtOnce, MOST_ARGUMENTS, Natives, WordCall, WordCallback, WordOutcome};
 pub use stop::{Budget, CodePoint};

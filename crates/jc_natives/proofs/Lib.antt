@@ -35,3 +35,4 @@ mod TypedCells
 mod Unstuck
 mod Same
 mod Counting
+mod AtOnce

@@ -1,5 +1,6 @@
 -- What is the active context's own may be used in each way.
-use Rattle.std.proofs.Common.{◌≡◌, ℕ, false, ◌&&◌, None, arith}
+use Rattle.std.proofs.Common.{◌≡◌, inl, inr, ℕ, zero, suc, ◌<◌, ◌≤◌, false, ◌&&◌, List, [], ◌∷◌, length, slice_get}
+use Rattle.std.proofs.Common.{None, Some, refl, arith}
 use Rattle.std.proofs.lemmas.Bool.{both_ways, eq-eqb}
 use Rattle.std.specs.Option.{option_map_or}
 use Rattle.jc_firewall.specs.Own.{OwnIsAllowed}
@@ -9,7 +10,7 @@ use Rattle.jc_natives.specs.Checks.{access_of}
 use Rattle.jc_natives.specs.PrivateSeen.{Seen}
 use Rattle.jc_natives.specs.PrivateTests.{by_verdict, used}
 use Rattle.jc_natives.specs.declared.row.Way.{Way}
-use Rattle.jc_store.specs.Store.{IsOwn, Store}
+use Rattle.jc_store.specs.Store.{IsOwn, IsReference, Store}
 
 -- no use stores a reference
 stores_none : (way : Way) → (stores_reference (access_of way) && option_map_or is_never_stored None false) ≡ false
@@ -23,3 +24,14 @@ runtime_may s way number f = grind (arith, f)
 pub own_passes : OwnIsAllowed → (s : Seen) (store : Store) (way : Way) (number : ℕ) → s.objects ≡ store.objects
     → IsOwn store number s.active.context → (used s way number).thrown ≡ None
 own_passes law s store way number same own = grind (arith, runtime_may, both_ways, eq-eqb, stores_none)
+
+-- 0, and each number up to that of the last object, is that of null or of an object that is there
+got : {A : Type 0} (xs : List A) (n : ℕ) → n < length xs → (x : A) × (slice_get xs n ≡ Some x)
+got [] n h = absurd (omega (arith, h))
+got (x ∷ xs) zero h = (x, refl)
+got (x ∷ xs) (suc n) h = got xs n (omega (arith, h))
+
+pub reference_within : (store : Store) (number : ℕ) → number ≤ length store.objects → IsReference store number
+reference_within store zero within = inl refl
+reference_within store (suc n) within =
+    let g = got store.objects n (omega (arith, within)) in inr (record { object = g.0; is = g.1 })

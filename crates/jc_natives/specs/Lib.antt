@@ -21,3 +21,4 @@ pub mod PrivateSystem
 pub mod PrivateUtilities
 pub mod PrivateMeaning
 pub mod PrivateWords
+pub mod PrivateAtOnce

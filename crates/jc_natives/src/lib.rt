@@ -4,6 +4,7 @@
 mod aid;
 mod apdu;
 mod applet;
+mod at_once;
 mod bytes;
 mod cells;
 mod denied;

@@ -15,6 +15,7 @@ ghost use Rattle.jc_natives.specs.PrivateWords.{AsksSo, TellsEnd, done_of, nativ
 use crate::aid::aid_native;
 use crate::apdu::apdu_native;
 use crate::applet::applet_native;
+use crate::at_once::done_at_once;
 use crate::denied::denied;
 use crate::ended::{Ended, Question};
 use crate::kept::Runtime;
@@ -26,7 +27,7 @@ use crate::utility::{utility_called, utility_native};
 use arrayvec::ArrayVec;
 use jc_firewall::Denial;
 use jc_link::{built_worlds_are_sound, built_worlds_stand_on_the_api};
-use jc_machine::{Natives, WordCall, WordCallback, WordOutcome};
+use jc_machine::{AtOnce, Natives, WordCall, WordCallback, WordOutcome};
 use jc_store::Store;
 
 // The member that applets answer questions for shareable objects by.
@@ -133,6 +134,20 @@ impl Natives for Runtime {
         // each object has a number for its class
         let _used = store.objects_used();
         outcome_of(call_member(store, call, self))
+    }
+
+    #[inline]
+    fn call_at_once(
+        &mut self,
+        store: &mut Store,
+        member: u16,
+        arguments: &[u16],
+        context: u8,
+    ) -> AtOnce {
+        members_mean_the_same();
+        // each object has a number for its class
+        let _used = store.objects_used();
+        done_at_once(store, member, arguments, context)
     }
 
     fn denial(&self, store: &Store, call: &WordCall<'_>) -> Option<Denial> {

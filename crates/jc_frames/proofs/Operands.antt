@@ -1,7 +1,7 @@
 -- The operands in use of the frame at a place, and the words that hold them.
 use Rattle.std.proofs.Common.{◌≡◌, ◌⊎◌, ℕ, suc, ◌+◌, ◌-◌, ◌<◌, ◌≤◌, min, inl, inr, true, false, if◌then◌else◌}
 use Rattle.std.proofs.Common.{nat_lt, nat_le, List, [], ◌∷◌, ◌++◌, length, take, drop, reverse, set, refl, sym, ap}
-use Rattle.std.proofs.Common.{◌∙◌, arith}
+use Rattle.std.proofs.Common.{◌≡◌, ◌∙◌, arith, subst}
 use Rattle.std.proofs.lemmas.Bool.{lt-ltb}
 use Rattle.std.proofs.lemmas.Bool.Decides.{leb_tells}
 use Rattle.std.proofs.lemmas.List.{append_assoc, length-append, length-drop}
@@ -171,3 +171,14 @@ module _ (p : FramePlace) (words : List ℕ) (within : IsWithin p words) (from d
       ∙ ap (drop count) (sym in_use_are))
       refl (sym (ap (λ xs. take from words ++ xs) (take-append-drop n (drop from words))
       ∙ take-append-drop from words))
+
+-- a change behind another
+pub then_changed : (f g : Frame → Frame) (p q r : FramePlace) (words between after : List ℕ)
+    → IsChanged f p words q between → IsChanged g q between r after → IsChanged (λ x. g (f x)) p words r after
+then_changed f g p q r words between after one two = record {
+  frame = two.frame ∙ ap g one.frame;
+  before = subst (λ (n : ℕ). take n after ≡ take n between) one.start two.before ∙ one.before;
+  start = two.start ∙ one.start;
+  locals = two.locals ∙ one.locals;
+  operands = two.operands ∙ one.operands;
+}

@@ -1,7 +1,7 @@
 //! The words of the frame at a place.
 
 ghost use Rattle.std.specs.Prelude.{◌≡◌, ◌+◌, length, min};
-ghost use Rattle.jc_frames.specs.Operands.{arguments_in, in_use, local_in, operand_in, pushed};
+ghost use Rattle.jc_frames.specs.Operands.{arguments_in, in_use, local_in, operand_in, pushed, put, replaced};
 ghost use Rattle.jc_frames.specs.PrivateLaid.{IsChanged, IsWithin, frame_in};
 
 use crate::header::FrameSize;
@@ -96,4 +96,24 @@ pub(crate) fn push_at(place: &mut FramePlace, words: &mut [u16], word: u16)
         place.header.depth = depth + 1;
         words[operands_at(place) + usize::from(depth)] = word;
     }
+}
+
+/// Puts an operand on top, where there is room for it, and sets the pc.
+#[inline(always)]
+pub(crate) fn put_at(place: &mut FramePlace, words: &mut [u16], word: u16, pc: u16)
+    requires { IsWithin place.old words.old }
+    ensures { IsChanged (put word pc) place.old words.old place.new words.new }
+{
+    push_at(place, words, word);
+    place.header.pc = pc;
+}
+
+/// The same in place of so many operands, or of all where there are fewer.
+#[inline(always)]
+pub(crate) fn replace_at(place: &mut FramePlace, words: &mut [u16], count: u8, word: u16, pc: u16)
+    requires { IsWithin place.old words.old }
+    ensures { IsChanged (replaced count word pc) place.old words.old place.new words.new }
+{
+    place.header.depth = depth_at(place).saturating_sub(count);
+    put_at(place, words, word, pc);
 }

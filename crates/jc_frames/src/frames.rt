@@ -6,11 +6,11 @@ ghost use Rattle.std.specs.Borrow.{sem};
 ghost use Rattle.jc_frames.specs.Frames.{Frame, HasOperands, HasTop, IsFull, IsPushed, with_frames, with_words_left};
 ghost use Rattle.jc_frames.specs.Lending.{LendsWords};
 ghost use Rattle.jc_frames.specs.Operands.{HasInUse, arguments_in, at_pc, dropped, in_use, local_in, of_top, on_top};
-ghost use Rattle.jc_frames.specs.Operands.{operand_in, placed, pushed, with_in_use, with_words, words_of};
+ghost use Rattle.jc_frames.specs.Operands.{operand_in, placed, pushed, put, replaced, with_in_use, with_words, words_of};
 ghost use Rattle.jc_frames.specs.PrivateLaid.{HasRoom};
 
 use crate::frame_words::{
-    arguments_at, depth_at, in_use_at, local_at, operand_at, push_at, size_at,
+    arguments_at, depth_at, in_use_at, local_at, operand_at, push_at, put_at, replace_at, size_at,
 };
 use crate::header::{FrameHeader, FrameSize};
 use crate::place::{FramePlace, copy_arguments, put_arguments, top_of, top_start};
@@ -236,6 +236,28 @@ impl Frames {
             return;
         };
         push_at(place, &mut self.words, word);
+    }
+
+    /// Puts an operand on top, where there is room for it, and the frame is at another pc.
+    #[inline(always)]
+    pub fn put(&mut self, word: u16, pc: u16)
+        ensures { self.new ≡ on_top (put word pc) self.old }
+    {
+        let Some(place) = self.places.last_mut() else {
+            return;
+        };
+        put_at(place, &mut self.words, word, pc);
+    }
+
+    /// The same in place of so many operands, or of all where there are fewer.
+    #[inline(always)]
+    pub fn replace(&mut self, count: u8, word: u16, pc: u16)
+        ensures { self.new ≡ on_top (replaced count word pc) self.old }
+    {
+        let Some(place) = self.places.last_mut() else {
+            return;
+        };
+        replace_at(place, &mut self.words, count, word, pc);
     }
 
     /// Takes so many operands away, or all where there are fewer.

@@ -34,6 +34,7 @@ mod Running
 mod WordRoom
 mod WordScenes
 mod Leafing
+mod QuickReady
 mod SceneSteps
 mod Stopping
 mod LeafRuns
@@ -43,3 +44,5 @@ mod TopFrames
 mod LoadedAgree
 mod ImageWords
 mod MadeArrays
+mod NativeCalls
+mod Putting

@@ -95,6 +95,7 @@ impl WordMachine {
         *running = Running {
             method: header.method,
             code: method.code,
+            kinds: method.kinds(),
             context: header.active.context,
         };
         StepEnd::GoesOn

@@ -42,19 +42,21 @@ impl WordMachine {
 
     /// It goes on behind the instruction, with a word on top of the operands.
     #[inline(always)]
+    #[tactic(auto, using(crate::proofs::Putting::put_is))]
     pub(crate) fn puts(&mut self, here: &Here<'_>, word: u16) -> StepEnd
         ensures { done self.new result ≡ puts here.now word self.old }
     {
-        self.frames.push_operand(word);
-        self.goes_to(here.next_pc)
+        self.frames.put(word, here.next_pc);
+        StepEnd::GoesOn
     }
 
     /// It goes on behind the instruction, with a word in place of so many operands.
     #[inline(always)]
+    #[tactic(auto, using(crate::proofs::Putting::replaced_is))]
     pub(crate) fn gives(&mut self, here: &Here<'_>, count: u8, word: u16) -> StepEnd
         ensures { done self.new result ≡ gives here.now count word self.old }
     {
-        self.frames.drop_operands(count);
-        self.puts(here, word)
+        self.frames.replace(count, word, here.next_pc);
+        StepEnd::GoesOn
     }
 }

@@ -1,6 +1,7 @@
-use Rattle.std.proofs.Common.{sym, ap, ◌∙◌}
+use Rattle.std.proofs.Common.{List, ℕ, subst, sym, ap, ◌∙◌}
 use Rattle.jc_frames.specs.Frames.{Frames}
 use Rattle.jc_frames.specs.declared.header.FrameHeader.{FrameHeader}
+use Rattle.jc_kinds.specs.Kinds.{AreKindsOf}
 use Rattle.jc_interp.specs.declared.top.Running.{Running}
 use Rattle.jc_interp.proofs.ByName.{its_code}
 use Rattle.jc_interp.proofs.TopFrames.{runs_new}
@@ -19,13 +20,18 @@ returns-clause-runs c went =
     let r : Running = record {
       method = header.method;
       code = c.method.inside.code;
+      kinds = c.kinds.result;
       context = header.active.context;
     } in
     runs_new p r _ pushed.frame _ (ap (λ (x : Frames). x.frames) pushed.is) (record {
-      known = λ other same.
-          ap (λ (x : LoadedMethod). x.code) c.method.view_is
-          ∙ its_code p c.args.number c.requires.by_name m (sym c.get.ensures ∙ c.in-Some.is) other
-          (same ∙ ap (λ (h : FrameHeader). h.method) c.header_of-header.ensures);
+      known = record {
+        code = λ other same.
+            ap (λ (x : LoadedMethod). x.code) c.method.view_is
+            ∙ its_code p c.args.number c.requires.by_name m (sym c.get.ensures ∙ c.in-Some.is) other
+            (same ∙ ap (λ (h : FrameHeader). h.method) c.header_of-header.ensures);
+        kinds = subst (λ (code : List ℕ). AreKindsOf code c.kinds.result.now)
+            (sym (ap (λ (x : LoadedMethod). x.code) c.method.view_is)) c.kinds.ensures;
+      };
       method_is = ap (λ (h : FrameHeader). h.method) pushed.new.header_is;
       context = sym (ap (λ (h : FrameHeader). h.active.context) pushed.new.header_is);
     })

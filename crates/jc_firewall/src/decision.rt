@@ -148,6 +148,7 @@ fn on_cast(active: u8, facts: &Facts) -> Verdict
 }
 
 /// What is decided where the active context isn't the runtime's, and nothing is stored that may not be.
+#[inline]
 fn between_applets(access: Access, active: u8, facts: &Facts) -> Verdict
     ensures { result ≡ verdict_in (row_of access facts.now) active facts.now }
 {
@@ -172,6 +173,7 @@ fn between_applets(access: Access, active: u8, facts: &Facts) -> Verdict
 }
 
 /// What is decided where the runtime itself is active.
+#[inline]
 fn of_runtime(access: Access, facts: &Facts) -> Verdict
     ensures { result ≡ verdict_for_runtime (row_of access facts.now) facts.now }
 {
@@ -212,6 +214,7 @@ fn stores_reference(access: Access) -> bool
 
 /// Whether an access is allowed to code that runs in the active context (Java Card Runtime Environment Specification,
 /// Class and Object Access Behavior).
+#[inline]
 pub fn decide(access: Access, active: u8, facts: &Facts) -> Verdict
     ensures { result ≡ verdict_of access active facts.now }
 {

@@ -77,7 +77,7 @@ impl Store {
 
     /// Makes an object whose components are 0, if there is room for it. The answer is its number. The number that is
     /// handed in for its class is kept; what it means is the caller's matter.
-    #[inline]
+    #[inline(always)]
     pub fn make(&mut self, kind: Kind, owner: Owner, len: usize, class: u16) -> Option<u16>
         ensures number { IfSome result (λ number. number ≡ next_number self.old.objects) }
         ensures made { IfSome result (λ number. self.new ≡ with_made self.old (fresh kind owner len) class) }

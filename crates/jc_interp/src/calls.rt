@@ -1,47 +1,29 @@
 //! Which method a call leads to (Java Card Virtual Machine Specification, invokevirtual, invokespecial, invokestatic,
 //! invokeinterface).
 
-ghost use Rattle.std.specs.Prelude.{◌≡◌, ◌-◌, None, false};
+ghost use Rattle.std.specs.Prelude.{◌≡◌, ◌-◌, None, Some, false, is_some};
 ghost use Rattle.jc_firewall.specs.declared.access.Access.TheVariants.{InvokeInterface, InvokeVirtual};
 ghost use Rattle.jc_interp.specs.PrivateCasts.{is_shared_interface};
-ghost use Rattle.jc_interp.specs.PrivateCalls.{guarded_call, interface_plan, listed_plan, on_interface};
-ghost use Rattle.jc_interp.specs.PrivateCalls.{receiver};
-ghost use Rattle.jc_interp.specs.PrivateCalls.{special_plan, static_plan, virtual_called, virtual_plan};
-ghost use Rattle.jc_interp.specs.PrivateRunning.{CallsByName, IsCalledByName};
+ghost use Rattle.jc_interp.specs.PrivateCalls.{receiver, virtual_called};
+ghost use Rattle.jc_interp.specs.PrivateRunning.{IsCalledByName, IsListedByName};
 ghost use Rattle.jc_interp.specs.PrivateSeen.{verdict_on};
 ghost use Rattle.jc_link.specs.Linked.{World as LinkedWorld};
+ghost use Rattle.jc_program.specs.Called.{interface_call_at};
+ghost use Rattle.jc_program.specs.Classes.{class_number};
 ghost use Rattle.jc_program.specs.Program.{IsProgramOf};
 
-use crate::casts::is_shared_interface;
-use crate::ends::{CLASS_CAST_EXCEPTION, NULL_POINTER_EXCEPTION, SECURITY_EXCEPTION};
 use crate::here::Here;
 use crate::machine::WordMachine;
-use crate::seen::{Seen, class_named, look_at, verdict};
+use crate::seen::{Seen, look_at, verdict};
 use jc_firewall::{Access, Verdict};
-use jc_names::{ClassName, Owner};
-use jc_program::{Called, ClassNumber, Entry, InterfaceCall};
+use jc_names::ClassName;
+use jc_program::{Called, ClassNumber, InterfaceCall};
 
 /// The context of the runtime.
 const RUNTIME: u8 = 0;
 
 /// Tokens from here on are package-visible.
 const PACKAGE_VISIBLE: u8 = 128;
-
-/// What a call comes to before a frame is made.
-#[derive(Clone, Copy)]
-pub(crate) enum Plan {
-    /// It throws.
-    Throws(u16),
-    /// Nothing is called.
-    Nothing,
-    /// What is called, with so many operands.
-    Calls {
-        called: Called,
-        /// The owner that becomes active, if one does.
-        switch: Option<Owner>,
-        words: u8,
-    },
-}
 
 /// What an object's class has at a virtual token, for the package whose method runs.
 #[inline(always)]
@@ -78,9 +60,26 @@ pub(crate) fn verdict_on_call(here: &Here<'_>, object: Seen) -> Verdict
     }
 }
 
-/// The same of a method of an interface: whether that is shared is asked for the objects of others alone.
+/// Whether the interface with a number is Shareable, or extends it.
+#[inline]
+fn is_shared_number(here: &Here<'_>, number: ClassNumber, _interface: ClassName) -> bool
+    requires named { class_number here.now.program.now.classes _interface ≡ Some number }
+    ensures { result ≡ is_shared_interface here.now.program.now _interface }
+{
+    let row = here.program.rows.row(number);
+    row.is_interface && row.is_shareable
+}
+
+/// The same of a method of an interface, whose number this is: whether that is shared is asked for the objects of
+/// others alone.
 #[inline(always)]
-fn verdict_on_interface(here: &Here<'_>, object: Seen, interface: ClassName) -> Verdict
+pub(crate) fn verdict_on_interface(
+    here: &Here<'_>,
+    object: Seen,
+    interface: ClassName,
+    number: ClassNumber,
+) -> Verdict
+    requires named { class_number here.now.program.now.classes interface ≡ Some number }
     ensures { result ≡ verdict_on here.now InvokeInterface object None
         (is_shared_interface here.now.program.now interface) }
 {
@@ -90,153 +89,45 @@ fn verdict_on_interface(here: &Here<'_>, object: Seen, interface: ClassName) -> 
     } else {
         let here = *here;
         let object = object;
-        let is_shared = is_shared_interface(here.program, interface);
+        let is_shared = is_shared_number(&here, number, interface);
         verdict(&here, Access::InvokeInterface, object, None, is_shared)
     }
 }
 
-/// What is called, where the firewall allows it.
-#[inline]
-fn guarded_call(verdict: Verdict, called: Called, words: u8) -> Plan
-    ensures { result ≡ guarded_call verdict called words }
+/// What an object's class has at a token of an interface, whose number this is.
+#[inline(always)]
+#[tactic(auto, using(crate::proofs::ByName::interface_by_name))]
+pub(crate) fn interface_called(
+    here: &Here<'_>,
+    class: ClassNumber,
+    number: ClassNumber,
+    _interface: ClassName,
+    token: u8,
+) -> InterfaceCall
+    requires named { class_number here.now.program.now.classes _interface ≡ Some number }
+    ensures is { result ≡ interface_call_at here.now.program.now.interface_methods class number token }
+    ensures by_name { (w : LinkedWorld) → IsProgramOf w here.now.program.now
+        → IsListedByName here.now.program.now result }
 {
-    match verdict {
-        Verdict::Allowed => Plan::Calls {
-            called,
-            switch: None,
-            words,
-        },
-        Verdict::AllowedSwitch(owner) => Plan::Calls {
-            called,
-            switch: Some(owner),
-            words,
-        },
-        Verdict::Denied(_) => Plan::Throws(SECURITY_EXCEPTION),
-    }
-}
-
-/// What an interface's method leads to, where the firewall allows it.
-#[inline]
-fn listed_plan(verdict: Verdict, call: InterfaceCall, words: u8) -> Plan
-    ensures { result ≡ listed_plan verdict call words }
-{
-    match call {
-        InterfaceCall::Listed(called) => guarded_call(verdict, called, words),
-        InterfaceCall::NotListed => match verdict {
-            Verdict::Allowed | Verdict::AllowedSwitch(_) => Plan::Throws(CLASS_CAST_EXCEPTION),
-            Verdict::Denied(_) => Plan::Throws(SECURITY_EXCEPTION),
-        },
-    }
+    here.program
+        .interface_methods
+        .interface_method(class, number, token)
 }
 
 impl WordMachine {
+    /// Whether there is an object of a call of so many words.
+    #[inline(always)]
+    pub(crate) fn has_receiver(&self, words: u8) -> bool
+        ensures { result ≡ is_some (receiver self.now words) }
+    {
+        self.store.is_there(self.operand(words.saturating_sub(1)))
+    }
+
     /// The object of a call of so many words.
     #[inline(always)]
     pub(crate) fn receiver(&self, words: u8) -> Option<Seen>
         ensures { result ≡ receiver self.now words }
     {
         look_at(&self.store, self.operand(words.saturating_sub(1)))
-    }
-
-    /// invokevirtual
-    #[inline(always)]
-    pub(crate) fn plan_virtual(&self, here: &Here<'_>, index: u16) -> Plan
-        ensures is { result ≡ virtual_plan here.now index self.now }
-        ensures by_name { (w : LinkedWorld) → IsProgramOf w here.now.program.now
-            → CallsByName here.now.program.now result }
-    {
-        let (token, words) = match here.program.entries.at(here.frame.method.package, index) {
-            Some(Entry::VirtualMethod { token, words }) => (token, words),
-            Some(Entry::Class(_) | Entry::Field { .. } | Entry::StaticField { .. }) =>
-                return Plan::Nothing,
-            Some(Entry::Method { .. } | Entry::NativeMethod { .. } | Entry::AbstractMethod) =>
-                return Plan::Nothing,
-            None => return Plan::Nothing,
-        };
-        let Some(object) = self.receiver(words) else {
-            return Plan::Throws(NULL_POINTER_EXCEPTION);
-        };
-        let verdict = verdict_on_call(here, object);
-        guarded_call(verdict, virtual_called(here, object.class, token), words)
-    }
-
-    /// invokespecial: no access is tested, and no owner changes. Where no method is found the object is taken for null.
-    #[inline(always)]
-    pub(crate) fn plan_special(&self, here: &Here<'_>, index: u16) -> Plan
-        ensures is { result ≡ special_plan here.now index self.now }
-        ensures by_name { (w : LinkedWorld) → IsProgramOf w here.now.program.now
-            → CallsByName here.now.program.now result }
-    {
-        match self.plan_static(here, index) {
-            Plan::Calls {
-                called,
-                switch,
-                words,
-            } => match self.receiver(words) {
-                Some(_) => Plan::Calls {
-                    called,
-                    switch,
-                    words,
-                },
-                None => Plan::Throws(NULL_POINTER_EXCEPTION),
-            },
-            Plan::Throws(object) => Plan::Throws(object),
-            Plan::Nothing => Plan::Throws(NULL_POINTER_EXCEPTION),
-        }
-    }
-
-    /// invokestatic
-    #[inline(always)]
-    pub(crate) fn plan_static(&self, here: &Here<'_>, index: u16) -> Plan
-        ensures is { result ≡ static_plan here.now index }
-        ensures by_name { (w : LinkedWorld) → IsProgramOf w here.now.program.now
-            → CallsByName here.now.program.now result }
-    {
-        let Some(entry) = here.program.entries.at(here.frame.method.package, index) else {
-            return Plan::Nothing;
-        };
-        match entry.call() {
-            Some(call) => Plan::Calls {
-                called: call.called,
-                switch: None,
-                words: call.words,
-            },
-            None => Plan::Nothing,
-        }
-    }
-
-    /// invokeinterface, of a method of this interface.
-    #[inline(always)]
-    fn plan_on_interface(&self, here: &Here<'_>, words: u8, token: u8, interface: ClassName) -> Plan
-        ensures is { result ≡ on_interface here.now words token self.now interface }
-        ensures by_name { (w : LinkedWorld) → IsProgramOf w here.now.program.now
-            → CallsByName here.now.program.now result }
-    {
-        let Some(number) = here.program.classes.number_of(interface) else {
-            return Plan::Nothing;
-        };
-        let Some(object) = self.receiver(words) else {
-            return Plan::Throws(NULL_POINTER_EXCEPTION);
-        };
-        let verdict = verdict_on_interface(here, object, interface);
-        let class = ClassNumber::new(object.class);
-        let call = here
-            .program
-            .interface_methods
-            .interface_method(class, number, token);
-        listed_plan(verdict, call, words)
-    }
-
-    /// invokeinterface
-    #[inline(always)]
-    pub(crate) fn plan_interface(&self, here: &Here<'_>, words: u8, index: u16, token: u8) -> Plan
-        ensures is { result ≡ interface_plan here.now words index token self.now }
-        ensures by_name { (w : LinkedWorld) → IsProgramOf w here.now.program.now
-            → CallsByName here.now.program.now result }
-    {
-        match class_named(here, index) {
-            Some(interface) => self.plan_on_interface(here, words, token, interface),
-            None => Plan::Nothing,
-        }
     }
 }

@@ -1,20 +1,22 @@
 //! New objects (Java Card Virtual Machine Specification, new, newarray, anewarray).
 
-ghost use Rattle.std.specs.Prelude.{◌≡◌};
+ghost use Rattle.std.specs.Prelude.{◌≡◌, Some};
 ghost use Rattle.jc_code.specs.declared.object.Creation.TheVariants.{Object};
 ghost use Rattle.jc_interp.specs.PrivateCreation.{do_create, do_create_array, do_creation, do_new, is_count, made};
 ghost use Rattle.jc_interp.specs.PrivateCreation.{made_in};
 ghost use Rattle.jc_interp.specs.PrivateCreation.{word_array};
 ghost use Rattle.jc_interp.specs.PrivateDone.{done, operand};
+ghost use Rattle.jc_interp.specs.PrivateRunning.{StandsBy, StillRuns};
+ghost use Rattle.jc_interp.specs.PrivateStep.{top_header};
 ghost use Rattle.jc_interp.specs.declared.ends.StepEnd.TheVariants.{GoesOn};
 
 use crate::ends::{NEGATIVE_SIZE_EXCEPTION, NO_RESOURCE, SYSTEM_EXCEPTION, StepEnd};
 use crate::here::Here;
 use crate::machine::WordMachine;
 use crate::seen::{class_named, put};
+use crate::top::Running;
 use jc_code::{Creation, WordKind};
 use jc_names::{ClassName, Owner};
-use jc_program::ClassNumber;
 use jc_store::{Kind, Mark, ObjectType, Store};
 
 /// The number of Object, whose class arrays are of: it is the first of a world's classes.
@@ -64,6 +66,7 @@ impl WordMachine {
         count: u8,
     ) -> StepEnd
         ensures is { done self.new result ≡ do_create here.now object len class count self.old }
+        ensures runs { StillRuns self.old self.new }
         ensures stays { (result ≡ GoesOn → ⊥) → self.new.frames ≡ self.old.frames }
     {
         match make(&mut self.store, object, here.frame.active, len, class) {
@@ -90,6 +93,7 @@ impl WordMachine {
     #[inline(always)]
     fn create_object(&mut self, here: &Here<'_>, class: ClassName) -> StepEnd
         ensures is { done self.new result ≡ do_new here.now class self.old }
+        ensures runs { StillRuns self.old self.new }
         ensures stays { (result ≡ GoesOn → ⊥) → self.new.frames ≡ self.old.frames }
     {
         let Some(number) = here.program.classes.number_of(class) else {
@@ -101,11 +105,18 @@ impl WordMachine {
 
     /// new, of the class that an entry of the constant pool names
     #[inline(always)]
-    pub(crate) fn create_named(&mut self, here: &Here<'_>, index: u16) -> StepEnd
+    pub(crate) fn create_named(
+        &mut self,
+        here: &Here<'_>,
+        running: &Running<'_>,
+        index: u16,
+    ) -> StepEnd
+        requires stands { StandsBy here.now.program.now self.old here.now.frame running.now }
         ensures is { done self.new result ≡ do_creation here.now (Object index) self.old }
+        ensures runs { StillRuns self.old self.new }
         ensures stays { (result ≡ GoesOn → ⊥) → self.new.frames ≡ self.old.frames }
     {
-        match class_named(here, index) {
+        match running.class_named(here, index) {
             Some(class) => self.create_object(here, class),
             None => StepEnd::UsedUp,
         }
@@ -113,10 +124,14 @@ impl WordMachine {
 
     /// new, newarray, anewarray
     pub(crate) fn perform_creation(&mut self, here: &Here<'_>, creation: Creation) -> StepEnd
+        requires top { top_header self.old ≡ Some here.now.frame }
         ensures { done self.new result ≡ do_creation here.now creation self.old }
     {
         match creation {
-            Creation::Object { index } => self.create_named(here, index),
+            Creation::Object { index } => {
+                let running = self.running(here.program);
+                self.create_named(here, &running, index)
+            }
             Creation::WordArray(kind) => self.create_array(here, word_array(kind)),
             Creation::ReferenceArray { index } => match class_named(here, index) {
                 Some(class) => self.create_array(here, ObjectType::ReferenceArray(class)),

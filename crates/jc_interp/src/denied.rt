@@ -1,9 +1,8 @@
 //! What the firewall denies of an instruction that throws a SecurityException, to be told of it (Java Card Runtime
 //! Environment Specification, Class and Object Access Behavior).
 
-use crate::calls::Plan;
+use crate::calls::virtual_called;
 use crate::casts::{is_shared, is_shared_interface, test_of};
-use crate::ends::SECURITY_EXCEPTION;
 use crate::entering::owners_of;
 use crate::fetch::code_of;
 use crate::fields::{putting, stored_mark};
@@ -17,7 +16,8 @@ use jc_code::{
 use jc_firewall::{Access, Denial, denial};
 use jc_link::World;
 use jc_machine::{Natives, WordCall};
-use jc_program::{Entry, Program};
+use jc_names::ClassName;
+use jc_program::{ClassNumber, Entry, EntryCall, InterfaceCall, Program};
 use jc_store::Mark;
 
 /// An access of the instruction at which a frame stands.
@@ -152,17 +152,50 @@ impl WordMachine {
         }
     }
 
-    /// What a call leads to.
-    fn plan_of(&self, here: &Here<'_>, invocation: Invocation) -> Plan {
+    /// What an object's class has at the virtual token of an entry.
+    fn virtual_call(&self, here: &Here<'_>, entry: Entry) -> Option<EntryCall> {
+        match entry {
+            Entry::VirtualMethod { token, words } => {
+                let object = self.receiver(words)?;
+                let called = virtual_called(here, object.class, token);
+                Some(EntryCall { called, words })
+            }
+            Entry::Class(_) | Entry::Field { .. } | Entry::StaticField { .. } => None,
+            Entry::Method { .. } | Entry::NativeMethod { .. } | Entry::AbstractMethod => None,
+        }
+    }
+
+    /// What an object's class has at a token of an interface.
+    fn interface_call(
+        &self,
+        here: &Here<'_>,
+        words: u8,
+        interface: ClassName,
+        token: u8,
+    ) -> Option<EntryCall> {
+        let number = here.program.classes.number_of(interface)?;
+        let class = ClassNumber::new(self.receiver(words)?.class);
+        let methods = &here.program.interface_methods;
+        match methods.interface_method(class, number, token) {
+            InterfaceCall::Listed(called) => Some(EntryCall { called, words }),
+            InterfaceCall::NotListed => None,
+        }
+    }
+
+    /// What a call leads to, if it isn't thrown.
+    fn call_of(&self, here: &Here<'_>, invocation: Invocation) -> Option<EntryCall> {
+        let entries = &here.program.entries;
+        let package = here.frame.method.package;
         match invocation {
-            Invocation::Virtual { index } => self.plan_virtual(here, index),
-            Invocation::Special { index } => self.plan_special(here, index),
-            Invocation::Static { index } => self.plan_static(here, index),
+            Invocation::Virtual { index } => self.virtual_call(here, entries.at(package, index)?),
+            Invocation::Special { index } | Invocation::Static { index } => {
+                entries.at(package, index)?.call()
+            }
             Invocation::Interface {
                 arguments,
                 index,
                 token,
-            } => self.plan_interface(here, arguments, index, token),
+            } => self.interface_call(here, arguments, class_named(here, index)?, token),
         }
     }
 
@@ -173,14 +206,12 @@ impl WordMachine {
         here: &Here<'_>,
         invocation: Invocation,
     ) -> Option<Denial> {
-        let Plan::Calls { called, words, .. } = self.plan_of(here, invocation) else {
-            return None;
-        };
+        let found = self.call_of(here, invocation)?;
         let owners = owners_of(here, None);
         let call = WordCall {
             world: here.world,
-            member: native_in(called)?,
-            arguments: self.frames.arguments(words),
+            member: native_in(found.called)?,
+            arguments: self.frames.arguments(found.words),
             active: owners.active,
             previous: owners.previous,
             selected: here.selected,
@@ -244,8 +275,8 @@ impl WordMachine {
         }
     }
 
-    /// What the firewall denies of the instruction at which the top frame stands, where that throws this object. A
-    /// native member that another one calls isn't looked at.
+    /// What the firewall denies of the instruction at which the top frame stands, which throws the runtime's
+    /// SecurityException. A native member that another one calls isn't looked at.
     // Apart and seldom called: of a step that throws nothing it takes no register.
     #[cold]
     #[inline(never)]
@@ -255,11 +286,7 @@ impl WordMachine {
         world: &World,
         program: &Program,
         selected: Option<u8>,
-        object: u16,
     ) -> Option<Denial> {
-        if object != SECURITY_EXCEPTION {
-            return None;
-        }
         let here = Here {
             world,
             program,

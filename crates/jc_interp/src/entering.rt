@@ -3,13 +3,13 @@
 ghost use Rattle.std.specs.Prelude.{◌≡◌};
 ghost use Rattle.jc_interp.specs.PrivateDone.{done};
 ghost use Rattle.jc_interp.specs.PrivateEntering.{Enters, EntersWith, header_of, owners_of, size_of};
-ghost use Rattle.jc_interp.specs.PrivateRunning.{IsByName, RunsTop};
+ghost use Rattle.jc_interp.specs.PrivateRunning.{HasCode, IsByName, RunsTop};
 ghost use Rattle.jc_interp.specs.declared.ends.StepEnd.TheVariants.{GoesOn};
 
 use crate::ends::StepEnd;
 use crate::here::Here;
 use crate::machine::WordMachine;
-use crate::top::Running;
+use crate::top::{Running, pool_from};
 use jc_cap::MethodHeader;
 use jc_frames::{CodePlace, FrameHeader, FrameSize};
 use jc_names::Owner;
@@ -80,6 +80,7 @@ impl WordMachine {
         running: &mut Running<'p>,
     ) -> StepEnd
         requires by_name { IsByName here.now.program.now number }
+        requires known { HasCode here.now.program.now running.old }
         ensures enters { Enters here.now number owners words self.old (done self.new result) }
         ensures runs { result ≡ GoesOn → RunsTop here.now.program.now self.new running.new }
         ensures stays { (result ≡ GoesOn → ⊥) → self.new.frames ≡ self.old.frames }
@@ -96,6 +97,7 @@ impl WordMachine {
             method: header.method,
             code: method.code,
             kinds: method.kinds(),
+            pool: pool_from(here.program, method.package, *running),
             context: header.active.context,
         };
         StepEnd::GoesOn

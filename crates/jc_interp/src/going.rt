@@ -1,6 +1,7 @@
 //! How an instruction goes on.
 
 ghost use Rattle.std.specs.Prelude.{◌≡◌};
+ghost use Rattle.jc_interp.specs.PrivateRunning.{StillRuns};
 ghost use Rattle.jc_interp.specs.PrivateDone.{done, gives, goes_to, leaves, local, operand, puts};
 
 use crate::ends::StepEnd;
@@ -54,7 +55,8 @@ impl WordMachine {
     #[inline(always)]
     #[tactic(auto, using(crate::proofs::Putting::replaced_is))]
     pub(crate) fn gives(&mut self, here: &Here<'_>, count: u8, word: u16) -> StepEnd
-        ensures { done self.new result ≡ gives here.now count word self.old }
+        ensures is { done self.new result ≡ gives here.now count word self.old }
+        ensures runs { StillRuns self.old self.new }
     {
         self.frames.replace(count, word, here.next_pc);
         StepEnd::GoesOn

@@ -1,9 +1,11 @@
 //! Instructions on references (Java Card Virtual Machine Specification, Instruction set).
 
+ghost use Rattle.std.specs.Prelude.{◌≡◌, Some};
 ghost use Rattle.jc_interp.specs.PrivateDone.{done};
 ghost use Rattle.jc_interp.specs.PrivateNatives.{done_with};
 ghost use Rattle.jc_interp.specs.PrivateObjects.{do_object};
 ghost use Rattle.jc_interp.specs.PrivatePerform.{PerformsObject};
+ghost use Rattle.jc_interp.specs.PrivateStep.{top_header};
 ghost use Rattle.jc_program.specs.Program.{IsProgramOf};
 
 use crate::ends::StepEnd;
@@ -21,6 +23,7 @@ impl WordMachine {
         operation: ObjectOperation,
     ) -> StepEnd
         requires program { IsProgramOf here.now.world.now here.now.program.now }
+        requires top { top_header self.old ≡ Some here.now.frame }
         ensures { PerformsObject N.meaning here.now self.old (N.kept natives.old)
             (done_with (done self.new result) (N.kept natives.new)) (do_object here.now operation self.old) }
     {

@@ -1,10 +1,8 @@
 //! What an instruction sees of an object, and what the firewall says of an access to it.
 
 ghost use Rattle.std.specs.Prelude.{◌≡◌, true, false, None};
-ghost use Rattle.jc_interp.specs.PrivateSeen.{allows, cell_in, class_named, facts_seen, is_array, is_below, mark_of};
-ghost use Rattle.jc_interp.specs.PrivateSeen.{seen_of, verdict_on, with_put};
-ghost use Rattle.jc_store.specs.Heap.{object_at};
-ghost use Rattle.jc_store.specs.Store.{IsThere, with_objects};
+ghost use Rattle.jc_interp.specs.PrivateSeen.{allows, cell_in, class_in, class_named, facts_seen, is_array, is_below};
+ghost use Rattle.jc_interp.specs.PrivateSeen.{mark_of, seen_of, verdict_on, with_put};
 
 use crate::here::Here;
 use jc_firewall::{Access, Facts, Verdict, decide};
@@ -75,17 +73,24 @@ pub(crate) fn is_below(program: &Program, class: u16, other: ClassName) -> bool
 }
 
 /// The class or interface that an entry of the constant pool names.
+#[inline(always)]
+pub(crate) fn class_in(entry: Entry) -> Option<ClassName>
+    ensures { result ≡ class_in entry }
+{
+    match entry {
+        Entry::Class(class) => Some(class),
+        Entry::Field { .. } | Entry::StaticField { .. } => None,
+        Entry::VirtualMethod { .. } | Entry::Method { .. } => None,
+        Entry::NativeMethod { .. } | Entry::AbstractMethod => None,
+    }
+}
+
+/// The class or interface that the entry with an index names.
 #[inline]
 pub(crate) fn class_named(here: &Here<'_>, index: u16) -> Option<ClassName>
     ensures { result ≡ class_named here.now index }
 {
-    match here.program.entries.at(here.frame.method.package, index) {
-        Some(Entry::Class(class)) => Some(class),
-        Some(Entry::Field { .. } | Entry::StaticField { .. }) => None,
-        Some(Entry::VirtualMethod { .. } | Entry::Method { .. }) => None,
-        Some(Entry::NativeMethod { .. } | Entry::AbstractMethod) => None,
-        None => None,
-    }
+    class_in(here.program.entries.at(here.frame.method.package, index)?)
 }
 
 /// The mark of the object that a word refers to, if it refers to one.
@@ -111,6 +116,7 @@ fn is_array(object: ObjectType) -> bool
 }
 
 /// What the verdict on an access hangs on.
+#[inline]
 pub(crate) fn facts(
     here: &Here<'_>,
     object: Seen,

@@ -109,7 +109,7 @@ impl Statics {
     pub(crate) fn has(&self, package: u8) -> bool
         ensures { result ≡ is_some (of_package self.now «package») }
     {
-        package != 0 && usize::from(package) - 1 < self.images.len()
+        usize::from(package).wrapping_sub(1) < self.images.len()
     }
 
     /// The words of that package, for writing.

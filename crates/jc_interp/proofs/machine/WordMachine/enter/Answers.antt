@@ -2,6 +2,7 @@ use Rattle.std.proofs.Common.{List, ℕ, subst, sym, ap, ◌∙◌}
 use Rattle.jc_frames.specs.Frames.{Frames}
 use Rattle.jc_frames.specs.declared.header.FrameHeader.{FrameHeader}
 use Rattle.jc_kinds.specs.Kinds.{AreKindsOf}
+use Rattle.jc_interp.specs.PrivateRunning.{IsPoolOf}
 use Rattle.jc_interp.specs.declared.top.Running.{Running}
 use Rattle.jc_interp.proofs.ByName.{its_code}
 use Rattle.jc_interp.proofs.TopFrames.{runs_new}
@@ -21,6 +22,7 @@ returns-clause-runs c went =
       method = header.method;
       code = c.method.inside.code;
       kinds = c.kinds.result;
+      pool = c.pool_from.result;
       context = header.active.context;
     } in
     runs_new p r _ pushed.frame _ (ap (λ (x : Frames). x.frames) pushed.is) (record {
@@ -31,6 +33,9 @@ returns-clause-runs c went =
             (same ∙ ap (λ (h : FrameHeader). h.method) c.header_of-header.ensures);
         kinds = subst (λ (code : List ℕ). AreKindsOf code c.kinds.result.now)
             (sym (ap (λ (x : LoadedMethod). x.code) c.method.view_is)) c.kinds.ensures;
+        pool = subst (λ (number : ℕ). IsPoolOf p number c.pool_from.result.now)
+            (ap (λ (x : LoadedMethod). x.number) c.method.view_is
+            ∙ sym (ap (λ (h : FrameHeader). h.method.«package») c.header_of-header.ensures)) c.pool_from.ensures;
       };
       method_is = ap (λ (h : FrameHeader). h.method) pushed.new.header_is;
       context = sym (ap (λ (h : FrameHeader). h.active.context) pushed.new.header_is);

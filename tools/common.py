@@ -1,16 +1,25 @@
-"""What tools and examples share: how names are shown, copies of the repository's files, and the rule by which files
-are replaced and removed.
+"""What tools and examples share: how they end, how names are shown, copies of the repository's files, and the rule by
+which files are replaced and removed.
+
+A tool imports this module first, and its last line is `run(main)`. So a signal ends it without a traceback, while it
+still imports too.
 
 The rule: a tool replaces and removes only files that it made itself and that are still as it left them. Their checksums
 stand in the file .made-by-TOOL of the folder, as sha256sum writes them. A file that is there with the same content is
 left as it is. A link is never written through. Anything else that is in the way is told, before anything is touched.
 """
-import hashlib
-import os
-import re
-import shutil
-import stat
-import subprocess
+import signal
+signal.signal(signal.SIGINT, signal.SIG_DFL)  # until `run` catches it
+
+import argparse  # noqa: E402
+import difflib  # noqa: E402
+import hashlib  # noqa: E402
+import os  # noqa: E402
+import re  # noqa: E402
+import shutil  # noqa: E402
+import stat  # noqa: E402
+import subprocess  # noqa: E402
+import sys  # noqa: E402
 
 # The component files that a package is read from.
 COMPONENTS = ['Header.cap', 'Applet.cap', 'Import.cap', 'ConstantPool.cap', 'Class.cap', 'Method.cap',
@@ -20,8 +29,85 @@ WORDS = '%s is there already: this tool didn\'t make it, or it was changed'
 ESCAPES = {'\n': '\\n', '\r': '\\r', '\t': '\\t', '\\': '\\\\'}
 
 
-class Taken(Exception):
+SIGNALS = [signal.SIGINT, signal.SIGTERM, signal.SIGHUP]
+
+
+class Fault(Exception):
+    """Why a tool gives up, in the words of one line."""
+
+
+class Taken(Fault):
     """What is in the way of a tool."""
+
+
+class Stopped(BaseException):
+    """A signal has come that ends the tool. What it has begun is put in order on the way out."""
+
+    def __init__(self, number):
+        super().__init__()
+        self.status = 128 + number
+
+
+def stop(number, _):
+    raise Stopped(number)
+
+
+def status_of(main):
+    """The exit status of a tool, by what `main` gives (None is 0) or raises. A fault is told in one line on standard
+    error, which begins with `error: `."""
+    try:
+        return main() or 0
+    except Fault as fault:
+        print('error: %s' % fault, file=sys.stderr)
+    except BrokenPipeError:
+        os.dup2(os.open(os.devnull, os.O_WRONLY), sys.stdout.fileno())  # nobody reads: nothing is told
+    except OSError as error:
+        print('error: %s' % system_words(error), file=sys.stderr)
+    except Stopped as stopped:
+        return stopped.status
+    return 1
+
+
+def run(main):
+    """Runs a tool and ends with its exit status: 1 for a fault, 128 and the signal's number for a signal. A signal that
+    is ignored, as by nohup, stays ignored."""
+    for number in SIGNALS:
+        if signal.getsignal(number) != signal.SIG_IGN:
+            signal.signal(number, stop)
+    status = status_of(main)
+    try:
+        sys.stdout.flush()
+    except OSError as error:
+        os.dup2(os.open(os.devnull, os.O_WRONLY), sys.stdout.fileno())
+        if not isinstance(error, BrokenPipeError):
+            print('error: standard output: %s' % error.strerror, file=sys.stderr)
+        status = status or 1
+    sys.exit(status)
+
+
+def like(word, words):
+    """What is said of a word that isn't known: the one of others that is nearest to it, if one is."""
+    near = difflib.get_close_matches(word, words, 1)
+    return ': did you mean %s?' % near[0] if near else ''
+
+
+class Parser(argparse.ArgumentParser):
+    """The command line of a tool. A wrong one is told by a line that begins with `error: ` and by the usage, with exit
+    status 2. Options are written out; of one that isn't known the nearest is told."""
+
+    def __init__(self, **words):
+        super().__init__(allow_abbrev=False, formatter_class=argparse.RawDescriptionHelpFormatter, **words)
+
+    def hint(self, message):
+        known = [name for action in self._actions for name in action.option_strings]
+        unknown = re.search(r'unrecognized arguments: (--[^ =]*)', message)
+        choice = re.search(r'invalid choice: \'(.*)\' \(choose from (.*)\)', message)
+        if choice:
+            known, unknown = re.findall("'([^']*)'", choice[2]), choice
+        return like(unknown[1], known) if unknown else ''
+
+    def error(self, message):
+        self.exit(2, 'error: %s%s\n%s' % (shown(message), self.hint(message), self.format_usage()))
 
 
 def shown(text):
@@ -38,7 +124,8 @@ def shown(text):
 def system_words(error, path=''):
     """The words of an error of the system's, with the path that it is about."""
     name = error.filename if isinstance(error.filename, (str, bytes)) else path
-    return '%s: %s' % (shown(os.fsdecode(name)), error.strerror or shown(str(error)))
+    words = error.strerror or shown(str(error))
+    return words if error.filename is None and not path else '%s: %s' % (shown(os.fsdecode(name)), words)
 
 
 def is_plain(name):

@@ -29,7 +29,7 @@ use Rattle.jc_store.specs.declared.kind.ObjectType.TheVariants.{ByteArray}
 use Rattle.jc_words.specs.Values.{TaggedValue, Word}
 use Rattle.jc_card.proofs.Heaps.{new_object, put_some}
 use Rattle.jc_card.specs.Card.{CardState, around, at_rest, left_by, selected_instance, with_heap, with_kept}
-use Rattle.jc_card.specs.Card.{with_selected}
+use Rattle.jc_card.specs.Card.{with_selected, with_steps}
 use Rattle.jc_card.specs.Load.{IsFit, IsLoad, has_room, with_package}
 use Rattle.jc_card.specs.New.{new_card}
 use Rattle.jc_card.specs.PrivateTyped.{KeepsTyped, ZeroedTyped}
@@ -54,6 +54,10 @@ kept_typed c t kept fits = grind arith
 pub selected_typed : (c : CardState) → IsTypedCard c → (selected : Option Owner)
     → IsTypedCard (with_selected c selected)
 selected_typed c t selected = grind arith
+
+-- calls may make another number of steps
+pub steps_typed : (c : CardState) → IsTypedCard c → (steps : ℕ) → IsTypedCard (with_steps c steps)
+steps_typed c t steps = grind arith
 
 -- what is found of a list passes what all of it pass
 found_passes : {A : Type 0} (test all : A → Bool) (xs : List A) (x : A) → find test xs ≡ Some x

@@ -37,6 +37,9 @@ with_kept c kept = record c { kept = kept }
 abbrev pub with_selected : CardState → Option Owner → CardState
 with_selected c selected = record c { selected = selected }
 
+abbrev pub with_steps : CardState → ℕ → CardState
+with_steps c steps = record c { steps = steps }
+
 -- as a call left it
 abbrev pub left_by : CardState → Machine Kept → CardState
 left_by c m = record c { heap = m.heap; statics = m.statics; kept = m.runtime }

@@ -1,7 +1,7 @@
-//! How much of a card is used.
+//! How much of a card is used, and how many steps a call may make.
 
 ghost use Rattle.std.specs.Prelude.{◌≡◌, length};
-ghost use Rattle.jc_card.specs.Card.{CardState};
+ghost use Rattle.jc_card.specs.Card.{CardState, with_steps};
 ghost use Rattle.jc_card.specs.Reads.{Holds};
 ghost use Rattle.jc_store.specs.Heap.{cells_in};
 
@@ -34,5 +34,13 @@ impl Card {
         ensures { (c : CardState) → Holds self.now c → result ≡ cells_in c.heap }
     {
         self.machine.store.cells_used()
+    }
+
+    /// A call of the runtime's may make so many steps from now on, at least 1.
+    #[tactic(auto, using(crate::proofs::Selecting::steps_held))]
+    pub fn set_steps(&mut self, steps: u32)
+        ensures { (c : CardState) → Holds self.old c → Holds self.new (with_steps c steps) }
+    {
+        self.steps = steps;
     }
 }

@@ -7,3 +7,4 @@ mod Tops
 mod Calls
 mod Inside
 mod Copying
+mod Under

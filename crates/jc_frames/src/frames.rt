@@ -5,7 +5,8 @@ ghost use Rattle.std.specs.Prelude.{length, nat_le, take, drop, reverse, slice_r
 ghost use Rattle.std.specs.Borrow.{sem};
 ghost use Rattle.jc_frames.specs.Frames.{Frame, HasOperands, HasTop, IsFull, IsPushed, with_frames, with_words_left};
 ghost use Rattle.jc_frames.specs.Lending.{LendsWords};
-ghost use Rattle.jc_frames.specs.Operands.{HasInUse, arguments_in, at_pc, dropped, in_use, local_in, of_top, on_top};
+ghost use Rattle.jc_frames.specs.Operands.{HasInUse, arguments_in, at_pc, dropped, header_under, in_use, local_in};
+ghost use Rattle.jc_frames.specs.Operands.{of_top, on_top};
 ghost use Rattle.jc_frames.specs.Operands.{operand_in, placed, pushed, put, replaced, with_in_use, with_words, words_of};
 ghost use Rattle.jc_frames.specs.PrivateLaid.{HasRoom};
 
@@ -13,7 +14,7 @@ use crate::frame_words::{
     arguments_at, depth_at, in_use_at, local_at, operand_at, push_at, put_at, replace_at, size_at,
 };
 use crate::header::{FrameHeader, FrameSize};
-use crate::place::{FramePlace, copy_arguments, put_arguments, top_of, top_start};
+use crate::place::{FramePlace, copy_arguments, place_under, put_arguments, top_of, top_start};
 use std::alloc::{AllocError, Global};
 use std::marker::Model;
 
@@ -165,6 +166,16 @@ impl Frames {
         ensures { result ≡ of_top None (λ f. Some f.header) self.now }
     {
         let place = self.places.last()?;
+        Some(place.header)
+    }
+
+    /// What is known of the frame that has so many others on top of it, if there is one.
+    #[inline]
+    #[tactic(auto, using(crate::proofs::Under::header_is))]
+    pub fn frame_under(&self, others: u8) -> Option<FrameHeader>
+        ensures { result ≡ header_under others self.now }
+    {
+        let place = place_under(&self.places, others)?;
         Some(place.header)
     }
 
@@ -365,6 +376,15 @@ impl Frames {
     {
         if !self.places.is_empty() {
             self.pop_frame();
+        }
+    }
+
+    /// Takes so many frames away from the top; all, where there are fewer.
+    pub fn drop_frames(&mut self, count: u8)
+        ensures { self.new ≡ with_frames self.old (drop count self.old.frames) }
+    {
+        for _ in 0..count {
+            self.drop_frame();
         }
     }
 

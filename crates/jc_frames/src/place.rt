@@ -23,6 +23,19 @@ pub(crate) fn top_of(places: &[FramePlace]) -> FramePlace
     places[places.len() - 1]
 }
 
+/// The place of the frame that has so many others on top of it, if there is one.
+#[inline]
+pub(crate) fn place_under(places: &[FramePlace], others: u8) -> Option<FramePlace>
+    ensures { result ≡ slice_get (reverse places.now) others }
+{
+    let others = usize::from(others);
+    if others < places.len() {
+        Some(places[places.len() - 1 - others])
+    } else {
+        None
+    }
+}
+
 /// Where the words of the top frame begin; at the first word where there is no frame.
 #[inline]
 pub(crate) fn top_start(places: &[FramePlace]) -> u16

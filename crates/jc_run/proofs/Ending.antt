@@ -16,6 +16,7 @@ use Rattle.jc_run.specs.PrivatePlay.EndsAt.{bad, memory, source, unwritten}
 use Rattle.jc_run.specs.PrivatePlay.Plays.{ended, over, unread}
 use Rattle.jc_script.specs.Reading.{BeginsBad}
 use Rattle.jc_script.specs.Script.{Apdu, Asks, Bad, Cells, Install, Load, Objects, Reset, ScriptCommand, ScriptLine}
+use Rattle.jc_script.specs.Script.{Steps}
 use Rattle.jc_script.specs.Script.{line_at, lines_of, most_in_line, most_lines, said_by}
 
 -- ---- what is known to be written
@@ -70,6 +71,7 @@ module _ (images certificates : List ℕ → List ℕ → Type 0) (failed_at : A
   source_end Reset before now failing is = elim failing [ ]
   source_end Cells before now failing is = elim failing [ ]
   source_end Objects before now failing is = elim failing [ ]
+  source_end (Steps steps) before now failing is = elim failing [ ]
 
   pub memory_end : (command : ScriptCommand) (before : List ℕ) (now : Option (List ℕ)) → AsksSource command
       → now ≡ Some before → IsLineEnd images certificates failed_at c number (Asks command) before now NoMemory
@@ -80,6 +82,7 @@ module _ (images certificates : List ℕ → List ℕ → Type 0) (failed_at : A
   memory_end Reset before now asks is = elim asks [ ]
   memory_end Cells before now asks is = elim asks [ ]
   memory_end Objects before now asks is = elim asks [ ]
+  memory_end (Steps steps) before now asks is = elim asks [ ]
 
   pub command_unwritten : (command : ScriptCommand) (answer : Answered) (after : CardWords)
       (old now : Option (List ℕ)) (before : List ℕ) → Answers images certificates c command answer after

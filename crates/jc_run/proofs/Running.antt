@@ -24,7 +24,7 @@ use Rattle.jc_run.specs.Runs.{accesses_of, answer_lines, commands_of}
 use Rattle.jc_run.specs.Runs.EndsWith.{bad_line, memory as memory_left, over as over_left, source as source_left}
 use Rattle.jc_run.specs.Runs.EndsWith.{unread as unread_left, unwritten as unwritten_left}
 use Rattle.jc_run.specs.Runs.IsCardRun.{command, nothing}
-use Rattle.jc_script.specs.Script.{Apdu, Asks, Bad, Cells, Install, Load, Numbered, Objects, Reset, Script}
+use Rattle.jc_script.specs.Script.{Apdu, Asks, Bad, Cells, Install, Load, Numbered, Objects, Reset, Script, Steps}
 use Rattle.jc_script.specs.Script.{ScriptCommand, ScriptLine, Skipped, line_at, script_from, with_line}
 
 module _ (images certificates : List ℕ → List ℕ → Type 0) (failed_at : Asked → Type 0) where
@@ -141,6 +141,7 @@ module _ (laws : Laws) (images certificates : List ℕ → List ℕ → Type 0) 
   guarded c Reset answer after h = laws.reset c
   guarded c Cells answer after h = h.1
   guarded c Objects answer after h = h.1
+  guarded c (Steps steps) answer after h = h.1
 
   given_changes : {A : Type 0} (order : Order) (c : CardState) (done : Option (Left A)) (said : A → Answered)
       (answer : Answered) (after : CardState) → IfSome done (IsGuardedCommand order c) → IsGiven done said answer after
@@ -163,6 +164,7 @@ module _ (laws : Laws) (images certificates : List ℕ → List ℕ → Type 0) 
       given_changes Resets c (reset_command c) _ answer after (laws.reset c) h
   changes c Cells answer after h = rw h.1 (laws.none c.heap c.heap (λ number o e. e))
   changes c Objects answer after h = rw h.1 (laws.none c.heap c.heap (λ number o e. e))
+  changes c (Steps steps) answer after h = rw h.1 (laws.none c.heap c.heap (λ number o e. e))
 
   run_changes : {commands : List ScriptCommand} {c : CardState} {answers : List Answered} {touches : List Touch}
       {after : CardState} → IsCardRun images certificates commands c answers touches after
@@ -188,6 +190,7 @@ module _ (laws : Laws) (images certificates : List ℕ → List ℕ → Type 0) 
   kept_apart c Reset answer after p h = laws.apart_reset c p
   kept_apart c Cells answer after p h = h.1
   kept_apart c Objects answer after p h = h.1
+  kept_apart c (Steps steps) answer after p h = h.1
 
   stays_apart : (c : CardState) (command : ScriptCommand) (answer : Answered) (after : CardState) → IsApartCard c
       → IsAnswered images certificates c command answer after → IsApartCard after
@@ -197,6 +200,12 @@ module _ (laws : Laws) (images certificates : List ℕ → List ℕ → Type 0) 
   stays_apart c Reset answer after p h = search (arith, given_apart)
   stays_apart c Cells answer after p h = rw h.1 p
   stays_apart c Objects answer after p h = rw h.1 p
+  stays_apart c (Steps steps) answer after p h = rw h.1 (record {
+    packages = p.packages;
+    objects = p.objects;
+    statics = p.statics;
+    instances = p.instances;
+  })
 
   run_apart : {commands : List ScriptCommand} {c : CardState} {answers : List Answered} {touches : List Touch}
       {after : CardState} → IsApartCard c → IsCardRun images certificates commands c answers touches after

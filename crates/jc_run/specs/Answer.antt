@@ -23,6 +23,7 @@ pub data Answered : Type 0 where
   WasReset : Answered
   Cells : (used most : ℕ) → Answered
   Objects : (used most : ℕ) → Answered
+  Steps : (steps : ℕ) → Answered
 
 -- ---- lines
 
@@ -54,6 +55,7 @@ line_of (Responds response) = response_line response.sent response.status
 line_of WasReset = codes "reset"
 line_of (Cells used most) = ((codes "cells " ++ decimal used) ++ codes " of ") ++ decimal most
 line_of (Objects used most) = ((codes "objects " ++ decimal used) ++ codes " of ") ++ decimal most
+line_of (Steps steps) = codes "steps " ++ decimal steps
 
 -- ---- answers of the code
 
@@ -69,3 +71,4 @@ shown (answers.Responds answer) = Responds (shown_response answer)
 shown answers.Reset = WasReset
 shown (answers.Cells used most) = Cells used most
 shown (answers.Objects used most) = Objects used most
+shown (answers.Steps steps) = Steps steps

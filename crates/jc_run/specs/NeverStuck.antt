@@ -8,7 +8,7 @@ use Rattle.jc_card.specs.Install.{install_command}
 use Rattle.jc_natives.specs.Kept.{are_bytes, is_aid}
 use Rattle.jc_run.specs.Answer.{Answered}
 use Rattle.jc_run.specs.Play.{IsAnswered}
-use Rattle.jc_script.specs.Script.{Apdu, Cells, Install, Load, Objects, Reset, ScriptCommand}
+use Rattle.jc_script.specs.Script.{Apdu, Cells, Install, Load, Objects, Reset, ScriptCommand, Steps}
 
 -- what a command is handed is bytes, and AIDs of 5 to 16 of them
 abbrev pub is_of_bytes : ScriptCommand → Bool
@@ -18,8 +18,9 @@ is_of_bytes (Apdu bytes) = are_bytes bytes
 is_of_bytes Reset = true
 is_of_bytes Cells = true
 is_of_bytes Objects = true
+is_of_bytes (Steps steps) = true
 
--- it isn't stuck on a card: it is answered. A load, and a count, call no method
+-- it isn't stuck on a card: it is answered. A load, a count and a budget call no method
 abbrev pub GoesOn : CardState → ScriptCommand → Type 0
 GoesOn c (Load folder certificate) = ⊤
 GoesOn c (Install applet instance incoming) = IsSome (install_command c applet instance incoming)
@@ -27,6 +28,7 @@ GoesOn c (Apdu bytes) = IsSome (apdu_command c bytes)
 GoesOn c Reset = IsSome (reset_command c)
 GoesOn c Cells = ⊤
 GoesOn c Objects = ⊤
+GoesOn c (Steps steps) = ⊤
 
 -- commands one behind the other: none is stuck, on whatever card those before it may leave
 abbrev pub NeverStuck : (images certificates : List ℕ → List ℕ → Type 0) → List ScriptCommand → CardState → Type 0

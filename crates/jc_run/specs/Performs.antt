@@ -8,7 +8,8 @@ use Rattle.jc_source.specs.Source.{Asked, Certificate, Image}
 use Rattle.jc_run.specs.Answer.{Answered}
 use Rattle.jc_run.specs.Play.{IsAnswered, IsFailing, ScriptEnd}
 use Rattle.jc_run.specs.Runs.{IsPlayed, IsSimulated}
-use Rattle.jc_script.specs.Script.{Apdu, Cells, Install, Load, Objects, Reset, ScriptCommand, script_commands}
+use Rattle.jc_script.specs.Script.{Apdu, Cells, Install, Load, Objects, Reset, ScriptCommand, Steps}
+use Rattle.jc_script.specs.Script.{script_commands}
 
 -- it leaves words that hold the card which it leaves on the machine's card, and is answered as there
 pub record Answers (images certificates : List ℕ → List ℕ → Type 0) (c : CardState) (command : ScriptCommand)
@@ -25,6 +26,7 @@ AsksSource (Apdu bytes) = ⊥
 AsksSource Reset = ⊥
 AsksSource Cells = ⊥
 AsksSource Objects = ⊥
+AsksSource (Steps steps) = ⊥
 
 -- and for this, in this order
 abbrev pub asked_by : ScriptCommand → List Asked
@@ -34,6 +36,7 @@ asked_by (Apdu bytes) = []
 asked_by Reset = []
 asked_by Cells = []
 asked_by Objects = []
+asked_by (Steps steps) = []
 
 -- the last reading that failed was of one of the files that a command names
 abbrev pub IsFailingOf : (Asked → Type 0) → ScriptCommand → Type 0
@@ -43,6 +46,7 @@ IsFailingOf failed_at (Apdu bytes) = ⊥
 IsFailingOf failed_at Reset = ⊥
 IsFailingOf failed_at Cells = ⊥
 IsFailingOf failed_at Objects = ⊥
+IsFailingOf failed_at (Steps steps) = ⊥
 
 -- what was written behind what was there, and how it ended, is what a script comes to on a card. Of the source behind
 -- it is known what its last reading that failed asked for

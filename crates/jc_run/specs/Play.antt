@@ -3,7 +3,7 @@
 use Rattle.std.specs.Prelude.{◌≡◌, ◌+◌, ℕ, nat_lt, true, List, [], ◌∷◌, ◌++◌, length, Option, Some, Result, Ok, Err}
 use Rattle.std.specs.Prelude.{if◌then◌else◌}
 use Rattle.jc_base.specs.declared.fault.LoadFault.{LoadFault}
-use Rattle.jc_card.specs.Card.{CardState}
+use Rattle.jc_card.specs.Card.{CardState, with_steps}
 use Rattle.jc_card.specs.Commands.{apdu_command, reset_command}
 use Rattle.jc_card.specs.Install.{HasNumber, Installed as Outcome, Refused, install_command}
 use Rattle.jc_card.specs.Load.{IsLoad}
@@ -12,7 +12,8 @@ use Rattle.jc_natives.specs.Kept.{are_bytes}
 use Rattle.jc_source.specs.Source.{Asked, Certificate, Image}
 use Rattle.jc_run.specs.Answer as answers
 use Rattle.jc_run.specs.Answer.{Answered, Installed, Loaded, NotInstalled, NotLoaded, Responds, WasReset, line_of}
-use Rattle.jc_script.specs.Script.{Apdu, Cells, Install, Load, Objects, Reset, ScriptCommand, most_in_line, most_lines}
+use Rattle.jc_script.specs.Script.{Apdu, Cells, Install, Load, Objects, Reset, ScriptCommand, Steps}
+use Rattle.jc_script.specs.Script.{most_in_line, most_lines}
 use Rattle.jc_script.specs.Faults.{fault_at}
 use Rattle.jc_script.specs.declared.fault.LineCause.TheVariants.{TooLong, TooMany}
 use Rattle.jc_script.specs.declared.fault.LineFault.{LineFault}
@@ -61,6 +62,8 @@ IsAnswered images certificates c Cells answer after =
     (answer ≡ answers.Cells (cells_in c.heap) c.limits.cells) × (after ≡ c)
 IsAnswered images certificates c Objects answer after =
     (answer ≡ answers.Objects (length c.heap) c.limits.objects) × (after ≡ c)
+IsAnswered images certificates c (Steps steps) answer after =
+    (answer ≡ answers.Steps steps) × (after ≡ with_steps c steps)
 
 -- ---- an answer
 

@@ -5,7 +5,7 @@ use Rattle.std.specs.Prelude.{◌≡◌, ℕ, true, false, List, [], ◌∷◌, 
 use Rattle.std.specs.Option.{option_map_or}
 use Rattle.jc_api.specs.Bound.{Bound}
 use Rattle.jc_card.specs.Accesses.{ChangesBy, IsApartCard, IsGuardedCommand, KeepsApart, LeavesObjects}
-use Rattle.jc_card.specs.Card.{CardState}
+use Rattle.jc_card.specs.Card.{CardState, with_steps}
 use Rattle.jc_card.specs.Commands.{apdu_command, reset_command}
 use Rattle.jc_card.specs.Install.{install_command}
 use Rattle.jc_card.specs.New.{are_limits, new_card}
@@ -19,11 +19,11 @@ use Rattle.jc_run.specs.NeverStuck.{IsNeverStuck}
 use Rattle.jc_run.specs.Play.{BadLimits, BadLine, IsAnswered, IsFailing, IsPart, NoMemory, NotRead, NotWritten, Over}
 use Rattle.jc_run.specs.Play.{ScriptEnd, SourceFailed, answer_line}
 use Rattle.jc_script.specs.Script.{Apdu, Cells, Install, Load, Numbered, Objects, Reset, Script, ScriptCommand}
-use Rattle.jc_script.specs.Script.{script_commands}
+use Rattle.jc_script.specs.Script.{Steps, script_commands}
 
 -- ---- a run of the card
 
--- the accesses that a command makes, in their order. A load makes none, and neither does a count
+-- the accesses that a command makes, in their order. A load makes none, and neither does a count or a budget
 abbrev pub accesses_in : {A : Type 0} → Option (Left A) → List Touch
 accesses_in done = option_map_or (λ l. l.touches) done []
 
@@ -34,6 +34,7 @@ accesses_of c (Apdu bytes) = accesses_in (apdu_command c bytes)
 accesses_of c Reset = accesses_in (reset_command c)
 accesses_of c Cells = []
 accesses_of c Objects = []
+accesses_of c (Steps steps) = []
 
 -- commands one behind the other, each on the card that the one before it left: what they are answered, their accesses
 -- in their order, and the card behind them. No call of a command that is answered is stuck
@@ -56,6 +57,7 @@ IsGuarded c (Apdu bytes) after = IfSome (apdu_command c bytes) (IsGuardedCommand
 IsGuarded c Reset after = IfSome (reset_command c) (IsGuardedCommand Resets c)
 IsGuarded c Cells after = after ≡ c
 IsGuarded c Objects after = after ≡ c
+IsGuarded c (Steps steps) after = after ≡ with_steps c steps
 
 -- on a card on which the runtime's name is its own: a command leaves such a card, and part by part it keeps plain
 -- objects. A load makes no part
@@ -68,6 +70,7 @@ IsKeptApart c (Apdu bytes) after =
 IsKeptApart c Reset after = IfSome (reset_command c) (λ l. KeepsApart Resets c l.touches l.card)
 IsKeptApart c Cells after = after ≡ c
 IsKeptApart c Objects after = after ≡ c
+IsKeptApart c (Steps steps) after = after ≡ with_steps c steps
 
 -- of each command on each card, and of each run from each card on. From a card on which the runtime's name is its own
 -- each command is kept apart, and each run leaves such a card

@@ -13,7 +13,7 @@ use Rattle.jc_run.specs.Play.{BadLimits, IsAnswered, IsPart, NoMemory, NotRead, 
 use Rattle.jc_run.specs.Play.{answer_line}
 use Rattle.jc_run.specs.Runs.{AreGuarded, IsCardRun, answer_lines}
 use Rattle.jc_script.specs.Script.{Apdu, Asks, Bad, Cells, Install, Load, Objects, Reset, ScriptCommand, ScriptLine}
-use Rattle.jc_script.specs.Script.{Skipped, lines_of, session_line}
+use Rattle.jc_script.specs.Script.{Skipped, Steps, lines_of, session_line}
 
 -- which lines may be refused: one that is none, and a load, of which a file may not be read, or memory may be out
 abbrev pub MayRefuse : ScriptLine → Type 0
@@ -25,6 +25,7 @@ MayRefuse (Asks (Apdu bytes)) = ⊥
 MayRefuse (Asks Reset) = ⊥
 MayRefuse (Asks Cells) = ⊥
 MayRefuse (Asks Objects) = ⊥
+MayRefuse (Asks (Steps steps)) = ⊥
 
 -- of lines these commands were answered, in their order, and these lines are left. The others say nothing, or were
 -- refused

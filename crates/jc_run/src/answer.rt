@@ -22,4 +22,6 @@ pub enum CommandAnswer {
     Cells { used: u16, most: u16 },
     /// How many objects there are, and how many there may be.
     Objects { used: u16, most: u16 },
+    /// A call may make so many steps from now on.
+    Steps(u32),
 }

@@ -3,7 +3,7 @@
 ghost use Rattle.std.specs.Prelude.{◌≡◌, ◌+◌, ◌<◌, ◌^◌, ◌∷◌, [], IfOk, IfErr, OnErr, OnOk, length, true};
 ghost use Rattle.jc_run.specs.Answer as answers;
 ghost use Rattle.jc_store.specs.Heap.{cells_in};
-ghost use Rattle.jc_card.specs.Card.{CardState};
+ghost use Rattle.jc_card.specs.Card.{CardState, with_steps};
 ghost use Rattle.jc_card.specs.Commands.{apdu_command};
 ghost use Rattle.jc_card.specs.Install.{install_command};
 ghost use Rattle.jc_card.specs.Reads.{Does, Holds};
@@ -103,6 +103,15 @@ fn objects(card: &Card) -> CommandAnswer
     }
 }
 
+/// Says how many steps a call may make from now on.
+fn set_steps(card: &mut Card, steps: u32) -> CommandAnswer
+    ensures held { (c : CardState) → Holds card.old c → Holds card.new (with_steps c steps) }
+    ensures answer { shown result ≡ answers.Steps steps }
+{
+    card.set_steps(steps);
+    CommandAnswer::Steps(steps)
+}
+
 /// Does a command on a card. Only a load can fail, and only for what the source says of one of its files. It asks for
 /// the image before the certificate, and for both before anything is loaded.
 pub fn perform<S: PackageSource>(
@@ -143,5 +152,6 @@ pub fn perform<S: PackageSource>(
         }
         ScriptCommand::Cells => Ok(cells(card)),
         ScriptCommand::Objects => Ok(objects(card)),
+        ScriptCommand::Steps(steps) => Ok(set_steps(card, *steps)),
     }
 }

@@ -103,6 +103,7 @@ fn put_answer(line: &mut AnswerLine, answer: &CommandAnswer) -> io::Result<()>
         CommandAnswer::Reset => put_bytes(line, b"reset"),
         CommandAnswer::Cells { used, most } => write!(line, "cells {used} of {most}"),
         CommandAnswer::Objects { used, most } => write!(line, "objects {used} of {most}"),
+        CommandAnswer::Steps(steps) => write!(line, "steps {steps}"),
     }
 }
 

@@ -1,3 +1,4 @@
+mod Budgets
 mod Cuts
 mod Spelling
 mod Feeds

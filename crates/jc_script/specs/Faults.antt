@@ -5,21 +5,21 @@ use Rattle.std.specs.Prelude.{List, [], ◌∷◌, ◌++◌, codes, length, Opti
 use Rattle.std.specs.Prelude.{bytes_eq, get_or, position, if◌then◌else◌, unwrap_or}
 use Rattle.std.specs.Char.{encode_utf8, is_ascii_hexdigit}
 use Rattle.std.specs.Fmt.{decimal}
-use Rattle.std.specs.Option.{option_map_or}
+use Rattle.std.specs.Option.{is_some, option_map_or}
 use Rattle.std.specs.Str.{is_utf8}
 use Rattle.hex.specs.Hex.{encode_upper}
 use Rattle.jc_api.specs.Text.{words_of}
 use Rattle.jc_base.specs.Aid.{has_aid_length}
-use Rattle.jc_script.specs.Script.{control_in}
+use Rattle.jc_script.specs.Script.{budget_of, control_in}
 use Rattle.jc_script.specs.declared.fault.LineCause.{LineCause}
-use Rattle.jc_script.specs.declared.fault.LineCause.TheVariants.{AidLength, BlankTooMany, NoDigit, NotText, OddDigit}
-use Rattle.jc_script.specs.declared.fault.LineCause.TheVariants.{TooLong, TooMany, UnknownCommand, Unprintable}
+use Rattle.jc_script.specs.declared.fault.LineCause.TheVariants.{AidLength, BlankTooMany, NoBudget, NoDigit, NotText}
+use Rattle.jc_script.specs.declared.fault.LineCause.TheVariants.{OddDigit, TooLong, TooMany, UnknownCommand, Unprintable}
 use Rattle.jc_script.specs.declared.fault.LineCause.TheVariants.{WordMissing, WordTooMany}
 use Rattle.jc_script.specs.declared.fault.LineFault.{LineFault}
 use Rattle.jc_script.specs.declared.finding.Dialect.{Dialect}
 use Rattle.jc_script.specs.declared.finding.Dialect.TheVariants.{Script, Session}
 use Rattle.jc_script.specs.declared.finding.Form.{Form}
-use Rattle.jc_script.specs.declared.finding.Form.TheVariants.{Bytes, Name}
+use Rattle.jc_script.specs.declared.finding.Form.TheVariants.{Budget, Bytes, Name}
 use Rattle.jc_script.specs.declared.finding.Form.TheVariants as forms
 
 abbrev pub fault_at : LineCause → ℕ → LineFault
@@ -60,12 +60,17 @@ control_fault column word =
 abbrev pub name_fault : ℕ → List ℕ → Option LineFault
 name_fault column word = if is_utf8 word then control_fault column word else Some (fault_at NotText column)
 
+-- a budget of steps
+abbrev pub budget_fault : ℕ → List ℕ → Option LineFault
+budget_fault column word = if is_some (budget_of word) then None else Some (fault_at NoBudget column)
+
 -- between two spaces there is a byte
 abbrev pub word_fault : Form → ℕ → List ℕ → Option LineFault
 word_fault form column [] = Some (fault_at BlankTooMany column)
 word_fault Name column (b ∷ word) = name_fault column (b ∷ word)
 word_fault forms.Aid column (b ∷ word) = aid_fault column (b ∷ word)
 word_fault Bytes column (b ∷ word) = digits_fault column (b ∷ word)
+word_fault Budget column (b ∷ word) = budget_fault column (b ∷ word)
 
 -- ---- the words behind the first
 
@@ -101,7 +106,7 @@ abbrev pub is_session : Dialect → Bool
 is_session Script = false
 is_session Session = true
 
--- commands by their first word. A session has two more
+-- commands by their first word. A session has three more
 abbrev pub layout_of : Dialect → List ℕ → Option Layout
 layout_of dialect keyword =
     if bytes_eq keyword (codes "load") then Some (record { forms = Name ∷ Name ∷ []; needed = 2 })
@@ -111,7 +116,9 @@ layout_of dialect keyword =
     else (if bytes_eq keyword (codes "reset") then Some (record { forms = []; needed = 0 })
     else (if is_session dialect && bytes_eq keyword (codes "cells") then Some (record { forms = []; needed = 0 })
     else (if is_session dialect && bytes_eq keyword (codes "objects") then Some (record { forms = []; needed = 0 })
-    else None)))))
+    else (if is_session dialect && bytes_eq keyword (codes "steps")
+    then Some (record { forms = Budget ∷ []; needed = 1 })
+    else None))))))
 
 -- a first word that is no command
 abbrev pub keyword_fault : List ℕ → LineFault
@@ -154,6 +161,7 @@ cause_text (NoDigit b) = codes "no hexadecimal digit: " ++ encode_utf8 b
 cause_text (Unprintable b) = codes "a byte that isn't printable: " ++ escaped b
 cause_text AidLength = codes "an AID with fewer than 5 or more than 16 bytes"
 cause_text NotText = codes "a name that isn't UTF-8"
+cause_text NoBudget = codes "no number from 1 to 4294967295"
 cause_text TooLong = codes "more than 1024 bytes"
 cause_text TooMany = codes "more than 100000 lines"
 

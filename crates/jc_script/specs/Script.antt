@@ -1,10 +1,11 @@
 -- Scripts: their lines, and the commands that lines ask for. A byte is its number: 10 is the line feed.
-use Rattle.std.specs.Prelude.{ℕ, suc, ◌==◌, ◌&&◌, ◌||◌, nat_le, nat_lt, List, [], ◌∷◌, length, Option, Some, None}
-use Rattle.std.specs.Prelude.{bytes_eq, codes, not, position, if◌then◌else◌}
-use Rattle.std.specs.Char.{is_ascii_control}
-use Rattle.std.specs.List.{onto_first}
+use Rattle.std.specs.Prelude.{ℕ, suc, ◌^◌, ◌==◌, ◌&&◌, ◌||◌, nat_le, nat_lt, List, [], ◌∷◌, length, Option, Some, None}
+use Rattle.std.specs.Prelude.{Bool, bytes_eq, codes, not, position, if◌then◌else◌}
+use Rattle.std.specs.Char.{is_ascii_control, is_ascii_digit}
+use Rattle.std.specs.List.{list_all, onto_first}
 use Rattle.std.specs.Option.{is_some, option_map_or}
 use Rattle.std.specs.Str.{is_utf8}
+use Rattle.std.specs.Str.Parse.{digits_value}
 use Rattle.jc_api.specs.Options.{◌>>=◌}
 use Rattle.hex.specs.Hex.{decode_of}
 use Rattle.jc_api.specs.Text.{given, is_skipped, spelled_aid, words_of}
@@ -26,7 +27,7 @@ most_lines = 100000
 -- ---- commands
 
 -- a package and its certificate, by their names; an applet, the new instance and its data; a command of a reader; a
--- reset; and in a session how many cells and objects are used
+-- reset; and in a session how many cells and objects are used, and how many steps a call may make from now on
 pub data ScriptCommand : Type 0 where
   Load : (folder certificate : List ℕ) → ScriptCommand
   Install : (applet instance incoming : List ℕ) → ScriptCommand
@@ -34,6 +35,7 @@ pub data ScriptCommand : Type 0 where
   Reset : ScriptCommand
   Cells : ScriptCommand
   Objects : ScriptCommand
+  Steps : (steps : ℕ) → ScriptCommand
 
 -- where the first control byte of ASCII stands, as a carriage return or a tab is
 abbrev pub control_in : List ℕ → Option ℕ
@@ -49,6 +51,16 @@ name_of word = if nat_lt 0 (length word) && not (is_some (control_in word)) then
 -- one byte or more, two hexadecimal digits each
 abbrev pub bytes_of : List ℕ → Option (List ℕ)
 bytes_of word = if nat_lt 0 (length word) && nat_le (length word) most_in_line then given (decode_of word) else None
+
+-- a budget of steps: decimal digits that spell 1 to 4,294,967,295. Zeros may lead
+abbrev pub is_budget : List ℕ → Bool
+is_budget text = list_all is_ascii_digit text && (nat_lt 0 (digits_value 10 text) && nat_lt (digits_value 10 text) (2 ^ 32))
+
+abbrev pub budget_in : List ℕ → Option ℕ
+budget_in text = if is_budget text then Some (digits_value 10 text) else None
+
+abbrev pub budget_of : List ℕ → Option ℕ
+budget_of word = text_of word >>= budget_in
 
 -- `load FOLDER CERTIFICATE`
 unfoldable pub load_asked : List (List ℕ) → Option ScriptCommand
@@ -93,6 +105,19 @@ asked (keyword ∷ words) =
     else (if bytes_eq keyword (codes "reset") then reset_asked words
     else None)))
 
+-- `steps N`, in a session
+unfoldable pub steps_asked : List (List ℕ) → Option ScriptCommand
+steps_asked (number ∷ []) = do
+  n ← budget_of number
+  Some (Steps n)
+steps_asked _ = None
+
+-- in a session, by the first word
+unfoldable pub asked_in_session : List (List ℕ) → Option ScriptCommand
+asked_in_session [] = None
+asked_in_session (keyword ∷ words) =
+    if bytes_eq keyword (codes "steps") then steps_asked words else asked (keyword ∷ words)
+
 -- ---- what a line says
 
 pub data ScriptLine : Type 0 where
@@ -104,12 +129,13 @@ pub data ScriptLine : Type 0 where
 unfoldable pub said_by : List ℕ → ScriptLine
 said_by line = if is_skipped line then Skipped else option_map_or Asks (asked (words_of line)) Bad
 
--- a line of a session: `cells` and `objects` too
+-- a line of a session: `cells`, `objects` and `steps` too
 unfoldable pub said_in_session : List ℕ → ScriptLine
 said_in_session line =
     if bytes_eq line (codes "cells") then Asks Cells
     else (if bytes_eq line (codes "objects") then Asks Objects
-    else said_by line)
+    else (if is_skipped line then Skipped
+    else option_map_or Asks (asked_in_session (words_of line)) Bad))
 
 -- whatever its number is
 abbrev pub session_line : List ℕ → ScriptLine

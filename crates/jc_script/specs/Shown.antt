@@ -12,6 +12,7 @@ shown_command (commands.Apdu bytes) = script.Apdu bytes.now
 shown_command commands.Reset = script.Reset
 shown_command commands.Cells = script.Cells
 shown_command commands.Objects = script.Objects
+shown_command (commands.Steps steps) = script.Steps steps
 
 abbrev pub shown : ScriptLine → script.ScriptLine
 shown lines.Skipped = script.Skipped

@@ -2,10 +2,11 @@
 
 ghost use Rattle.std.specs.Prelude.{◌≡◌, ◌≤◌, length, option_map};
 ghost use Rattle.jc_script.specs.Script as script;
-ghost use Rattle.jc_script.specs.Script.{apdu_asked, asked, install_asked, load_asked, reset_asked};
+ghost use Rattle.jc_script.specs.Script.{apdu_asked, asked, asked_in_session, install_asked, load_asked, reset_asked};
+ghost use Rattle.jc_script.specs.Script.{steps_asked};
 ghost use Rattle.jc_script.specs.Shown.{shown, shown_command};
 
-use crate::words::{Words, aid_of, bytes_of, is_skipped, name_of};
+use crate::words::{Words, aid_of, budget_of, bytes_of, is_skipped, name_of};
 use jc_base::Aid;
 
 /// The most bytes of a line, without its line feed.
@@ -36,6 +37,8 @@ pub enum ScriptCommand<'a> {
     Cells,
     /// How many objects there are: a line of a session.
     Objects,
+    /// How many steps a call may make from now on, at least 1: a line of a session.
+    Steps(u32),
 }
 
 /// What a line says.
@@ -130,6 +133,34 @@ fn asked<'a>(mut words: Words<'a>, room: &'a mut [u8; MOST_BYTES]) -> Option<Scr
     }
 }
 
+#[tactic(auto, unfolding(crate::specs::Script::steps_asked))]
+fn steps_asked(mut words: Words) -> Option<ScriptCommand>
+    ensures { option_map shown_command result ≡ steps_asked words.entry }
+{
+    let number = words.next()?;
+    if words.next().is_some() {
+        return None;
+    }
+    Some(ScriptCommand::Steps(budget_of(number)?))
+}
+
+/// The command that words of a session ask for, if they do.
+#[tactic(auto, unfolding(crate::specs::Script::asked_in_session))]
+fn asked_in_session<'a>(
+    words: Words<'a>,
+    room: &'a mut [u8; MOST_BYTES],
+) -> Option<ScriptCommand<'a>>
+    ensures { option_map shown_command result ≡ asked_in_session words.entry }
+{
+    let mut behind = words.again();
+    let keyword = behind.next()?;
+    if keyword == b"steps".as_slice() {
+        steps_asked(behind)
+    } else {
+        asked(words, room)
+    }
+}
+
 /// What a line says, of at most [`MOST_IN_LINE`] bytes. The bytes that it spells are put down in this room.
 #[tactic(auto, unfolding(crate::specs::Script::said_by))]
 pub fn said_by<'a>(line: &'a [u8], room: &'a mut [u8; MOST_BYTES]) -> ScriptLine<'a>
@@ -144,7 +175,8 @@ pub fn said_by<'a>(line: &'a [u8], room: &'a mut [u8; MOST_BYTES]) -> ScriptLine
     }
 }
 
-/// What a line of a session says, of at most [`MOST_IN_LINE`] bytes: it may ask for what is used, too.
+/// What a line of a session says, of at most [`MOST_IN_LINE`] bytes: it may ask for what is used, and say a budget of
+/// steps, too.
 #[tactic(auto, unfolding(crate::specs::Script::said_in_session))]
 pub fn said_in_session<'a>(line: &'a [u8], room: &'a mut [u8; MOST_BYTES]) -> ScriptLine<'a>
     ensures { shown result ≡ script.said_in_session line.now }
@@ -153,7 +185,12 @@ pub fn said_in_session<'a>(line: &'a [u8], room: &'a mut [u8; MOST_BYTES]) -> Sc
         ScriptLine::Asks(ScriptCommand::Cells)
     } else if line == b"objects".as_slice() {
         ScriptLine::Asks(ScriptCommand::Objects)
+    } else if is_skipped(line) {
+        ScriptLine::Skipped
     } else {
-        said_by(line, room)
+        match asked_in_session(Words::new(line), room) {
+            Some(command) => ScriptLine::Asks(command),
+            None => ScriptLine::Bad,
+        }
     }
 }

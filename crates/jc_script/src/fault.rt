@@ -26,6 +26,8 @@ pub enum LineCause {
     AidLength,
     /// A name isn't UTF-8.
     NotText,
+    /// A budget of steps isn't 1 to 4,294,967,295 in decimal digits.
+    NoBudget,
     /// The line has more than 1,024 bytes.
     TooLong,
     /// It stands behind 100,000 lines.
@@ -76,6 +78,7 @@ impl fmt::Display for LineCause {
             }
             LineCause::AidLength => write!(f, "an AID with fewer than 5 or more than 16 bytes"),
             LineCause::NotText => write!(f, "a name that isn't UTF-8"),
+            LineCause::NoBudget => write!(f, "no number from 1 to 4294967295"),
             LineCause::TooLong => write!(f, "more than 1024 bytes"),
             LineCause::TooMany => write!(f, "more than 100000 lines"),
         }

@@ -2,14 +2,14 @@
 
 ghost use Rattle.std.specs.Prelude.{◌≡◌, ◌+◌, ◌<◌, ◌≤◌, length, not, position, IfSome};
 ghost use Rattle.std.specs.Char.{is_ascii_hexdigit};
-ghost use Rattle.jc_script.specs.Faults.{aid_fault, byte_cause, command_fault, control_fault, digits_fault};
+ghost use Rattle.jc_script.specs.Faults.{aid_fault, budget_fault, byte_cause, command_fault, control_fault, digits_fault};
 ghost use Rattle.jc_script.specs.Faults.{extra_fault, fault_at, fault_behind, fault_in, is_printable, keyword_fault};
 ghost use Rattle.jc_script.specs.Faults.{missing_fault, name_fault, odd_fault, spread, word_fault, words_fault};
 
 use crate::fault::{LineCause, LineFault};
-use crate::words::{Words, control_in};
+use crate::words::{Words, budget_of, control_in};
 
-/// Whose line it is: a script's, or a session's, which has two commands more.
+/// Whose line it is: a script's, or a session's, which has three commands more.
 #[derive(Clone, Copy, Debug, PartialEq, Eq)]
 pub enum Dialect {
     Script,
@@ -25,6 +25,8 @@ enum Form {
     Aid,
     /// Bytes, in hexadecimal.
     Bytes,
+    /// A budget of steps, in decimal digits.
+    Budget,
 }
 
 /// A fault in a column.
@@ -129,6 +131,16 @@ fn name_fault(column: usize, word: &[u8]) -> Option<LineFault>
     }
 }
 
+/// What is wrong with a budget of steps.
+fn budget_fault(column: usize, word: &[u8]) -> Option<LineFault>
+    ensures { result ≡ budget_fault column word.now }
+{
+    match budget_of(word) {
+        Some(_) => None,
+        None => Some(fault_at(LineCause::NoBudget, column)),
+    }
+}
+
 /// What is wrong with a word.
 fn word_fault(form: Form, column: usize, word: &[u8]) -> Option<LineFault>
     requires { column + length word.now ≤ 1027 }
@@ -141,6 +153,7 @@ fn word_fault(form: Form, column: usize, word: &[u8]) -> Option<LineFault>
         Form::Name => name_fault(column, word),
         Form::Aid => aid_fault(column, word),
         Form::Bytes => digits_fault(column, word),
+        Form::Budget => budget_fault(column, word),
     }
 }
 
@@ -237,6 +250,8 @@ fn fault_behind(dialect: Dialect, keyword: &[u8], words: &mut Words<'_>) -> Line
         command_fault(&[], 0, keyword, words)
     } else if dialect == Dialect::Session && keyword == b"objects".as_slice() {
         command_fault(&[], 0, keyword, words)
+    } else if dialect == Dialect::Session && keyword == b"steps".as_slice() {
+        command_fault(&[Form::Budget], 1, keyword, words)
     } else {
         keyword_fault(keyword)
     }

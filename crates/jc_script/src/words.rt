@@ -1,12 +1,14 @@
 //! Lines as words, and words as names and bytes.
 
 ghost use Rattle.std.specs.Prelude.{◌≡◌, ◌≤◌, ◌<◌, ◌∷◌, ◌==◌, ◌/◌, [], length, position, option_copied};
-ghost use Rattle.std.specs.Prelude.{option_map, IfNone, IfSome};
+ghost use Rattle.std.specs.Prelude.{option_map, true, IfNone, IfSome};
+ghost use Rattle.std.specs.Char.{is_ascii_digit};
+ghost use Rattle.std.specs.List.{list_all};
 ghost use Rattle.std.specs.Bool.{OnTrue, OnFalse};
 ghost use Rattle.hex.specs.Hex.{decode_of};
 ghost use Rattle.jc_api.specs.Text.{given, is_skipped, spelled_aid, words_of};
 ghost use Rattle.jc_script.specs.PrivateWords.{words_left};
-ghost use Rattle.jc_script.specs.Script.{bytes_of, control_in, name_of, text_of};
+ghost use Rattle.jc_script.specs.Script.{budget_in, budget_of, bytes_of, control_in, name_of, text_of};
 
 use crate::command::{MOST_BYTES, MOST_IN_LINE};
 use jc_base::Aid;
@@ -33,6 +35,13 @@ impl<'a> Words<'a> {
         ensures { result ≡ words_of line.now }
     {
         Words { left: Some(line) }
+    }
+
+    /// The same words, to be taken again.
+    pub(crate) fn again(&self) -> Words<'a>
+        ensures { result ≡ self.now }
+    {
+        Words { left: self.left }
     }
 
     /// Takes the first word off, or answers `None` where there is none.
@@ -121,6 +130,37 @@ pub(crate) fn bytes_of<'a>(word: &[u8], room: &'a mut [u8; MOST_BYTES]) -> Optio
     let bytes = &mut room[..word.len() / 2];
     if decode(word, bytes) {
         Some(bytes)
+    } else {
+        None
+    }
+}
+
+/// Whether bytes are decimal digits alone.
+fn are_digits(bytes: &[u8]) -> bool
+    ensures { result ≡ list_all is_ascii_digit bytes.now }
+{
+    bytes.iter().all(|byte| byte.is_ascii_digit())
+}
+
+/// The number that decimal digits spell, from 1 to 4,294,967,295.
+#[tactic(auto, using(crate::proofs::Budgets::budget_is))]
+fn budget_in(text: &str) -> Option<u32>
+    requires { list_all is_ascii_digit text.now ≡ true }
+    ensures { result ≡ budget_in text.now }
+{
+    match text.parse::<u32>() {
+        Ok(0) | Err(_) => None,
+        Ok(number) => Some(number),
+    }
+}
+
+/// The budget of steps that a word spells in decimal digits. Zeros may lead.
+pub(crate) fn budget_of(word: &[u8]) -> Option<u32>
+    ensures { result ≡ budget_of word.now }
+{
+    let text = text_of(word)?;
+    if are_digits(text.as_bytes()) {
+        budget_in(text)
     } else {
         None
     }

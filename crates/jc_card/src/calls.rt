@@ -81,6 +81,7 @@ impl Card {
             self.steps,
             &first,
             &mut self.denial,
+            &mut self.stopped,
         )
     }
 

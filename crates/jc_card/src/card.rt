@@ -1,7 +1,7 @@
 //! The card.
 
 use jc_firewall::Denial;
-use jc_interp::WordMachine;
+use jc_interp::{ShownFrame, WordMachine};
 use jc_link::World;
 use jc_names::Owner;
 use jc_natives::Runtime;
@@ -22,6 +22,8 @@ pub struct Card {
     pub(crate) steps: u32,
     /// What the firewall denied behind a SecurityException with which the last call ended.
     pub(crate) denial: Option<Denial>,
+    /// The frame in which the last call stopped, where it didn't end by itself.
+    pub(crate) stopped: ShownFrame,
 }
 
 impl Model for Card {

@@ -9,7 +9,7 @@ ghost use Rattle.jc_store.specs.Heap.{object_at};
 
 use crate::card::Card;
 use jc_firewall::Denial;
-use jc_interp::RunEnd;
+use jc_interp::{RunEnd, ShownFrame};
 use jc_machine::{Budget, CodePoint};
 use jc_store::ObjectType;
 
@@ -38,6 +38,16 @@ impl Card {
     /// which that instruction calls.
     pub fn denial(&self) -> Option<Denial> {
         self.denial
+    }
+
+    /// The frame in which the last call of an applet stopped, where nothing caught what code threw, or the steps were
+    /// spent.
+    pub fn stopped(&self) -> Option<&ShownFrame> {
+        if self.stopped.is_there {
+            Some(&self.stopped)
+        } else {
+            None
+        }
     }
 
     // What nothing caught, if it is there.

@@ -143,6 +143,7 @@ impl Card {
             self.steps,
             &first,
             &mut self.denial,
+            &mut self.stopped,
         )
     }
 

@@ -12,7 +12,7 @@ use crate::limits::Limits;
 use crate::runtime_objects::make_own_objects;
 use jc_api::Binding;
 use jc_frames::Frames;
-use jc_interp::{Statics, WordMachine};
+use jc_interp::{ShownFrame, Statics, WordMachine};
 use jc_link::{World, built_worlds_have_the_api};
 use jc_machine::{accepted_worlds_grow, new_machines_are_typed};
 use jc_natives::{Runtime, calls_keep_fitting};
@@ -57,6 +57,7 @@ impl Card {
             most_cells: limits.cells,
             steps: limits.steps,
             denial: None,
+            stopped: ShownFrame::none(),
         })
     }
 }

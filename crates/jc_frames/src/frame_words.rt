@@ -72,6 +72,16 @@ pub(crate) fn arguments_at<'w>(place: &FramePlace, words: &'w [u16], count: u8) 
     &words[end - usize::from(depth.min(count))..end]
 }
 
+/// The locals.
+#[inline]
+pub(crate) fn locals_at<'w>(place: &FramePlace, words: &'w [u16]) -> &'w [u16]
+    requires { IsWithin place.now words.now }
+    ensures { result.now ≡ (frame_in words.now place.now).locals }
+{
+    let start = usize::from(place.start);
+    &words[start..start + usize::from(place.locals)]
+}
+
 /// The local with an index; 0 where there is none.
 #[inline]
 pub(crate) fn local_at(place: &FramePlace, words: &[u16], index: u8) -> u16

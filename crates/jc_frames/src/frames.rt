@@ -11,7 +11,8 @@ ghost use Rattle.jc_frames.specs.Operands.{operand_in, placed, pushed, put, repl
 ghost use Rattle.jc_frames.specs.PrivateLaid.{HasRoom};
 
 use crate::frame_words::{
-    arguments_at, depth_at, in_use_at, local_at, operand_at, push_at, put_at, replace_at, size_at,
+    arguments_at, depth_at, in_use_at, local_at, locals_at, operand_at, push_at, put_at,
+    replace_at, size_at,
 };
 use crate::header::{FrameHeader, FrameSize};
 use crate::place::{FramePlace, copy_arguments, place_under, put_arguments, top_of, top_start};
@@ -236,6 +237,17 @@ impl Frames {
             return &[];
         };
         arguments_at(place, &self.words, count)
+    }
+
+    /// The locals of the top frame.
+    #[inline]
+    pub fn locals(&self) -> &[u16]
+        ensures { result.now ≡ of_top [] (λ f. f.locals) self.now }
+    {
+        let Some(place) = self.places.last() else {
+            return &[];
+        };
+        locals_at(place, &self.words)
     }
 
     /// Puts an operand on top, where there is room for it.

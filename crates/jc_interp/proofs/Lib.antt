@@ -46,3 +46,5 @@ mod ImageWords
 mod MadeArrays
 mod NativeCalls
 mod Putting
+mod Unwinding
+mod Showing

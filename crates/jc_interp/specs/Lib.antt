@@ -28,4 +28,6 @@ pub mod PrivateLaws
 pub mod PrivateLeaf
 pub mod PrivateRunning
 pub mod PrivateScenes
+pub mod Showing
+pub mod PrivateShown
 pub mod PrivateCalling

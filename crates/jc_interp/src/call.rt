@@ -3,7 +3,9 @@
 
 ghost use Rattle.std.specs.Prelude.{◌≡◌, []};
 ghost use Rattle.jc_program.specs.declared.called.Called.TheVariants.{Method, NativeMethod};
+ghost use Rattle.std.specs.Bool.{OnTrue};
 ghost use Rattle.jc_interp.specs.Calling.{IsCall, IsMethodFor, MayCall};
+ghost use Rattle.jc_interp.specs.Showing.{ShowsCall};
 ghost use Rattle.jc_interp.specs.PrivateCalling.{EntersFirst, called_for, called_on, first_end};
 ghost use Rattle.jc_interp.specs.PrivateDone.{done};
 
@@ -11,6 +13,7 @@ use crate::ends::{RunEnd, StepEnd};
 use crate::entering::{Owners, header_of, size_of};
 use crate::machine::WordMachine;
 use crate::seen::look_at;
+use crate::shown::ShownFrame;
 use crate::step::tables_are_known;
 use jc_firewall::Denial;
 use jc_link::World;
@@ -120,23 +123,31 @@ impl WordMachine {
         call: &FirstCall<'_>,
         number: MethodNumber,
         denial: &mut Option<Denial>,
+        shown: &mut ShownFrame,
     ) -> RunEnd
         requires may_call { MayCall world.now program.now N.meaning selected call.now
             (record { machine = self.old; kept = N.kept natives.old }) }
         requires method { call.now.called ≡ Method number }
-        ensures { IsCall world.now program.now N.meaning selected steps call.now
+        ensures call { IsCall world.now program.now N.meaning selected steps call.now
             (record { machine = self.old; kept = N.kept natives.old })
             (record { machine = self.new; kept = N.kept natives.new }) result }
+        ensures shown { OnTrue shown.new.is_there (ShowsCall world.now program.now N.meaning selected steps call.now
+            (record { machine = self.old; kept = N.kept natives.old }) shown.new) }
     {
         tables_are_known(program);
         natives.law();
         accepted_packages_are_type_safe(natives);
         match self.enter_first(program, number, call) {
-            StepEnd::GoesOn => self.run(natives, world, program, selected, steps, denial),
-            StepEnd::Throws(_) | StepEnd::Gives(_) | StepEnd::UsedUp => RunEnd::RanOut {
-                spent: self.lacking(),
-                at: None,
-            },
+            StepEnd::GoesOn => {
+                self.run(natives, world, program, selected, steps, denial, shown)
+            }
+            StepEnd::Throws(_) | StepEnd::Gives(_) | StepEnd::UsedUp => {
+                shown.is_there = false;
+                RunEnd::RanOut {
+                    spent: self.lacking(),
+                    at: None,
+                }
+            }
         }
     }
 
@@ -183,22 +194,29 @@ impl WordMachine {
         steps: u32,
         call: &FirstCall<'_>,
         denial: &mut Option<Denial>,
+        shown: &mut ShownFrame,
     ) -> RunEnd
         requires may_call { MayCall world.now program.now N.meaning selected call.now
             (record { machine = self.old; kept = N.kept natives.old }) }
-        ensures { IsCall world.now program.now N.meaning selected steps call.now
+        ensures call { IsCall world.now program.now N.meaning selected steps call.now
             (record { machine = self.old; kept = N.kept natives.old })
             (record { machine = self.new; kept = N.kept natives.new }) result }
+        ensures shown { OnTrue shown.new.is_there (ShowsCall world.now program.now N.meaning selected steps call.now
+            (record { machine = self.old; kept = N.kept natives.old }) shown.new) }
     {
         tables_are_known(program);
         match call.called {
             Called::Method(number) => self.call_method(
-                natives, world, program, selected, steps, call, number, denial,
+                natives, world, program, selected, steps, call, number, denial, shown,
             ),
             Called::NativeMethod { member } => {
+                shown.is_there = false;
                 self.call_api(natives, world, program, selected, steps, call, member)
             }
-            Called::Nothing => NO_STEP,
+            Called::Nothing => {
+                shown.is_there = false;
+                NO_STEP
+            }
         }
     }
 
@@ -207,7 +225,8 @@ impl WordMachine {
     /// of the defensive machine's, of an accepted world, that can begin. The call ends as each such call ends, and what
     /// both keep beside their frames agrees again. `selected` is the context of the applet that is selected, if one is.
     /// Where the call ends with a SecurityException of the runtime's, `denial` says what the firewall denied behind it,
-    /// if that can be told.
+    /// if that can be told. Where nothing caught what code threw, or the steps are spent, the frame in which that was
+    /// is shown.
     pub fn call<N: Natives>(
         &mut self,
         natives: &mut N,
@@ -217,16 +236,21 @@ impl WordMachine {
         steps: u32,
         call: &FirstCall<'_>,
         denial: &mut Option<Denial>,
+        shown: &mut ShownFrame,
     ) -> RunEnd
         requires may_call { MayCall world.now program.now N.meaning selected call.now
             (record { machine = self.old; kept = N.kept natives.old }) }
         ensures call { IsCall world.now program.now N.meaning selected steps call.now
             (record { machine = self.old; kept = N.kept natives.old })
             (record { machine = self.new; kept = N.kept natives.new }) result }
+        ensures shown { OnTrue shown.new.is_there (ShowsCall world.now program.now N.meaning selected steps call.now
+            (record { machine = self.old; kept = N.kept natives.old }) shown.new) }
         ensures dropped { self.new.frames.frames ≡ [] }
     {
         *denial = None;
-        let end = self.make_call(natives, world, program, selected, steps, call, denial);
+        let end = self.make_call(
+            natives, world, program, selected, steps, call, denial, shown,
+        );
         self.frames.clear();
         end
     }

@@ -3,8 +3,8 @@
 
 ghost use Rattle.std.specs.Prelude.{◌≡◌};
 ghost use Rattle.jc_interp.specs.PrivateDone.{done};
-ghost use Rattle.jc_interp.specs.PrivateUnwinding.{catches, do_unwind, handled, handler_for, handler_in, is_caught};
-ghost use Rattle.jc_interp.specs.PrivateUnwinding.{unwinds};
+ghost use Rattle.jc_interp.specs.PrivateUnwinding.{catches, do_unwind, handled, handler_for, handler_in, handler_under};
+ghost use Rattle.jc_interp.specs.PrivateUnwinding.{is_caught, unwinds};
 
 use crate::ends::StepEnd;
 use crate::fetch::method_of;
@@ -64,22 +64,30 @@ impl WordMachine {
         self.frames.push_operand(object);
     }
 
+    /// The handler of the frame that has so many others on top of it.
+    fn handler_under(&self, program: &Program, class: u16, others: u8) -> Option<LoadedHandler>
+        ensures { result ≡ handler_under program.now class others self.now }
+    {
+        let frame = self.frames.frame_under(others)?;
+        handler_in(program, class, frame)
+    }
+
     /// An object of the class with a number is thrown.
     fn unwind_for(&mut self, program: &Program, object: u16, class: u16) -> StepEnd
         ensures { done self.new result ≡ unwinds program.now object class self.old }
     {
-        while let Some(frame) = self.frames.top() {
-            if let Some(handler) = handler_in(program, class, frame) {
+        for others in 0..self.frames.count() {
+            if let Some(handler) = self.handler_under(program, class, others) {
+                self.frames.drop_frames(others);
                 self.handle(object, handler);
                 return StepEnd::GoesOn;
             }
-            self.frames.drop_frame();
         }
         StepEnd::Throws(object)
     }
 
     /// An object is thrown: the nearest frame with a handler for it goes on there, and the frames within are dropped.
-    /// Where none has one it is thrown out of the call.
+    /// Where none has one it is thrown out of the call, and all frames stay.
     pub(crate) fn unwind(&mut self, program: &Program, object: u16) -> StepEnd
         ensures { done self.new result ≡ do_unwind program.now object self.old }
     {

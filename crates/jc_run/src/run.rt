@@ -58,7 +58,7 @@ fn play_command<W: Write, S: PackageSource, T: Teller<S>>(
     };
     match write_answer(writer, &answer) {
         Ok(()) => {
-            teller.answered(u64::from(number), &answer, card.denial());
+            teller.answered(u64::from(number), &answer, card.denial(), card.stopped());
             Ok(())
         }
         Err(error) => Err(ScriptFault::Write(error)),

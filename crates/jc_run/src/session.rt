@@ -76,7 +76,7 @@ fn converse_command<W: Write, S: PackageSource, T: Teller<S>>(
     };
     match write_answer(writer, &answer) {
         Ok(()) => {
-            teller.answered(number, &answer, card.denial());
+            teller.answered(number, &answer, card.denial(), card.stopped());
             Ok(())
         }
         Err(error) => Err(ScriptFault::Write(error)),

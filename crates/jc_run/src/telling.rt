@@ -2,6 +2,7 @@
 
 use crate::answer::CommandAnswer;
 use jc_firewall::Denial;
+use jc_interp::ShownFrame;
 use jc_script::LineFault;
 
 /// Why a line of a session isn't answered.
@@ -17,9 +18,16 @@ pub enum LineRefusal {
 
 /// Who is told of lines, beside the answers that are written. What comes of a line doesn't hang on it.
 pub trait Teller<S> {
-    /// The line with a number, from 1 on, was answered. Where that is by a SecurityException, `denial` says what the
-    /// firewall denied, if it can be told.
-    fn answered(&mut self, number: u64, answer: &CommandAnswer, denial: Option<Denial>);
+    /// The line with a number, from 1 on, was answered. `stopped` is the frame in which the last call of an applet
+    /// stopped, if it did. Where that is by a SecurityException, `denial` says what the firewall denied, if that is
+    /// known.
+    fn answered(
+        &mut self,
+        number: u64,
+        answer: &CommandAnswer,
+        denial: Option<Denial>,
+        stopped: Option<&ShownFrame>,
+    );
 
     /// A line of a session wasn't, and the session goes on.
     fn refused(&mut self, number: u64, refusal: &LineRefusal, source: &S);

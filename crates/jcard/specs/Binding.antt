@@ -9,7 +9,7 @@ use Rattle.jcard.specs.Files.{Entry, IsContent, IsFaultAt, IsLonger}
 use Rattle.jcard.specs.Files.Entry.{failing}
 use Rattle.jcard.specs.declared.files.FileCause.{FileCause}
 use Rattle.jcard.specs.declared.files.FileCause.TheVariants.{System, NoFolder, NotRegular, TooLong, NotText}
-use Rattle.jcard.specs.declared.files.FileCause.TheVariants.{NoBinding}
+use Rattle.jcard.specs.declared.files.FileCause.TheVariants.{LongCertificate, NoBinding, NoCertificate}
 use Rattle.jcard.specs.declared.files.FileFault.{FileFault}
 
 -- the most bytes of the file of a binding
@@ -34,6 +34,8 @@ IsNoBinding bytes NotRegular = ⊥
 IsNoBinding bytes (TooLong most) = ⊥
 IsNoBinding bytes NotText = IsUtf8 bytes → ⊥
 IsNoBinding bytes (NoBinding fault) = SaysNoBinding bytes fault
+IsNoBinding bytes NoCertificate = ⊥
+IsNoBinding bytes (LongCertificate limit) = ⊥
 
 -- the file under a path is the text of this binding
 pub record HasBinding (holds : Entry → Type 0) (binding : Bound) : Type 0 where
@@ -55,6 +57,8 @@ IsUnbound holds NotRegular = ⊥
 IsUnbound holds (TooLong limit) = (limit ≡ most_binding) × IsLonger holds most_binding
 IsUnbound holds NotText = HasNoBinding holds NotText
 IsUnbound holds (NoBinding fault) = HasNoBinding holds (NoBinding fault)
+IsUnbound holds NoCertificate = ⊥
+IsUnbound holds (LongCertificate limit) = ⊥
 
 -- the binding in the file that is named, or the default one
 abbrev pub IsBindingFor : (List ℕ → Entry → Type 0) → Option (Bor (List ℕ)) → Bound → Type 0

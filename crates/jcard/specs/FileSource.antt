@@ -1,17 +1,13 @@
 -- Packages in folders and certificates in files: what such a source holds, and the fault of a reading that failed.
 use Rattle.std.specs.Prelude.{◌≡◌, ℕ, List}
 use Rattle.jc_source.specs.Source.{Asked, Certificate, Image}
-use Rattle.jcard.specs.Files.{Entry, IsContent, IsFaultAt, IsIrregular, IsLonger}
+use Rattle.jcard.specs.Files.{Entry, IsContent, IsFaultAt, IsIrregular, IsLonger, most_certificate}
 use Rattle.jcard.specs.Files.Entry.{failing}
 use Rattle.jcard.specs.Folders.{IsFolderFault}
 use Rattle.jcard.specs.declared.files.FileCause.{FileCause}
 use Rattle.jcard.specs.declared.files.FileCause.TheVariants.{System, NoFolder, NotRegular, TooLong, NotText}
-use Rattle.jcard.specs.declared.files.FileCause.TheVariants.{NoBinding}
+use Rattle.jcard.specs.declared.files.FileCause.TheVariants.{LongCertificate, NoBinding, NoCertificate}
 use Rattle.jcard.specs.declared.files.FileFault.{FileFault}
-
--- the most bytes of the file of a certificate
-abbrev pub most_certificate : ℕ
-most_certificate = 1048576
 
 -- the certificate under a name is the bytes of the file with this name
 abbrev pub HoldsCertificate : (List ℕ → Entry → Type 0) → List ℕ → List ℕ → Type 0
@@ -25,6 +21,8 @@ IsNoCertificate holds NotRegular = IsIrregular holds
 IsNoCertificate holds (TooLong limit) = (limit ≡ most_certificate) × IsLonger holds most_certificate
 IsNoCertificate holds NotText = ⊥
 IsNoCertificate holds (NoBinding fault) = ⊥
+IsNoCertificate holds NoCertificate = ⊥
+IsNoCertificate holds (LongCertificate limit) = ⊥
 
 -- why the file with a name holds no certificate
 abbrev pub IsCertificateFault : (List ℕ → Entry → Type 0) → List ℕ → FileFault → Type 0

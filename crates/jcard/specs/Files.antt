@@ -1,5 +1,5 @@
 -- Files: what the system tells of a path, what is read and written there, and why not, with the words for it.
-use Rattle.std.specs.Prelude.{⊤, ◌≡◌, ◌<◌, ◌≤◌, ◌++◌, ◌==◌, ◌&&◌, ℕ, Bool, true, false, not, List, length, codes}
+use Rattle.std.specs.Prelude.{⊤, ◌≡◌, ◌<◌, ◌≤◌, ◌++◌, ◌==◌, ◌&&◌, ◌||◌, ℕ, Bool, true, false, not, List, length, codes}
 use Rattle.std.specs.Prelude.{Option, Some, None, is_some, option_map, position, if◌then◌else◌}
 use Rattle.std.specs.Char.{is_ascii_control}
 use Rattle.std.specs.Fmt.{decimal}
@@ -12,7 +12,7 @@ use Rattle.std.specs.declared.io.ErrorKind.TheVariants.{OutOfMemory}
 use Rattle.jc_api.specs.Fault.{words_of}
 use Rattle.jcard.specs.declared.files.FileCause.{FileCause}
 use Rattle.jcard.specs.declared.files.FileCause.TheVariants.{System, NoFolder, NotRegular, TooLong, NotText}
-use Rattle.jcard.specs.declared.files.FileCause.TheVariants.{NoBinding}
+use Rattle.jcard.specs.declared.files.FileCause.TheVariants.{LongCertificate, NoBinding, NoCertificate}
 use Rattle.jcard.specs.declared.files.FileFault.{FileFault}
 use Rattle.jcard.specs.declared.files.ReadFault.{ReadFault}
 use Rattle.jcard.specs.declared.files.ReadFault.TheVariants.{File, Memory}
@@ -88,15 +88,23 @@ IsUnread holds most NotRegular = ⊥
 IsUnread holds most (TooLong limit) = (limit ≡ most) × IsLonger holds most
 IsUnread holds most NotText = ⊥
 IsUnread holds most (NoBinding fault) = ⊥
+IsUnread holds most NoCertificate = ⊥
+IsUnread holds most (LongCertificate limit) = ⊥
 
--- why no file is written: the system tells an error
-abbrev pub IsUnwritten : (Entry → Type 0) → FileCause → Type 0
-IsUnwritten holds (System error) = holds (failing error)
-IsUnwritten holds NoFolder = ⊥
-IsUnwritten holds NotRegular = ⊥
-IsUnwritten holds (TooLong limit) = ⊥
-IsUnwritten holds NotText = ⊥
-IsUnwritten holds (NoBinding fault) = ⊥
+-- the most bytes of the file of a certificate
+abbrev pub most_certificate : ℕ
+most_certificate = 1048576
+
+-- why a certificate isn't written: the system tells an error, or it has more bytes than a file of one may have
+abbrev pub IsUnwritten : (Entry → Type 0) → List ℕ → FileCause → Type 0
+IsUnwritten holds bytes (System error) = holds (failing error)
+IsUnwritten holds bytes NoFolder = ⊥
+IsUnwritten holds bytes NotRegular = ⊥
+IsUnwritten holds bytes (TooLong limit) = ⊥
+IsUnwritten holds bytes NotText = ⊥
+IsUnwritten holds bytes (NoBinding fault) = ⊥
+IsUnwritten holds bytes NoCertificate = ⊥
+IsUnwritten holds bytes (LongCertificate limit) = (limit ≡ most_certificate) × (most_certificate < length bytes)
 
 -- the words of a cause, of which the system has some of its own
 abbrev pub cause_text : FileCause → Option (List ℕ)
@@ -106,10 +114,17 @@ cause_text NotRegular = Some (codes "it isn't a regular file")
 cause_text (TooLong most) = Some ((codes "it has more than " ++ decimal most) ++ codes " bytes")
 cause_text NotText = Some (codes "it isn't UTF-8")
 cause_text (NoBinding fault) = Some (codes "it is no binding: " ++ words_of fault)
+cause_text NoCertificate = Some (codes "it is no certificate, and stays as it is")
+cause_text (LongCertificate most) =
+    Some ((codes "the certificate has more than " ++ decimal most) ++ codes " bytes, and isn't written")
 
--- a byte that is written as it is: no control byte of ASCII, and none that other control characters begin with
+-- a byte with which characters begin that are invisible or change the direction of a text: C2, D8, E2, EF
+abbrev pub may_hide : ℕ → Bool
+may_hide b = b == 194 || (b == 216 || (b == 226 || b == 239))
+
+-- a byte that is written as it is: no control byte of ASCII, and none that such characters begin with
 abbrev pub is_plain_byte : ℕ → Bool
-is_plain_byte b = not (is_ascii_control b) && not (b == 194)
+is_plain_byte b = not (is_ascii_control b) && not (may_hide b)
 
 -- the first of other bytes
 abbrev pub odd_byte : List ℕ → Option ℕ
@@ -133,6 +148,8 @@ IsOutOfMemory NotRegular = ⊥
 IsOutOfMemory (TooLong limit) = ⊥
 IsOutOfMemory NotText = ⊥
 IsOutOfMemory (NoBinding fault) = ⊥
+IsOutOfMemory NoCertificate = ⊥
+IsOutOfMemory (LongCertificate limit) = ⊥
 
 -- the fault names this path, and its cause is one of these, and not that the system is out of memory
 pub record IsFaultAt (path : List ℕ) (IsCause : FileCause → Type 0) (fault : FileFault) : Type 0 where

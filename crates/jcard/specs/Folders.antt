@@ -9,7 +9,7 @@ use Rattle.jcard.specs.Files.{Entry, IsContent, IsFaultAt, IsFile, IsIrregular, 
 use Rattle.jcard.specs.Files.Entry.{failing, folder}
 use Rattle.jcard.specs.declared.files.FileCause.{FileCause}
 use Rattle.jcard.specs.declared.files.FileCause.TheVariants.{System, NoFolder, NotRegular, TooLong, NotText}
-use Rattle.jcard.specs.declared.files.FileCause.TheVariants.{NoBinding}
+use Rattle.jcard.specs.declared.files.FileCause.TheVariants.{LongCertificate, NoBinding, NoCertificate}
 use Rattle.jcard.specs.declared.files.FileFault.{FileFault}
 
 -- the component files of a package, in the order in which they make an image
@@ -47,6 +47,8 @@ IsNoComponent holds NotRegular = IsIrregular holds
 IsNoComponent holds (TooLong limit) = (limit ≡ most_component) × IsLonger holds most_component
 IsNoComponent holds NotText = ⊥
 IsNoComponent holds (NoBinding fault) = ⊥
+IsNoComponent holds NoCertificate = ⊥
+IsNoComponent holds (LongCertificate limit) = ⊥
 
 -- why no folder is under a path
 abbrev pub IsNoFolder : (Entry → Type 0) → FileCause → Type 0
@@ -56,6 +58,8 @@ IsNoFolder holds NotRegular = ⊥
 IsNoFolder holds (TooLong limit) = ⊥
 IsNoFolder holds NotText = ⊥
 IsNoFolder holds (NoBinding fault) = ⊥
+IsNoFolder holds NoCertificate = ⊥
+IsNoFolder holds (LongCertificate limit) = ⊥
 
 -- the first fault of names that are read in their order: those before it are read
 pub data FailsFirst {A : Type 0} (IsRead : List ℕ → A → Type 0) (Fails : List ℕ → FileFault → Type 0)

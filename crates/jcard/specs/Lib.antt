@@ -18,3 +18,4 @@ pub mod Scripts
 pub mod Ran
 pub mod Ending
 pub mod PrivateSaying
+pub mod PrivateVerify

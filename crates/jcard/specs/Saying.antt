@@ -192,13 +192,21 @@ IsSaidOfPlay plays.Memory said = (said.message ≡ Fault Memory) × IsFailure sa
 
 -- what is said of a package in a folder behind others: the answer to what the files hold, once it is written; or the
 -- file at fault; or out of memory
-pub data IsSaidOfJob (holds : List ℕ → Entry → Type 0) (wrote : List Written → Type 0) (job : VerifyJob) (said : Said)
+pub data IsSaidOfWork (holds : List ℕ → Entry → Type 0) (wrote : List Written → Type 0) (job : VerifyJob) (said : Said)
     : Type 0 where
   done : (answer : VerifyAnswer) → IsDone holds wrote job answer → IsSaidOfVerified job.strict answer said
-      → IsSaidOfJob holds wrote job said
+      → IsSaidOfWork holds wrote job said
   undone : (fault : FileFault) → IsUndone holds wrote job fault → IsSaidOfFiles (reading.File fault) said
-      → IsSaidOfJob holds wrote job said
-  memory : IsSaidOfFiles reading.Memory said → IsSaidOfJob holds wrote job said
+      → IsSaidOfWork holds wrote job said
+  memory : IsSaidOfFiles reading.Memory said → IsSaidOfWork holds wrote job said
+
+-- nothing is done where something else than a certificate is under its name: that is said, and nothing is written
+pub data IsSaidOfJob (holds : List ℕ → Entry → Type 0) (wrote : List Written → Type 0) (job : VerifyJob) (said : Said)
+    : Type 0 where
+  worked : IsReplaceable (holds job.cert.now) → IsSaidOfWork holds wrote job said → IsSaidOfJob holds wrote job said
+  kept : (fault : FileFault) → IsFaultAt job.cert.now (IsInTheWay (holds job.cert.now)) fault → wrote []
+      → IsSaidOfFiles (reading.File fault) said → IsSaidOfJob holds wrote job said
+  no_memory : wrote [] → IsSaidOfFiles reading.Memory said → IsSaidOfJob holds wrote job said
 
 -- why there is no certificate, which is said beside the line of an answer
 abbrev pub verify_remark : VerifyAnswer → Option Remark

@@ -3,7 +3,7 @@ use Rattle.std.specs.Prelude.{◌++◌, ℕ, List, Option}
 use Rattle.std.specs.declared.io.Error.{Error}
 use Rattle.jcard.specs.declared.files.FileCause.{FileCause}
 use Rattle.jcard.specs.declared.files.FileCause.TheVariants.{System, NoFolder, NotRegular, TooLong, NotText}
-use Rattle.jcard.specs.declared.files.FileCause.TheVariants.{NoBinding}
+use Rattle.jcard.specs.declared.files.FileCause.TheVariants.{LongCertificate, NoBinding, NoCertificate}
 
 -- what the system tells where the script under a path is opened: these bytes are to be read of it, where they are
 -- known; or an error
@@ -19,6 +19,8 @@ IsUnopened tells NotRegular = ⊥
 IsUnopened tells (TooLong limit) = ⊥
 IsUnopened tells NotText = ⊥
 IsUnopened tells (NoBinding fault) = ⊥
+IsUnopened tells NoCertificate = ⊥
+IsUnopened tells (LongCertificate limit) = ⊥
 
 -- the scripts under these paths were to be opened, in their order, behind whatever was before
 abbrev pub AreAsked : (before after : List (List ℕ) → Type 0) → List (List ℕ) → Type 0

@@ -1,6 +1,7 @@
 -- What is answered to a package in a folder behind others, what is written of it, and which file is at fault where
 -- nothing is answered.
-use Rattle.std.specs.Prelude.{ℕ, ◌∷◌, [], List, map}
+use Rattle.std.specs.Prelude.{⊤, ◌≡◌, ◌≢◌, ◌≤◌, ℕ, ◌∷◌, [], List, length, map}
+use Rattle.std.specs.IoError.{error_kind}
 use Rattle.std.specs.List.{AllZip}
 use Rattle.jc_api.specs.Bound.{Bound}
 use Rattle.jc_offcard.specs.Named.{AnswersNamed}
@@ -8,7 +9,16 @@ use Rattle.jc_offcard.specs.declared.verify_answer.VerifyAnswer.{VerifyAnswer}
 use Rattle.jc_offcard.specs.declared.verify_answer.VerifyAnswer.TheVariants.{Certificate, NoCertificate, Refused}
 use Rattle.jc_offcard.specs.declared.verify_answer.VerifyAnswer.TheVariants.{Memory}
 use Rattle.jcard.specs.Binding.{IsBindingFault, IsBindingFor}
-use Rattle.jcard.specs.Files.{Entry, IsFaultAt, IsUnwritten, Written}
+use Rattle.std.specs.declared.io.Error.{Error}
+use Rattle.std.specs.declared.io.ErrorKind.TheVariants.{NotFound}
+use Rattle.jc_cert.specs.Cert.{Row}
+use Rattle.jcard.specs.Eval.{SpellsCert, SpellsNone}
+use Rattle.jcard.specs.Files.{Entry, IsFaultAt, IsIrregular, IsLonger, IsUnwritten, Written, failing, file}
+use Rattle.jcard.specs.Files.{most_certificate}
+use Rattle.jcard.specs.declared.files.FileCause.{FileCause}
+use Rattle.jcard.specs.declared.files.FileCause.TheVariants.{LongCertificate, NoBinding, NoFolder, NotRegular, NotText}
+use Rattle.jcard.specs.declared.files.FileCause.TheVariants.{System, TooLong}
+use Rattle.jcard.specs.declared.files.FileCause.TheVariants as causes
 use Rattle.jcard.specs.Folders.{FailsFirst, IsFolderFault, IsImage}
 use Rattle.jcard.specs.declared.files.FileFault.{FileFault}
 use Rattle.jcard.specs.declared.job.VerifyJob.{VerifyJob}
@@ -41,16 +51,49 @@ written_of path Memory = []
 
 -- why an answer isn't written: it has a certificate, whose file can't be written
 abbrev pub IsUnwrittenOf : (List ℕ → Entry → Type 0) → List ℕ → VerifyAnswer → FileFault → Type 0
-IsUnwrittenOf holds path (Certificate bytes) fault = IsFaultAt path (IsUnwritten (holds path)) fault
+IsUnwrittenOf holds path (Certificate bytes) fault = IsFaultAt path (IsUnwritten (holds path) bytes.items) fault
 IsUnwrittenOf holds path (NoCertificate method reason) fault = ⊥
 IsUnwrittenOf holds path (Refused refusal) fault = ⊥
 IsUnwrittenOf holds path Memory fault = ⊥
+
+-- a certificate that is written has no more bytes than a file of one may have
+abbrev pub IsShort : VerifyAnswer → Type 0
+IsShort (Certificate bytes) = length bytes.items ≤ most_certificate
+IsShort (NoCertificate method reason) = ⊤
+IsShort (Refused refusal) = ⊤
+IsShort Memory = ⊤
 
 -- the answer to a job, of which all was written that is to be
 pub record IsDone (holds : List ℕ → Entry → Type 0) (wrote : List Written → Type 0) (job : VerifyJob)
     (answer : VerifyAnswer) : Type 0 where
   pub answered : IsAnswerOf holds job answer
   pub written : wrote (written_of job.cert.now answer)
+  pub short : IsShort answer
+
+-- what may be written over: nothing is there, or an empty file, or a certificate
+pub data IsReplaceable (holds : Entry → Type 0) : Type 0 where
+  absent : (error : Error) → holds (failing error) → error_kind error ≡ NotFound → IsReplaceable holds
+  empty : holds (file []) → IsReplaceable holds
+  certificate : (bytes : List ℕ) (rows : List Row) → holds (file bytes) → SpellsCert bytes rows → IsReplaceable holds
+
+-- a file that is neither empty nor a certificate
+pub record IsOther (holds : Entry → Type 0) : Type 0 where
+  pub bytes : List ℕ
+  pub held : holds (file bytes)
+  pub some : bytes ≢ []
+  pub none : SpellsNone bytes
+
+-- why something may not be written over: it is no regular file, or has too many bytes for a certificate, or is none; or
+-- the system tells an error
+abbrev pub IsInTheWay : (Entry → Type 0) → FileCause → Type 0
+IsInTheWay holds (System error) = holds (failing error)
+IsInTheWay holds NoFolder = ⊥
+IsInTheWay holds NotRegular = IsIrregular holds
+IsInTheWay holds (TooLong limit) = (limit ≡ most_certificate) × IsLonger holds most_certificate
+IsInTheWay holds NotText = ⊥
+IsInTheWay holds (NoBinding fault) = ⊥
+IsInTheWay holds causes.NoCertificate = IsOther holds
+IsInTheWay holds (LongCertificate limit) = ⊥
 
 -- which file is at fault where nothing is answered: one isn't read, and nothing was written, or the certificate's
 -- isn't written

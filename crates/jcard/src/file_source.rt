@@ -14,7 +14,7 @@ use std::alloc::Global;
 use std::marker::{Brand, Model, PhantomData};
 
 /// The most bytes of the file of a certificate.
-const MOST_CERTIFICATE: usize = 1048576;
+pub(crate) const MOST_CERTIFICATE: usize = 1048576;
 
 /// Which faults a source may tell, and of what was asked for: a name for proofs alone, which outlasts what is done with
 /// the source.

@@ -28,6 +28,10 @@ pub enum FileCause {
     NotText,
     /// Its text is no binding.
     NoBinding(BindingFault),
+    /// It is neither empty nor a certificate, and a certificate was to be written there.
+    NoCertificate,
+    /// The certificate that was to be written there has more bytes than it may have.
+    LongCertificate(usize),
 }
 
 impl fmt::Display for FileCause {
@@ -45,6 +49,11 @@ impl fmt::Display for FileCause {
             FileCause::TooLong(most) => write!(f, "it has more than {most} bytes"),
             FileCause::NotText => write!(f, "it isn't UTF-8"),
             FileCause::NoBinding(fault) => write!(f, "it is no binding: {fault}"),
+            FileCause::NoCertificate => write!(f, "it is no certificate, and stays as it is"),
+            FileCause::LongCertificate(most) => write!(
+                f,
+                "the certificate has more than {most} bytes, and isn't written"
+            ),
         }
     }
 }
@@ -165,7 +174,9 @@ fn is_memory(cause: &FileCause) -> bool
         | FileCause::NotRegular
         | FileCause::TooLong(_)
         | FileCause::NotText
-        | FileCause::NoBinding(_) => false,
+        | FileCause::NoBinding(_)
+        | FileCause::NoCertificate
+        | FileCause::LongCertificate(_) => false,
     }
 }
 

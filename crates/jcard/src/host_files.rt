@@ -5,7 +5,7 @@ ghost use Rattle.std.specs.Prelude.{⊤, ◌≡◌, ◌≤◌, length, IfOk, IfE
 use crate::files::{FileCause, Files, Scripts};
 use std::alloc::Global;
 use std::fs::File;
-use std::io::Read;
+use std::io::{Read, Write};
 use std::{fs, io};
 
 /// The system's files. Nothing is known of what is under their paths, nor of what was written.
@@ -42,7 +42,7 @@ impl<'a> Files for HostFiles<'a> {
     }
 
     fn write(&mut self, path: &str, bytes: &[u8]) -> io::Result<()> {
-        fs::write(self.rt, path, bytes)
+        created(self.rt, path)?.write_all(bytes)
     }
 }
 
@@ -66,13 +66,46 @@ impl<'a> Scripts for HostScripts<'a> {
     ghost has_asked = { λ s paths. ⊤ };
 
     fn open(&mut self, path: &str) -> io::Result<File> {
-        File::open(self.rt, path)
+        opened(self.rt, path)
     }
+}
+
+/// The most times that an interrupted call is made again.
+const MOST_TRIES: u32 = 16_777_216;
+
+/// Whether a call was interrupted by a signal, and is to be made again.
+fn is_interrupted<T>(called: &io::Result<T>) -> bool {
+    match called {
+        Ok(_) => false,
+        Err(error) => error.kind() == io::ErrorKind::Interrupted,
+    }
+}
+
+// Opens a file to be read.
+fn opened(rt: &HostRuntime, path: &str) -> io::Result<File> {
+    for _ in 0..MOST_TRIES {
+        let file = File::open(rt, path);
+        if !is_interrupted(&file) {
+            return file;
+        }
+    }
+    Err(io::Error::from(io::ErrorKind::Interrupted))
+}
+
+// Makes a file, or empties one that is there.
+fn created(rt: &HostRuntime, path: &str) -> io::Result<File> {
+    for _ in 0..MOST_TRIES {
+        let file = File::create(rt, path);
+        if !is_interrupted(&file) {
+            return file;
+        }
+    }
+    Err(io::Error::from(io::ErrorKind::Interrupted))
 }
 
 // The bytes of a file, but no more than one beyond a limit.
 fn read_within(rt: &HostRuntime, alloc: Global, path: &str, most: usize) -> io::Result<Vec<u8>> {
-    let file = File::open(rt, path)?;
+    let file = opened(rt, path)?;
     let mut bytes = Vec::new(alloc);
     file.take((most as u64).saturating_add(1))
         .read_to_end(&mut bytes)?;

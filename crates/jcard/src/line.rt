@@ -55,6 +55,7 @@ const SESSION_HELP: &str =
   reset                            resets the card
   cells                            tells how many cells are used, and how many there may be
   objects                          tells how many objects are used, and how many there may be
+  steps N                          lets a call of an applet run at most N instructions from now on
 
 AIDs, DATA and BYTES are in hexadecimal. An empty line, or one that begins with #, says nothing. A line that
 can't be read, or of which a folder or a file can't be read, is answered on standard error, and the session goes
@@ -211,7 +212,7 @@ fn with_card<'a>(alloc: Global, command: Command<'a>) -> Result<Command<'a>, All
     let explain = flag_argument(
         alloc,
         "explain",
-        "Tells on standard error why an answer is 6F00",
+        "Tells on standard error why a call of an applet didn't end by itself",
     );
     command
         .arg(steps)?

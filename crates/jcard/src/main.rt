@@ -15,6 +15,7 @@ mod play;
 mod ran;
 mod saying;
 mod shown;
+mod streams;
 mod telling;
 mod texts;
 mod verify_folders;
@@ -25,9 +26,11 @@ use job::{CardJob, RunJob, VerifyJob};
 use ran::{said_of_run, said_of_session};
 use saying::{Reply, Said, said_to, said_without_words};
 use shown::ShownName;
+use std::io::Write;
 use std::process::ExitCode;
 use std::{env, io};
-use verify_folders::{older_stays, said_of_job};
+use streams::{Patient, WholeLines};
+use verify_folders::{older_stays, refused_folder, said_of_job};
 
 fn main(rt: HostRuntime) -> ExitCode {
     match words_given(&rt) {
@@ -57,10 +60,15 @@ fn verify_job(rt: &HostRuntime, job: &VerifyJob) -> ExitCode {
     let mut files = HostFiles::new(rt);
     let said = said_of_job(&mut files, rt.alloc(), job);
     let stays = older_stays(&files, job, &said);
+    let refused = refused_folder(&files, rt.alloc(), job, &said);
     let code = end(rt, &Some(said));
+    let mut errors = WholeLines::new(rt.stderr());
+    if let Some(refused) = refused {
+        let _told = writeln!(errors, "{refused}");
+    }
     if stays {
         let cert = ShownName { name: job.cert };
-        let _told = eprintln!(rt; "{cert}: not written, an older file stays");
+        let _told = writeln!(errors, "{cert}: not written, an older file stays");
     }
     code
 }
@@ -71,8 +79,8 @@ fn run_job(rt: &HostRuntime, job: &RunJob) -> Option<Said> {
         &HostFiles::new(rt),
         &mut HostScripts::new(rt),
         rt.alloc(),
-        &mut io::writer(rt),
-        rt.stderr(),
+        &mut Patient::new(io::writer(rt), rt),
+        WholeLines::new(rt.stderr()),
         job,
     )
 }
@@ -83,13 +91,17 @@ fn session_job(rt: &HostRuntime, job: &CardJob) -> Option<Said> {
         &HostFiles::new(rt),
         rt.alloc(),
         &mut rt.stdin(),
-        &mut io::writer(rt),
-        rt.stderr(),
+        &mut Patient::new(io::writer(rt), rt),
+        WholeLines::new(rt.stderr()),
         job,
     )
 }
 
 // Hands over the streams that what is said is written to.
 fn end(rt: &HostRuntime, said: &Option<Said>) -> ExitCode {
-    ExitCode::from(end_with(&mut io::writer(rt), &mut rt.stderr(), said))
+    ExitCode::from(end_with(
+        &mut Patient::new(io::writer(rt), rt),
+        &mut WholeLines::new(rt.stderr()),
+        said,
+    ))
 }

@@ -5,6 +5,7 @@ use crate::files::Files;
 use jc_api::ApiClass;
 use jc_card::{Cause, InstallFault, Limits};
 use jc_firewall::{Access, Denial, Rule};
+use jc_interp::{IndexFault, ShownFrame};
 use jc_machine::{Budget, CodePoint};
 use jc_names::{ClassName, Owner};
 use jc_run::{CommandAnswer, LineRefusal, Teller};
@@ -12,11 +13,8 @@ use jc_script::LineFault;
 use jc_store::ObjectType;
 use std::io::{self, Write};
 
-/// The status without a diagnosis.
-const UNKNOWN_ERROR: u16 = 0x6F00;
-
-/// Tells which lines of a session were refused, and why; and, where that is asked for, why an answer has no precise
-/// diagnosis. What can't be told is left out.
+/// Tells which lines of a session were refused, and why; and, where that is asked for, why a call of an applet didn't
+/// end by itself, and in which frame. What can't be told is left out.
 #[derive(Drop)]
 pub struct LineTeller<E: Write> {
     errors: E,
@@ -55,20 +53,65 @@ impl<E: Write> LineTeller<E> {
         writeln!(self.errors, "error: line {number}: out of memory")
     }
 
-    // Why the answer to a line has no precise diagnosis.
-    fn explain(&mut self, number: u64, cause: Cause, denial: Option<Denial>) -> io::Result<()> {
+    // Why a call behind a line didn't end by itself, and the frame in which it stopped.
+    fn explain(
+        &mut self,
+        number: u64,
+        cause: Cause,
+        denial: Option<Denial>,
+        stopped: Option<&ShownFrame>,
+    ) -> io::Result<()> {
         write!(self.errors, "line {number}: ")?;
         match cause {
             Cause::Threw { object, reason, at } => {
                 self.write_object(object, reason)?;
-                self.write_throw(denied(object, denial), at)
+                self.write_index(stopped)?;
+                self.write_throw(denied(object, denial), at)?;
+                self.write_frame(stopped)?;
             }
             Cause::RanOut { spent, at } => {
                 self.write_budget(spent)?;
-                self.write_point(", ", at)
+                self.write_point(", ", at)?;
+                self.write_frame(stopped)?;
             }
-            Cause::NotRegistered => writeln!(self.errors, "install: no register"),
+            Cause::NotRegistered => write!(self.errors, "install: no register")?,
         }
+        writeln!(self.errors)
+    }
+
+    // The index that is outside of an array.
+    fn write_index(&mut self, stopped: Option<&ShownFrame>) -> io::Result<()> {
+        let Some(fault) = index_of(stopped) else {
+            return Ok(());
+        };
+        let index = as_short(fault.index);
+        write!(
+            self.errors,
+            ", index {index} of an array of {}",
+            fault.length
+        )
+    }
+
+    // Whose code ran in a frame, its locals and its operands, as shorts.
+    fn write_frame(&mut self, stopped: Option<&ShownFrame>) -> io::Result<()> {
+        let Some(frame) = stopped else {
+            return Ok(());
+        };
+        write!(self.errors, ", context {}", frame.active.context)?;
+        self.write_words("locals", frame.locals.as_slice())?;
+        self.write_words("operands", frame.operands.as_slice())
+    }
+
+    // Words as shorts.
+    fn write_words(&mut self, name: &str, words: &[u16]) -> io::Result<()> {
+        if words.is_empty() {
+            return write!(self.errors, ", no {name}");
+        }
+        write!(self.errors, ", {name}")?;
+        for word in words {
+            write!(self.errors, " {}", as_short(*word))?;
+        }
+        Ok(())
     }
 
     // What nothing caught.
@@ -93,12 +136,16 @@ impl<E: Write> LineTeller<E> {
         }
     }
 
+    // A reason is told as its class's users write it: a status in hexadecimal, or a constant by its name.
     fn write_api_class(&mut self, class: ApiClass, reason: u16) -> io::Result<()> {
         let name = name_of(class);
-        if has_reason(class) {
-            write!(self.errors, "{name} reason {reason}")
-        } else {
-            write!(self.errors, "{name}")
+        if class == ApiClass::IsoException {
+            return write!(self.errors, "{name} reason {reason:04X}");
+        }
+        match constant_of(class, reason) {
+            Some(constant) => write!(self.errors, "{name} reason {constant} ({reason})"),
+            None if has_reason(class) => write!(self.errors, "{name} reason {reason}"),
+            None => write!(self.errors, "{name}"),
         }
     }
 
@@ -141,40 +188,69 @@ impl<E: Write> LineTeller<E> {
     // Where a frame stood, if one did.
     fn write_point(&mut self, before: &str, at: Option<CodePoint>) -> io::Result<()> {
         match at {
-            Some(point) => writeln!(
+            Some(point) => write!(
                 self.errors,
                 "{}package {}, method {}, pc {}",
                 before, point.package, point.method, point.pc
             ),
-            None => writeln!(self.errors),
+            None => Ok(()),
         }
     }
 }
 
-/// Why an answer has no precise diagnosis, if it has none and there is a reason.
+/// Why a call of an applet didn't end by itself, if one didn't.
 fn cause_in(answer: &CommandAnswer) -> Option<Cause> {
     match answer {
-        CommandAnswer::Responds(answer) => {
-            if answer.status == UNKNOWN_ERROR {
-                answer.cause
-            } else {
-                None
-            }
-        }
-        CommandAnswer::NotInstalled(fault) => cause_of_install(*fault),
+        CommandAnswer::Responds(answer) => answer.cause,
+        CommandAnswer::NotInstalled(InstallFault::InstallFailed(failure)) => failure.cause,
+        CommandAnswer::NotInstalled(_)
+        | CommandAnswer::Loaded(_)
+        | CommandAnswer::NotLoaded(_)
+        | CommandAnswer::Installed(_)
+        | CommandAnswer::Reset
+        | CommandAnswer::Cells { .. }
+        | CommandAnswer::Objects { .. }
+        | CommandAnswer::Steps(_) => None,
+    }
+}
+
+/// A word as a short.
+fn as_short(word: u16) -> i16 {
+    word.cast_signed()
+}
+
+/// The index that is outside of an array, where a frame stopped by that.
+fn index_of(stopped: Option<&ShownFrame>) -> Option<IndexFault> {
+    stopped?.index
+}
+
+/// The name of a reason of the API's (Java Card API Specification, SystemException, APDUException).
+fn constant_of(class: ApiClass, reason: u16) -> Option<&'static str> {
+    match class {
+        ApiClass::SystemException => system_constant(reason),
+        ApiClass::ApduException => apdu_constant(reason),
         _ => None,
     }
 }
 
-fn cause_of_install(fault: InstallFault) -> Option<Cause> {
-    match fault {
-        InstallFault::InstallFailed(failure) => {
-            if failure.status == UNKNOWN_ERROR {
-                failure.cause
-            } else {
-                None
-            }
-        }
+fn system_constant(reason: u16) -> Option<&'static str> {
+    match reason {
+        1 => Some("ILLEGAL_VALUE"),
+        2 => Some("NO_TRANSIENT_SPACE"),
+        3 => Some("ILLEGAL_TRANSIENT"),
+        4 => Some("ILLEGAL_AID"),
+        5 => Some("NO_RESOURCE"),
+        6 => Some("ILLEGAL_USE"),
+        _ => None,
+    }
+}
+
+fn apdu_constant(reason: u16) -> Option<&'static str> {
+    match reason {
+        1 => Some("ILLEGAL_USE"),
+        2 => Some("BUFFER_BOUNDS"),
+        3 => Some("BAD_LENGTH"),
+        4 => Some("IO_ERROR"),
         _ => None,
     }
 }
@@ -261,12 +337,21 @@ fn name_of(class: ApiClass) -> &'static str {
 }
 
 impl<'a, F: Files, T: Faults, E: Write> Teller<FileSource<'a, F, T>> for LineTeller<E> {
-    fn answered(&mut self, number: u64, answer: &CommandAnswer, denial: Option<Denial>) {
+    fn answered(
+        &mut self,
+        number: u64,
+        answer: &CommandAnswer,
+        denial: Option<Denial>,
+        stopped: Option<&ShownFrame>,
+    ) {
+        if let CommandAnswer::Steps(steps) = answer {
+            self.limits.steps = *steps;
+        }
         if !self.explains {
             return;
         }
         if let Some(cause) = cause_in(answer) {
-            let _told = self.explain(number, cause, denial);
+            let _told = self.explain(number, cause, denial, stopped);
         }
     }
 

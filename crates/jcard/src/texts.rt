@@ -12,6 +12,9 @@ use std::fmt;
 /// The most bytes of code.
 pub const MOST_CODE: usize = 65535;
 
+/// What is said of an odd number of characters.
+const ODD_LENGTH: &str = "an odd number of characters, blanks and signs among them";
+
 /// Why texts have no answer.
 #[derive(Clone, Copy, Debug, PartialEq, Eq)]
 pub enum TextFault {
@@ -32,8 +35,14 @@ impl fmt::Display for TextFault {
 
     fn fmt<W: fmt::Write>(&self, f: &mut fmt::Formatter<W>) -> fmt::Result {
         match self {
+            TextFault::BadCode(FromHexError::OddLength) => {
+                write!(f, "CODE isn't hexadecimal: {ODD_LENGTH}")
+            }
             TextFault::BadCode(error) => write!(f, "CODE isn't hexadecimal: {error}"),
             TextFault::LongCode => write!(f, "CODE has more than {MOST_CODE} bytes"),
+            TextFault::BadCert(FromHexError::OddLength) => {
+                write!(f, "CERT isn't hexadecimal: {ODD_LENGTH}")
+            }
             TextFault::BadCert(error) => write!(f, "CERT isn't hexadecimal: {error}"),
             TextFault::Memory => write!(f, "out of memory"),
         }

@@ -1,3 +1,4 @@
+mod Trims
 mod Budgets
 mod Cuts
 mod Spelling

@@ -2,7 +2,7 @@
 -- it.
 use Rattle.std.specs.Prelude.{ℕ, ◌+◌, ◌-◌, ◌/◌, ◌%◌, ◌==◌, ◌&&◌, Bool, true, false, not, nat_le, nat_lt}
 use Rattle.std.specs.Prelude.{List, [], ◌∷◌, ◌++◌, codes, length, Option, Some, None, option_map}
-use Rattle.std.specs.Prelude.{bytes_eq, get_or, position, if◌then◌else◌, unwrap_or}
+use Rattle.std.specs.Prelude.{replicate, bytes_eq, get_or, position, if◌then◌else◌, unwrap_or}
 use Rattle.std.specs.Char.{encode_utf8, is_ascii_hexdigit}
 use Rattle.std.specs.Fmt.{decimal}
 use Rattle.std.specs.Option.{is_some, option_map_or}
@@ -10,7 +10,7 @@ use Rattle.std.specs.Str.{is_utf8}
 use Rattle.hex.specs.Hex.{encode_upper}
 use Rattle.jc_api.specs.Text.{words_of}
 use Rattle.jc_base.specs.Aid.{has_aid_length}
-use Rattle.jc_script.specs.Script.{budget_of, control_in}
+use Rattle.jc_script.specs.Script.{budget_of, control_in, trimmed}
 use Rattle.jc_script.specs.declared.fault.LineCause.{LineCause}
 use Rattle.jc_script.specs.declared.fault.LineCause.TheVariants.{AidLength, BlankTooMany, NoBudget, NoDigit, NotText}
 use Rattle.jc_script.specs.declared.fault.LineCause.TheVariants.{OddDigit, TooLong, TooMany, UnknownCommand, Unprintable}
@@ -106,13 +106,18 @@ abbrev pub is_session : Dialect → Bool
 is_session Script = false
 is_session Session = true
 
+-- bytes stand in one word; in a session in as many as a line can have
+abbrev pub byte_forms : Dialect → List Form
+byte_forms Script = Bytes ∷ []
+byte_forms Session = replicate 512 Bytes
+
 -- commands by their first word. A session has three more
 abbrev pub layout_of : Dialect → List ℕ → Option Layout
 layout_of dialect keyword =
     if bytes_eq keyword (codes "load") then Some (record { forms = Name ∷ Name ∷ []; needed = 2 })
     else (if bytes_eq keyword (codes "install")
     then Some (record { forms = forms.Aid ∷ forms.Aid ∷ Bytes ∷ []; needed = 2 })
-    else (if bytes_eq keyword (codes "apdu") then Some (record { forms = Bytes ∷ []; needed = 1 })
+    else (if bytes_eq keyword (codes "apdu") then Some (record { forms = byte_forms dialect; needed = 1 })
     else (if bytes_eq keyword (codes "reset") then Some (record { forms = []; needed = 0 })
     else (if is_session dialect && bytes_eq keyword (codes "cells") then Some (record { forms = []; needed = 0 })
     else (if is_session dialect && bytes_eq keyword (codes "objects") then Some (record { forms = []; needed = 0 })
@@ -142,9 +147,14 @@ abbrev pub fault_among : Dialect → List (List ℕ) → LineFault
 fault_among dialect [] = fault_at UnknownCommand 1
 fault_among dialect (keyword ∷ words) = fault_behind dialect keyword words
 
+-- white space at the end of a session's line is left out
+abbrev pub looked_at : Dialect → List ℕ → List ℕ
+looked_at Script line = line
+looked_at Session line = trimmed line
+
 -- the first fault of a line that is no command, of a script or of a session
 abbrev pub fault_in : Dialect → List ℕ → LineFault
-fault_in dialect line = fault_among dialect (words_of line)
+fault_in dialect line = fault_among dialect (words_of (looked_at dialect line))
 
 -- ---- as text
 

@@ -1,8 +1,8 @@
 -- Scripts: their lines, and the commands that lines ask for. A byte is its number: 10 is the line feed.
-use Rattle.std.specs.Prelude.{ℕ, suc, ◌^◌, ◌==◌, ◌&&◌, ◌||◌, nat_le, nat_lt, List, [], ◌∷◌, length, Option, Some, None}
-use Rattle.std.specs.Prelude.{Bool, bytes_eq, codes, not, position, if◌then◌else◌}
-use Rattle.std.specs.Char.{is_ascii_control, is_ascii_digit}
-use Rattle.std.specs.List.{list_all, onto_first}
+use Rattle.std.specs.Prelude.{ℕ, suc, ◌+◌, ◌-◌, ◌^◌, ◌==◌, ◌&&◌, ◌||◌, nat_le, nat_lt, List, [], ◌∷◌, length, Option, Some, None}
+use Rattle.std.specs.Prelude.{◌++◌, take, Bool, bytes_eq, codes, not, position, if◌then◌else◌}
+use Rattle.std.specs.Char.{is_ascii_control, is_ascii_digit, is_ascii_whitespace}
+use Rattle.std.specs.List.{list_all, onto_first, suffix_len}
 use Rattle.std.specs.Option.{is_some, option_map_or}
 use Rattle.std.specs.Str.{is_utf8}
 use Rattle.std.specs.Str.Parse.{digits_value}
@@ -112,11 +112,30 @@ steps_asked (number ∷ []) = do
   Some (Steps n)
 steps_asked _ = None
 
+-- bytes in several words, behind those so far: at most as many as a line of one word can spell
+abbrev pub most_bytes : ℕ
+most_bytes = 512
+
+unfoldable pub joined_behind : List ℕ → List (List ℕ) → Option (List ℕ)
+joined_behind before [] = Some before
+joined_behind before (word ∷ words) = do
+  bytes ← bytes_of word
+  if nat_le (length before + length bytes) most_bytes then joined_behind (before ++ bytes) words else None
+
+-- `apdu BYTES BYTES ..`, in a session
+unfoldable pub pieces_asked : List (List ℕ) → Option ScriptCommand
+pieces_asked [] = None
+pieces_asked (word ∷ words) = do
+  bytes ← joined_behind [] (word ∷ words)
+  Some (Apdu bytes)
+
 -- in a session, by the first word
 unfoldable pub asked_in_session : List (List ℕ) → Option ScriptCommand
 asked_in_session [] = None
 asked_in_session (keyword ∷ words) =
-    if bytes_eq keyword (codes "steps") then steps_asked words else asked (keyword ∷ words)
+    if bytes_eq keyword (codes "steps") then steps_asked words
+    else (if bytes_eq keyword (codes "apdu") then pieces_asked words
+    else asked (keyword ∷ words))
 
 -- ---- what a line says
 
@@ -129,13 +148,21 @@ pub data ScriptLine : Type 0 where
 unfoldable pub said_by : List ℕ → ScriptLine
 said_by line = if is_skipped line then Skipped else option_map_or Asks (asked (words_of line)) Bad
 
--- a line of a session: `cells`, `objects` and `steps` too
-unfoldable pub said_in_session : List ℕ → ScriptLine
-said_in_session line =
+-- a line without the white space of ASCII at its end
+abbrev pub trimmed : List ℕ → List ℕ
+trimmed line = take (length line - suffix_len is_ascii_whitespace line) line
+
+-- a line of a session: `cells`, `objects` and `steps` too; bytes of a command may stand in several words
+unfoldable pub said_trimmed : List ℕ → ScriptLine
+said_trimmed line =
     if bytes_eq line (codes "cells") then Asks Cells
     else (if bytes_eq line (codes "objects") then Asks Objects
     else (if is_skipped line then Skipped
     else option_map_or Asks (asked_in_session (words_of line)) Bad))
+
+-- white space at its end counts for nothing
+abbrev pub said_in_session : List ℕ → ScriptLine
+said_in_session line = said_trimmed (trimmed line)
 
 -- whatever its number is
 abbrev pub session_line : List ℕ → ScriptLine

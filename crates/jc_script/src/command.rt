@@ -1,12 +1,14 @@
 //! What a line of a script asks for.
 
-ghost use Rattle.std.specs.Prelude.{◌≡◌, ◌≤◌, length, option_map};
+ghost use Rattle.std.specs.Prelude.{◌≡◌, ◌≤◌, [], length, option_map};
 ghost use Rattle.jc_script.specs.Script as script;
 ghost use Rattle.jc_script.specs.Script.{apdu_asked, asked, asked_in_session, install_asked, load_asked, reset_asked};
-ghost use Rattle.jc_script.specs.Script.{steps_asked};
+ghost use Rattle.jc_script.specs.Script.{joined_behind, pieces_asked, steps_asked};
 ghost use Rattle.jc_script.specs.Shown.{shown, shown_command};
 
-use crate::words::{Words, aid_of, budget_of, bytes_of, is_skipped, name_of};
+use crate::words::{
+    Words, aid_of, budget_of, bytes_of, is_skipped, name_of, put_bytes, trimmed,
+};
 use jc_base::Aid;
 
 /// The most bytes of a line, without its line feed.
@@ -144,6 +146,30 @@ fn steps_asked(mut words: Words) -> Option<ScriptCommand>
     Some(ScriptCommand::Steps(budget_of(number)?))
 }
 
+/// The bytes that words spell, one behind the other, put down in this room, if there is room.
+fn joined<'a>(words: &mut Words<'_>, room: &'a mut [u8; MOST_BYTES]) -> Option<&'a [u8]>
+    ensures { option_map (λ bytes. bytes.now) result ≡ joined_behind [] words.old }
+{
+    let mut count = 0;
+    while let Some(word) = words.next() {
+        let more = put_bytes(word, &mut room[count..])?;
+        count += more;
+    }
+    Some(&room[..count])
+}
+
+#[tactic(auto, unfolding(crate::specs::Script::pieces_asked))]
+fn pieces_asked<'a>(
+    mut words: Words<'a>,
+    room: &'a mut [u8; MOST_BYTES],
+) -> Option<ScriptCommand<'a>>
+    ensures { option_map shown_command result ≡ pieces_asked words.entry }
+{
+    let mut first = words.again();
+    first.next()?;
+    Some(ScriptCommand::Apdu(joined(&mut words, room)?))
+}
+
 /// The command that words of a session ask for, if they do.
 #[tactic(auto, unfolding(crate::specs::Script::asked_in_session))]
 fn asked_in_session<'a>(
@@ -156,6 +182,8 @@ fn asked_in_session<'a>(
     let keyword = behind.next()?;
     if keyword == b"steps".as_slice() {
         steps_asked(behind)
+    } else if keyword == b"apdu".as_slice() {
+        pieces_asked(behind, room)
     } else {
         asked(words, room)
     }
@@ -177,9 +205,16 @@ pub fn said_by<'a>(line: &'a [u8], room: &'a mut [u8; MOST_BYTES]) -> ScriptLine
 
 /// What a line of a session says, of at most [`MOST_IN_LINE`] bytes: it may ask for what is used, and say a budget of
 /// steps, too.
-#[tactic(auto, unfolding(crate::specs::Script::said_in_session))]
 pub fn said_in_session<'a>(line: &'a [u8], room: &'a mut [u8; MOST_BYTES]) -> ScriptLine<'a>
     ensures { shown result ≡ script.said_in_session line.now }
+{
+    said_trimmed(trimmed(line), room)
+}
+
+/// The same of a line without white space at its end.
+#[tactic(auto, unfolding(crate::specs::Script::said_trimmed))]
+fn said_trimmed<'a>(line: &'a [u8], room: &'a mut [u8; MOST_BYTES]) -> ScriptLine<'a>
+    ensures { shown result ≡ script.said_trimmed line.now }
 {
     if line == b"cells".as_slice() {
         ScriptLine::Asks(ScriptCommand::Cells)

@@ -2,12 +2,13 @@
 
 ghost use Rattle.std.specs.Prelude.{◌≡◌, ◌+◌, ◌<◌, ◌≤◌, length, not, position, IfSome};
 ghost use Rattle.std.specs.Char.{is_ascii_hexdigit};
-ghost use Rattle.jc_script.specs.Faults.{aid_fault, budget_fault, byte_cause, command_fault, control_fault, digits_fault};
+ghost use Rattle.jc_script.specs.Faults.{aid_fault, budget_fault, byte_cause, byte_forms, command_fault, control_fault};
+ghost use Rattle.jc_script.specs.Faults.{digits_fault, looked_at};
 ghost use Rattle.jc_script.specs.Faults.{extra_fault, fault_at, fault_behind, fault_in, is_printable, keyword_fault};
 ghost use Rattle.jc_script.specs.Faults.{missing_fault, name_fault, odd_fault, spread, word_fault, words_fault};
 
 use crate::fault::{LineCause, LineFault};
-use crate::words::{Words, budget_of, control_in};
+use crate::words::{Words, budget_of, control_in, trimmed};
 
 /// Whose line it is: a script's, or a session's, which has three commands more.
 #[derive(Clone, Copy, Debug, PartialEq, Eq)]
@@ -233,6 +234,16 @@ fn command_fault(forms: &[Form], needed: usize, keyword: &[u8], words: &mut Word
     }
 }
 
+/// The forms of a command's bytes: one word, and in a session as many as a line can have.
+fn byte_forms(dialect: Dialect) -> &'static [Form]
+    ensures { result.now ≡ byte_forms dialect }
+{
+    match dialect {
+        Dialect::Script => &[Form::Bytes],
+        Dialect::Session => &[Form::Bytes; 512],
+    }
+}
+
 /// What is wrong with a line of these words.
 fn fault_behind(dialect: Dialect, keyword: &[u8], words: &mut Words<'_>) -> LineFault
     requires { length keyword.now + spread words.old ≤ 1024 }
@@ -243,7 +254,7 @@ fn fault_behind(dialect: Dialect, keyword: &[u8], words: &mut Words<'_>) -> Line
     } else if keyword == b"install".as_slice() {
         command_fault(&[Form::Aid, Form::Aid, Form::Bytes], 2, keyword, words)
     } else if keyword == b"apdu".as_slice() {
-        command_fault(&[Form::Bytes], 1, keyword, words)
+        command_fault(byte_forms(dialect), 1, keyword, words)
     } else if keyword == b"reset".as_slice() {
         command_fault(&[], 0, keyword, words)
     } else if dialect == Dialect::Session && keyword == b"cells".as_slice() {
@@ -257,13 +268,24 @@ fn fault_behind(dialect: Dialect, keyword: &[u8], words: &mut Words<'_>) -> Line
     }
 }
 
+/// What of a line is looked at: of a session's not the white space at its end.
+fn looked_at(dialect: Dialect, line: &[u8]) -> &[u8]
+    ensures looked_at { result.now ≡ looked_at dialect line.now }
+    ensures shorter { length result.now ≤ length line.now }
+{
+    match dialect {
+        Dialect::Script => line,
+        Dialect::Session => trimmed(line),
+    }
+}
+
 /// What is wrong with a line that is no command, of at most [`MOST_IN_LINE`](crate::MOST_IN_LINE) bytes: the first
 /// fault from the left. It is for people: what a line does hangs on [`said_by`](crate::said_by) alone.
 pub fn fault_in(dialect: Dialect, line: &[u8]) -> LineFault
     requires { length line.now ≤ 1024 }
     ensures { result ≡ fault_in dialect line.now }
 {
-    let mut words = Words::new(line);
+    let mut words = Words::new(looked_at(dialect, line));
     match words.next() {
         Some(keyword) => fault_behind(dialect, keyword, &mut words),
         None => fault_at(LineCause::UnknownCommand, 1),

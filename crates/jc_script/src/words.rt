@@ -1,14 +1,14 @@
 //! Lines as words, and words as names and bytes.
 
 ghost use Rattle.std.specs.Prelude.{◌≡◌, ◌≤◌, ◌<◌, ◌∷◌, ◌==◌, ◌/◌, [], length, position, option_copied};
-ghost use Rattle.std.specs.Prelude.{option_map, true, IfNone, IfSome};
+ghost use Rattle.std.specs.Prelude.{drop, option_map, take, true, Some, IfNone, IfSome};
 ghost use Rattle.std.specs.Char.{is_ascii_digit};
 ghost use Rattle.std.specs.List.{list_all};
 ghost use Rattle.std.specs.Bool.{OnTrue, OnFalse};
 ghost use Rattle.hex.specs.Hex.{decode_of};
 ghost use Rattle.jc_api.specs.Text.{given, is_skipped, spelled_aid, words_of};
 ghost use Rattle.jc_script.specs.PrivateWords.{words_left};
-ghost use Rattle.jc_script.specs.Script.{budget_in, budget_of, bytes_of, control_in, name_of, text_of};
+ghost use Rattle.jc_script.specs.Script.{budget_in, budget_of, bytes_of, control_in, name_of, text_of, trimmed};
 
 use crate::command::{MOST_BYTES, MOST_IN_LINE};
 use jc_base::Aid;
@@ -164,6 +164,35 @@ pub(crate) fn budget_of(word: &[u8]) -> Option<u32>
     } else {
         None
     }
+}
+
+/// Puts the bytes that hexadecimal digits spell at the front of a room: how many, if they are one or more and fit.
+pub(crate) fn put_bytes(word: &[u8], room: &mut [u8]) -> Option<usize>
+    ensures put { IfSome result (λ count. (count ≤ length room.old) × (bytes_of word.now ≡ Some (take count room.new))
+        × (drop count room.new ≡ drop count room.old)) }
+    ensures none { IfNone result (IfSome (bytes_of word.now) (λ bytes. length room.old < length bytes)) }
+{
+    if word.is_empty() || word.len() > MOST_IN_LINE {
+        return None;
+    }
+    let count = word.len() / 2;
+    if room.len() < count {
+        return None;
+    }
+    if decode(word, &mut room[..count]) {
+        Some(count)
+    } else {
+        None
+    }
+}
+
+/// A line without the white space of ASCII at its end.
+#[tactic(auto, using(crate::proofs::Trims::trimmed_is))]
+pub(crate) fn trimmed(line: &[u8]) -> &[u8]
+    ensures trimmed { result.now ≡ trimmed line.now }
+    ensures shorter { length result.now ≤ length line.now }
+{
+    line.trim_ascii_end()
 }
 
 /// The AID that hexadecimal digits of either case spell.

@@ -189,6 +189,8 @@ class Made:
     def put(self, name, content):
         """Writes a file whole, in the place of one that may be there."""
         path = self.path(name)
+        if name == self.list and self.kind(name + '.new') == 'file':
+            os.remove(path + '.new')  # of a run that was cut off
         with open(path + '.new', 'xb') as file:
             file.write(content)
         os.replace(path + '.new', path)
@@ -242,7 +244,7 @@ class Made:
         found = []
         for at, folders, files in os.walk(self.folder, topdown=False):
             names = [os.path.relpath(os.path.join(at, name), self.folder) for name in sorted(files + folders)]
-            found += [name for name in names if name != self.list]
+            found += [name for name in names if name not in (self.list, self.list + '.new')]
         return found
 
     def note_all(self):

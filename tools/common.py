@@ -86,7 +86,7 @@ def run(main):
         sys.stdout.flush()
     except OSError as error:
         os.dup2(os.open(os.devnull, os.O_WRONLY), sys.stdout.fileno())
-        if not isinstance(error, BrokenPipeError):
+        if not status and not isinstance(error, BrokenPipeError):  # a fault is told already where there is a status
             print('error: standard output: %s' % error.strerror, file=sys.stderr)
         status = status or 1
     sys.exit(status)

@@ -196,16 +196,16 @@ def endings_of(told):
     return found, b''.join(lines)
 
 
-def answers(lines):
+def answers(lines, **how):
     """The answers of several command lines, with one build. They run one behind the other, and each finds the files
-    that those before it wrote. Where one gives no answer, what rt says is told."""
+    that those before it wrote. Where one gives no answer, what rt says is told. `how` says how rt is started."""
     with tempfile.TemporaryDirectory() as room:
         cases = os.path.join(room, 'cases')
         os.mkdir(cases)
         for number, line in enumerate(lines):
             write_case(line, number, cases, room)
         with child(['rt', 'try', '--cases', cases], cwd=CRATE, stdin=subprocess.DEVNULL, stdout=subprocess.PIPE,
-                   stderr=subprocess.PIPE) as rt:
+                   stderr=subprocess.PIPE, **how) as rt:
             said, told = rt.communicate()
     endings, rest = endings_of(told)
     if len(endings) < len(lines):

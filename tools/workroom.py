@@ -84,6 +84,10 @@ class WorkRoom:
             os.remove(self.mark)
         self.lock.close()
 
+    def locks(self):
+        """What programs that are started inherit: so the lock stays until they have ended too."""
+        return [self.lock.fileno()]
+
     # What is in the folder
 
     def left(self):

@@ -189,11 +189,16 @@ class Made:
     def put(self, name, content):
         """Writes a file whole, in the place of one that may be there."""
         path = self.path(name)
-        if name == self.list and self.kind(name + '.new') == 'file':
-            os.remove(path + '.new')  # of a run that was cut off
+        if self.is_left(name):
+            os.remove(path + '.new')
         with open(path + '.new', 'xb') as file:
             file.write(content)
         os.replace(path + '.new', path)
+
+    def is_left(self, name):
+        """Whether NAME.new is of a run that was cut off: it was noted as NAME, or is a list."""
+        return self.kind(name + '.new') == 'file' and (
+            name == self.list or (checksum(self.path(name + '.new')), name) in self.known)
 
     def is_own(self, name):
         kind = self.kind(name)

@@ -12,6 +12,7 @@ import signal
 signal.signal(signal.SIGINT, signal.SIG_DFL)  # until `run` catches it
 
 import argparse  # noqa: E402
+import contextlib  # noqa: E402
 import difflib  # noqa: E402
 import hashlib  # noqa: E402
 import os  # noqa: E402
@@ -30,6 +31,7 @@ ESCAPES = {'\n': '\\n', '\r': '\\r', '\t': '\\t', '\\': '\\\\'}
 
 
 SIGNALS = [signal.SIGINT, signal.SIGTERM, signal.SIGHUP]
+SECONDS_TO_END = 10  # .. which a program has that is told to end
 
 
 class Fault(Exception):
@@ -49,6 +51,9 @@ class Stopped(BaseException):
 
 
 def stop(number, _):
+    """Ends the tool. A second signal doesn't break into what the first one has put in order."""
+    for each in SIGNALS:
+        signal.signal(each, signal.SIG_IGN)
     raise Stopped(number)
 
 
@@ -65,6 +70,8 @@ def status_of(main):
         print('error: %s' % system_words(error), file=sys.stderr)
     except Stopped as stopped:
         return stopped.status
+    except SystemExit as ended:  # by the command line, as for its help
+        return ended.code
     return 1
 
 
@@ -79,7 +86,7 @@ def run(main):
         sys.stdout.flush()
     except OSError as error:
         os.dup2(os.open(os.devnull, os.O_WRONLY), sys.stdout.fileno())
-        if not isinstance(error, BrokenPipeError):
+        if not status and not isinstance(error, BrokenPipeError):  # a fault is told already where there is a status
             print('error: standard output: %s' % error.strerror, file=sys.stderr)
         status = status or 1
     sys.exit(status)
@@ -105,6 +112,9 @@ class Parser(argparse.ArgumentParser):
         if choice:
             known, unknown = re.findall("'([^']*)'", choice[2]), choice
         return like(unknown[1], known) if unknown else ''
+
+    def print_help(self, file=None):
+        (file or sys.stdout).write(self.format_help())  # argparse tells no fault of this
 
     def error(self, message):
         self.exit(2, 'error: %s%s\n%s' % (shown(message), self.hint(message), self.format_usage()))
@@ -179,9 +189,16 @@ class Made:
     def put(self, name, content):
         """Writes a file whole, in the place of one that may be there."""
         path = self.path(name)
+        if self.is_left(name):
+            os.remove(path + '.new')
         with open(path + '.new', 'xb') as file:
             file.write(content)
         os.replace(path + '.new', path)
+
+    def is_left(self, name):
+        """Whether NAME.new is of a run that was cut off: it was noted as NAME, or is a list."""
+        return self.kind(name + '.new') == 'file' and (
+            name == self.list or (checksum(self.path(name + '.new')), name) in self.known)
 
     def is_own(self, name):
         kind = self.kind(name)
@@ -232,7 +249,7 @@ class Made:
         found = []
         for at, folders, files in os.walk(self.folder, topdown=False):
             names = [os.path.relpath(os.path.join(at, name), self.folder) for name in sorted(files + folders)]
-            found += [name for name in names if name != self.list]
+            found += [name for name in names if name not in (self.list, self.list + '.new')]
         return found
 
     def note_all(self):
@@ -272,3 +289,30 @@ def copy_files(top, folder):
             target = os.path.join(folder, path)
             os.makedirs(os.path.dirname(target), exist_ok=True)
             shutil.copy2(source, target)
+
+
+@contextlib.contextmanager
+def child(words, **how):
+    """A program that runs in a process group of its own, as subprocess.Popen starts it. If the tool ends before the
+    program has, the whole group is ended."""
+    try:
+        process = subprocess.Popen(words, start_new_session=True, **how)
+    except OSError as error:
+        raise Fault('%s isn\'t started: %s' % (shown(os.fsdecode(words[0])), error.strerror)) from None
+    try:
+        yield process
+    finally:
+        if process.poll() is None:
+            end_group(process)
+
+
+def end_group(process):
+    """Ends a program and those of its group: they may put in order what they began, for some seconds."""
+    with contextlib.suppress(ProcessLookupError):
+        os.killpg(process.pid, signal.SIGTERM)
+    try:
+        process.wait(SECONDS_TO_END)
+    except subprocess.TimeoutExpired:
+        with contextlib.suppress(ProcessLookupError):
+            os.killpg(process.pid, signal.SIGKILL)
+        process.wait()

@@ -8,7 +8,7 @@ import os
 import re
 import sys
 
-PAGE = os.path.join(os.path.dirname(os.path.dirname(os.path.abspath(__file__))), 'docs', 'profile', 'instructions.md')
+PAGE = os.path.join(os.path.dirname(os.path.dirname(os.path.realpath(__file__))), 'docs', 'profile', 'instructions.md')
 ROW = re.compile(r'^\| (\d[\d,; to]*) \| ([a-z][^|]*) \| ?([^|]*?) ?\| ?([^|]*?) ?\|', re.MULTILINE)
 ENDING = 'nothing falls through'  # in what a row means
 

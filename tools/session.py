@@ -7,7 +7,7 @@ import queue
 import subprocess
 import threading
 
-from common import Fault, system_words
+from common import Fault, shown, system_words
 
 TOP = os.path.dirname(os.path.dirname(os.path.realpath(__file__)))
 PROGRAM = os.environ.get('PROGRAM') or os.path.join(TOP, 'jcard')
@@ -29,14 +29,14 @@ def add_options(parser):
     parser.add_argument('--binding', metavar='FILE', help='a file with the AIDs and tokens of the API')
 
 
-def options_of(arguments):
-    """The words of these options for the program. The binding's path is made whole: the session may be in another
-    folder."""
-    named = [(name, getattr(arguments, name)) for name in NUMBERS]
-    words = ['--%s=%s' % (name, value) for name, value in named if value is not None]
-    if arguments.binding is not None:
-        words.append('--binding=' + (arguments.binding and os.path.join(os.getcwd(), arguments.binding)))
-    return words
+def options_of(arguments, folder=None):
+    """The words of these options for the program. Where the session is in another folder, the binding's path is made
+    whole."""
+    named = [(name, getattr(arguments, name)) for name in [*NUMBERS, 'binding']]
+    words = {name: value for name, value in named if value is not None}
+    if folder is not None and arguments.binding:
+        words['binding'] = os.path.join(os.getcwd(), arguments.binding)
+    return ['--%s=%s' % pair for pair in words.items()]
 
 
 def is_silent(line):
@@ -44,8 +44,8 @@ def is_silent(line):
     return len(line) <= LONGEST_LINE and line[:1] in (b'', b'#')
 
 
-class Gone(Exception):
-    """The session has ended before it answered."""
+class Told(Exception):
+    """There is no card, and the session has said why."""
 
     def __init__(self, status):
         super().__init__(status)
@@ -95,7 +95,10 @@ class Session:
             if said is not None:
                 return said
             self.open -= 1
-        raise Gone(self.process.wait())
+        status = self.process.wait()
+        if status == 2:
+            raise Told(status)
+        raise Fault('%s has ended, with status %d: there is no card' % (shown(PROGRAM), status))
 
     def close(self):
         """Ends the session; gives its exit status. All that it said is heard before: a thread that still reads when

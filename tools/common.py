@@ -148,6 +148,18 @@ def checksum(path):
         return hashlib.sha256(file.read()).hexdigest()
 
 
+def content_of(path, most):
+    """The bytes of a file, which may be a pipe. There may be so many at most."""
+    try:
+        with open(path, 'rb') as file:
+            content = file.read(most + 1)
+    except OSError as error:
+        raise Fault(system_words(error, path)) from None
+    if len(content) > most:
+        raise Fault('%s: more than %d bytes' % (shown(path), most))
+    return content
+
+
 class Made:
     """The files of a folder that a tool made. Names are paths from the folder on."""
 

@@ -27,6 +27,8 @@ COMPONENTS = ['Header.cap', 'Applet.cap', 'Import.cap', 'ConstantPool.cap', 'Cla
 FOLDER = '-' * 64  # in the place of a folder's checksum
 WORDS = '%s is there already: this tool didn\'t make it, or it was changed'
 ESCAPES = {'\n': '\\n', '\r': '\\r', '\t': '\\t', '\\': '\\\\'}
+# Letters and marks that Python takes for printable, and that nobody sees: joiners, fillers and selectors of variants.
+UNSEEN = re.compile('[\u034F\u115F\u1160\u17B4\u17B5\u180B-\u180F\u2800\u3164\uFE00-\uFE0F\uFFA0\U000E0100-\U000E01EF]')
 
 
 SIGNALS = [signal.SIGINT, signal.SIGTERM, signal.SIGHUP]
@@ -76,7 +78,8 @@ def run(main):
             signal.signal(number, stop)
     status = status_of(main)
     try:
-        sys.stdout.flush()
+        if sys.stdout:  # it has none where it is closed
+            sys.stdout.flush()
     except OSError as error:
         os.dup2(os.open(os.devnull, os.O_WRONLY), sys.stdout.fileno())
         if not isinstance(error, BrokenPipeError):
@@ -111,13 +114,15 @@ class Parser(argparse.ArgumentParser):
 
 
 def shown(text):
-    """A name or a path in one line: what isn't printable is escaped, and so are bytes that aren't UTF-8."""
+    """A name or a path in one line: what isn't printable or can't be seen is escaped, as U+202E, which turns the
+    direction of a text. So are bytes that aren't UTF-8."""
     def one(char):
-        if char in ESCAPES or char.isprintable():
+        if char in ESCAPES or char.isprintable() and not UNSEEN.match(char):
             return ESCAPES.get(char, char)
         if '\udc80' <= char <= '\udcff':
             return '\\x%02X' % (ord(char) - 0xDC00)
-        return '\\x%02X' % ord(char) if ord(char) < 256 else '\\u%04X' % ord(char)
+        form = '\\x%02X' if ord(char) < 0x100 else '\\u%04X' if ord(char) < 0x10000 else '\\U%08X'
+        return form % ord(char)
     return ''.join(map(one, text))
 
 
@@ -126,6 +131,14 @@ def system_words(error, path=''):
     name = error.filename if isinstance(error.filename, (str, bytes)) else path
     words = error.strerror or shown(str(error))
     return words if error.filename is None and not path else '%s: %s' % (shown(os.fsdecode(name)), words)
+
+
+def content_of(path):
+    """The bytes of a regular file, or of one that a link leads to. Nothing else is opened: a pipe may never end."""
+    if not stat.S_ISREG(os.stat(path).st_mode) and not os.path.isdir(path):
+        raise Fault('%s: it isn\'t a regular file' % shown(path))
+    with open(path, 'rb') as file:
+        return file.read()
 
 
 def is_plain(name):

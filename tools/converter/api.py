@@ -100,15 +100,15 @@ class Binding:
 
 def api_classes(binding):
     """The API's classes as a package sees them, by their names."""
-    packages = [Package(PACKAGES[number - 1], bytes.fromhex(name), version)
+    packages = [Package(PACKAGES[number - 1], bytes.fromhex(name), tuple(version))
                 for number, (name, *version) in sorted(binding.packages.items())]
     full, classes = class_rows()
-    known = {}
+    known, members = {}, list(enumerate(member_rows(full), 1))
     for at, (name, above) in enumerate(classes):
         virtual = dict(known[above].virtual) if above else {}
         known[name] = Known(name, above, packages[at >= IN_LANG], binding.classes[at + 1],
                             is_interface=name.endswith('/Shareable'), virtual=virtual)
-        for number, (of, member, is_virtual, _, kind) in enumerate(member_rows(full), 1):
+        for number, (of, member, is_virtual, _, kind) in members:
             if of == name:
                 table = known[name].virtual if is_virtual else known[name].static_methods
                 table.setdefault((member, kind), binding.members[number])

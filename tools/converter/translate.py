@@ -13,6 +13,7 @@ TESTS_NULL = Reference('java/util/Objects', 'requireNonNull', '(Ljava/lang/Objec
 KINDS = {'Z': 10, 'B': 11, 'S': 12}  # of arrays, for newarray, checkcast and instanceof
 FORMS = {'Z': 'b', 'B': 'b', 'S': 's'}  # of instructions on fields; of a reference a
 BEFORE = -1  # the place in front of a method's code
+TOO_MANY = 'the method needs more than %d %s'
 
 
 @dataclass(frozen=True)
@@ -78,6 +79,8 @@ class Translator:
         code = self.method.code
         self.instructions = Decoder(code.bytes, self.known.file.pool).instructions()
         self.check_members()
+        if code.locals > MOST:
+            raise Refusal(TOO_MANY % (MOST, 'locals'))
         ranges = Ranges(self.method, self.instructions)
         self.faults += [(at, text) for at, text in ranges.faults.items() if at not in self.refused]
         self.refused.update(ranges.faults)
@@ -93,7 +96,7 @@ class Translator:
                     for *places, caught in code.handlers]
         for count, word in (self.depth, 'operands'), (max(self.used, arguments), 'locals'):
             if count > MOST:
-                raise Refusal('the method needs more than %d %s' % (MOST, word))
+                raise Refusal(TOO_MANY % (MOST, word))
         return Translated(self.cards, handlers, self.depth, arguments, max(self.used - arguments, 0))
 
     def check_members(self):

@@ -1,8 +1,29 @@
 """Command lines of tools/convert with what is told of each; tests/convert runs them. The classes of SOURCES and the
 files of FILES are in the current folder. The folder top/demo has a class file, and the folder a none.
 """
+from converter.api import Binding
+
+
+def binding(changes):
+    """The text of a binding: the default one, without lines that begin so, and with others at its end."""
+    default = Binding()
+    lines = ['package %d %s %d %d' % (number, *value) for number, value in default.packages.items()]
+    lines += ['class %d %d' % pair for pair in default.classes.items()]
+    lines += ['member %d %d' % pair for pair in default.members.items()]
+    kept = [line for line in lines if not any(line.startswith(begin + ' ') for begin in changes)]
+    more = ['%s %s' % pair for pair in changes.items() if pair[1]]
+    return ('# names\n' + '\n'.join(kept + more)).encode()
+
+
 # Files that a command line names, by their contents.
 FILES = {
+    'whole': binding({'package 1': 'a0000000620001 001 3', 'class 1': '0' * 5000 + '99', 'member 1': '4'}),
+    'missing': binding({'member 12': None}), 'no package 2': binding({'package 2': None}),
+    'repeated': binding({}) + b'\nclass 3 77\n', 'carriage': binding({}).replace(b'\n', b'\r\n'),
+    'same AID': binding({'package 2': 'F04A430101 1 0'}), 'same class': binding({'class 5': '1'}),
+    'same in the other package': binding({'class 13': '11', 'class 22': '10', 'class 12': '200'}),
+    'same static': binding({'member 22': '0'}), 'same virtual': binding({'member 31': '0'}),
+    'two blanks': binding({'member 31': ' 6'}), 'large': binding({'member 26': '128'}),
     'latin': b'# names\xE9\npackage 1 A0000000620001 1 3\n', 'vendor.exp': bytes.fromhex('00FACADE0102'),
     'vendor.cap': b'PK\3\4\0', 'empty': b'', 'Other.java': b'class Other { }\n', 'Other.class': b'PK\3\4',
     'short.class': bytes.fromhex('CAFEBABE0000'), 'no package': b'class demo/A 0 java/lang/Object\n',
@@ -54,6 +75,18 @@ TOLD = [
     ('--import two', 'two: line 2: it is of a second package'),
     ('--import bad+name', 'bad name: line 3 is none of exports.txt'),
     ('--import bad+above', 'bad above: line 2 is none of exports.txt'),
+    ('--binding whole', None), ('--binding same+in+the+other+package', None),
+    ('--binding missing', 'missing: it doesn\'t name member 12'),
+    ('--binding empty', 'empty: it doesn\'t name package 1'),
+    ('--binding no+package+2', 'no package 2: it doesn\'t name package 2'),
+    ('--binding repeated', 'repeated: line 81 names class 3 again'),
+    ('--binding carriage', 'carriage: line 2 is none of a binding'),
+    ('--binding same+AID', 'same AID: line 80 gives package 2 what a line before it gave package 1'),
+    ('--binding same+class', 'same class: line 80 gives class 5 what a line before it gave class 2'),
+    ('--binding same+static', 'same static: line 80 gives member 22 what a line before it gave member 21'),
+    ('--binding same+virtual', 'same virtual: line 80 gives member 31 what a line before it gave member 2'),
+    ('--binding two+blanks', 'two blanks: line 80 is none of a binding'),
+    ('--binding large', 'large: line 80 is none of a binding'),
     ('--binding AID+of+a+binding', 'AID of a binding: line 1 is none of a binding'),
     ('--binding token+of+a+binding', 'token of a binding: line 2 is none of a binding'),
     ('Other.java', 'Other.java: it is no class file'), ('Other.class', 'Other.class: it is no class file'),

@@ -59,7 +59,7 @@ TOLD = [
     ('/dev/null', '/dev/null: it isn\'t a regular file'),
     ('--import /dev/zero', '/dev/zero: it isn\'t a regular file'),
     ('--binding /dev/zero', '/dev/zero: it isn\'t a regular file'),
-    ('Circle.class --import circle', 'the class p.A is above itself'),
+    ('Circle.class --import circle', 'demo.Circle.<init>, line 1: the class p.A is above itself'),
     ('--import no+package', 'no package: line 1 is none of exports.txt'),
     ('--import bad+token', 'bad token: line 2 is none of exports.txt'),
     ('--import bad+AID', 'bad AID: line 1 is none of exports.txt'),
@@ -110,6 +110,9 @@ TOLD = [
     ('Good.class --applet demo.Good=F0090909090901 --applet demo.Good=F0090909090901',
      'two applets have the AID F0090909090901'),
     ('Good.class --applet demo.Good=F0090909090901 --applet demo.Good=F009090909', None),
+    ('Returns.class',
+     'demo.Returns.f, line 1: the package has 260 handlers, and at most there are 255: 260 are of this method, as javac '
+     'splits the range of a try at each return and jump out of it'),
     ('Huge.class', 'the package is too large: a component has at most 65535 bytes'),
 ]
 # .. and the words behind those of a wrong command line, with status 2.
@@ -130,6 +133,8 @@ SOURCES = {
     'Idle0': 'package demo; abstract class Idle0 extends javacard.framework.Applet { }',
     'Good': 'package demo; class Good extends javacard.framework.Applet { %s }' % METHOD,
     'A': 'package p; public class A { }', 'Circle': 'package demo; class Circle extends p.A { }',
+    'Returns': 'package demo; class Returns { static short f(short a, byte[] b) { try { %s } finally { b[0]++; } '
+               'return 0; } }' % ' '.join('if (a == %d) { return a; }' % number for number in range(260)),
     'Huge': 'package demo; class Huge { %s }' % ' '.join(
         'void f%d(byte[] a) { %s }' % (number, 'a[0] += 3; ' * 2500) for number in range(4)),
 }

@@ -278,12 +278,15 @@ def read_members(source, pool, is_right, word):
     return list(found.values())
 
 
-def check_code(method):
-    """Refuses a method that is abstract and can't be, and one that has no code and has to."""
+def check_method(method):
+    """Refuses a method that is abstract and can't be, one that has no code and has to, and what no constructor and no
+    initialiser can be."""
     if method.has(ABSTRACT) and (method.code or method.has(STATIC | PRIVATE) or method.name in METHODS):
         raise Refusal('the method %s can\'t be abstract' % method.name)
     if not method.code and not method.has(ABSTRACT | NATIVE):
         raise Refusal('the method %s has no code' % method.name)
+    if method.name in METHODS and (method.has(STATIC) != (method.name == '<clinit>') or result(method.type) != 'V'):
+        raise Refusal('the method %s isn\'t as a compiler writes it' % method.name)
 
 
 def read_class(content):
@@ -298,7 +301,7 @@ def read_class(content):
     fields = read_members(source, pool, is_type, 'field')
     methods = read_members(source, pool, is_method_type, 'method')
     for method in methods:
-        check_code(method)
+        check_method(method)
     named = attributes(source, pool).get('SourceFile')
     text = pool.text(int.from_bytes(named[0], 'big')) if named else None
     return ClassFile(name, above, interfaces, flags, fields, methods, pool, text)

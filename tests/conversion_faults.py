@@ -53,7 +53,8 @@ TOLD = [
     ('--import vendor.cap', 'vendor.cap: it is an archive, perhaps a CAP file: ' + EXPORTED),
     ('--binding vendor.cap', 'vendor.cap: it is an archive, perhaps a CAP file: ' + EXPORTED),
     ('--import Sums.class', 'Sums.class: it is a class file'), ('--import empty', 'empty: it names no package'),
-    ('--import Other.java', 'Other.java: line 1 is none of exports.txt'), ('--import a', 'a: there is no exports.txt in it, as tools/convert writes it'),
+    ('--import Other.java', 'Other.java: line 1 is none of exports.txt'),
+    ('--import a', 'a: there is no exports.txt in it, as tools/convert writes it'),
     ('--binding Other.java', 'Other.java: line 1 is none of a binding'),
     ('--import none', 'none: No such file or directory'), ('a\nb', 'a\\nb: No such file or directory'),
     ('/dev/null', '/dev/null: it isn\'t a regular file'),
@@ -111,8 +112,8 @@ TOLD = [
      'two applets have the AID F0090909090901'),
     ('Good.class --applet demo.Good=F0090909090901 --applet demo.Good=F009090909', None),
     ('Returns.class',
-     'demo.Returns.f, line 1: the package has 260 handlers, and at most there are 255: 260 are of this method, as javac '
-     'splits the range of a try at each return and jump out of it'),
+     'demo.Returns.f, line 1: the package has 260 handlers, and at most there are 255: 260 are of this method, as '
+     'javac splits the range of a try at each return and jump out of it'),
     ('Huge.class', 'the package is too large: a component has at most 65535 bytes'),
 ]
 # .. and the words behind those of a wrong command line, with status 2.

@@ -33,7 +33,8 @@ class MethodLines:
         number = bisect_right(self.places, pc)
         if not number:
             return self.name
-        return '%s, %s%d' % (self.name, 'line ' if self.source == UNKNOWN else self.source + ':', self.lines[number - 1])
+        source = 'line ' if self.source == UNKNOWN else self.source + ':'
+        return '%s, %s%d' % (self.name, source, self.lines[number - 1])
 
 
 @dataclass

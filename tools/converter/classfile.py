@@ -8,7 +8,7 @@ import unicodedata
 from bisect import bisect_right
 from dataclasses import dataclass, field
 
-from common import Fault
+from common import Fault, shown
 
 PUBLIC, PRIVATE, PROTECTED, STATIC, FINAL, SYNCHRONIZED = 1, 2, 4, 8, 0x10, 0x20
 NATIVE, INTERFACE, ABSTRACT, SYNTHETIC = 0x100, 0x200, 0x400, 0x1000
@@ -18,8 +18,8 @@ SIZES = {3: 4, 4: 4, 5: 8, 6: 8, 7: 2, 8: 2, 9: 4, 10: 4, 11: 4, 12: 4, 15: 3, 1
 WORDS = {4: 'the type float', 5: 'the type long', 6: 'the type double', 8: 'a constant of type String'}
 
 
-# General categories of characters: the first of a name in Java, and those behind it. Java allows some behind it that
-# can't be seen, and these are refused.
+# General categories of characters: the first of a name in Java, and those behind it. Java allows some that can't be
+# seen, and these are refused.
 LETTERS = {'Lu', 'Ll', 'Lt', 'Lm', 'Lo', 'Nl', 'Sc', 'Pc'}
 FURTHER = {*LETTERS, 'Nd', 'Mn', 'Mc'}
 METHODS = '<init>', '<clinit>'  # names that aren't Java's own
@@ -43,7 +43,7 @@ class Refusal(Fault):
 def is_name(text):
     """Whether a text is a name in Java."""
     kinds = [unicodedata.category(char) for char in text]
-    return bool(kinds) and kinds[0] in LETTERS and FURTHER.issuperset(kinds)
+    return bool(kinds) and kinds[0] in LETTERS and FURTHER.issuperset(kinds) and shown(text) == text
 
 
 def is_method_name(text):

@@ -14,6 +14,7 @@ from heapq import heappop, heappush
 
 from converter.classfile import Refusal, STATIC, parameters, result
 from converter.numbers import BYTE, INT, OPERATORS, SHORT, common, left_of, lies_in, widened
+from converter.world import MOST
 from instructions import OPCODES
 
 OF_TYPE = {'Z': BYTE, 'B': BYTE, 'S': SHORT}
@@ -23,7 +24,9 @@ NEEDED = {'e': SHORT, 'i': (SHORT[0], 0xFFFF)}
 # The card's branches that compare numbers, by conditions.
 WITH_ZERO, WITH_ANOTHER = (range(OPCODES[first], OPCODES[first] + 6) for first in ('ifeq', 'if_scmpeq'))
 PATIENCE = 4  # how often a loop is looked at before its numbers are widened
-MOST_WORK = 20000000  # values and handlers that are looked at: some seconds, and many times what compilers' code takes
+MOST_WORK = 5000000  # values that are looked at: some seconds, and many times what a compiler's code takes
+AT_ONCE = 3  # so many handlers or places are looked at as quickly as one value
+TOO_MANY = 'the method needs more than %d %s'
 WIDE = 'an int here may need more than 16 bits: cast the value to short or byte before'
 
 
@@ -65,7 +68,7 @@ class Ranges:
 
     def reach_the_rest(self):
         """Ways that no run takes are followed too where they lead to code that no other way leads to."""
-        self.count_work(len(self.never))
+        self.count_work(len(self.never) // AT_ONCE)
         for at, state in sorted(self.never.items()):
             if at not in self.states:
                 self.arrive(at, *state)
@@ -75,6 +78,9 @@ class Ranges:
         """A state goes on at a place, and is joined with what has arrived there before."""
         if at not in self.instructions:
             raise Refusal('control flow goes on where no instruction is')
+        if len(state[1]) > MOST:
+            raise Refusal(TOO_MANY % (MOST, 'operands'))
+        self.count_work(1 + len(state[0]) + len(state[1]))
         before = self.states.get(at)
         if before:
             state = self.with_one_before(at, before, state)
@@ -104,10 +110,10 @@ class Ranges:
     def visit(self, instruction):
         self.at = instruction.at
         locals, operands, sources = self.states[self.at]
-        self.count_work(1 + len(self.waiting) + len(locals) + len(operands) + len(self.method.code.handlers))
-        for start, end, at, _ in self.method.code.handlers:
-            if start <= self.at < end:
-                self.arrive(at, locals, (REFERENCE,), (None,))
+        handlers = self.method.code.handlers
+        self.count_work((len(self.waiting) + len(handlers)) // AT_ONCE)
+        for at in dict.fromkeys(at for start, end, at, _ in handlers if start <= self.at < end):
+            self.arrive(at, locals, (REFERENCE,), (None,))
         self.locals, self.operands, self.compared = list(locals), list(zip(operands, sources)), None
         getattr(self, 'on_' + instruction.operation)(*instruction.operands)
         for target in instruction.targets:

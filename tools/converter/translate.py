@@ -6,7 +6,7 @@ from converter.bytecode import Decoder
 from converter.classfile import PRIVATE, Reference, Refusal, Refusals, STATIC, parameters, with_line
 from converter.layout import method_of, place_of
 from converter.numbers import BYTE, INT, SHORT, lies_in
-from converter.ranges import Ranges
+from converter.ranges import Ranges, TOO_MANY
 from converter.world import MOST, OBJECT, dotted
 from instructions import OPCODES
 
@@ -14,7 +14,6 @@ TESTS_NULL = Reference('java/util/Objects', 'requireNonNull', '(Ljava/lang/Objec
 KINDS = {'Z': 10, 'B': 11, 'S': 12}  # of arrays, for newarray, checkcast and instanceof
 FORMS = {'Z': 'b', 'B': 'b', 'S': 's'}  # of instructions on fields; of a reference a
 BEFORE = -1  # the place in front of a method's code
-TOO_MANY = 'the method needs more than %d %s'
 
 
 STRINGS = 'a switch over Strings isn\'t in the profile'

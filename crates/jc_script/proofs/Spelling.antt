@@ -1,5 +1,6 @@
 -- Words in hexadecimal.
-use Rattle.std.proofs.Common.{◌≡◌, ℕ, ◌*◌, ◌/◌, ◌<◌, Bool, true, false, cond, List, length, Some, None, IfSome, Result, Ok, Err, ap, sym, refl, arith, nat_le, nat_lt, ◌&&◌}
+use Rattle.std.proofs.Common.{◌≡◌, ℕ, ◌*◌, ◌/◌, ◌<◌, Bool, true, false, cond, List, length}
+use Rattle.std.proofs.Common.{Some, None, IfSome, Result, Ok, Err, ap, sym, refl, arith, nat_le, nat_lt, ◌&&◌}
 use Rattle.hex.specs.Hex.{decode_of}
 use Rattle.hex.specs.declared.error.FromHexError.{FromHexError}
 use Rattle.hex.proofs.HexLemmas.{decode_of-ok}
@@ -27,7 +28,8 @@ none_there word h = part (decode_of word) refl
     part (Err x) e = refl
 
 -- a word spells half as many bytes as it has digits, which may be more than there is room for
-pub no_room : (word : List ℕ) (room : ℕ) → room < length word / 2 → IfSome (bytes_of word) (λ bytes. room < length bytes)
+pub no_room : (word : List ℕ) (room : ℕ) → room < length word / 2
+    → IfSome (bytes_of word) (λ bytes. room < length bytes)
 no_room word room less = part (nat_lt 0 (length word) && nat_le (length word) most_in_line) (decode_of word) refl
   where
     part : (fits : Bool) (d : Result (List ℕ) FromHexError) → decode_of word ≡ d

@@ -2,6 +2,7 @@ mod Trims
 mod Budgets
 mod Cuts
 mod Spelling
+mod Joining
 mod Feeds
 mod Lines
 mod Parts

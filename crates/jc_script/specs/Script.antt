@@ -1,6 +1,7 @@
 -- Scripts: their lines, and the commands that lines ask for. A byte is its number: 10 is the line feed.
-use Rattle.std.specs.Prelude.{ℕ, suc, ◌+◌, ◌-◌, ◌^◌, ◌==◌, ◌&&◌, ◌||◌, nat_le, nat_lt, List, [], ◌∷◌, length, Option, Some, None}
-use Rattle.std.specs.Prelude.{◌++◌, take, Bool, bytes_eq, codes, not, position, if◌then◌else◌}
+use Rattle.std.specs.Prelude.{ℕ, suc, ◌+◌, ◌-◌, ◌^◌, ◌==◌, ◌&&◌, ◌||◌, nat_le, nat_lt}
+use Rattle.std.specs.Prelude.{List, [], ◌∷◌, ◌++◌, length, take, Option, Some, None}
+use Rattle.std.specs.Prelude.{Bool, bytes_eq, codes, not, position, if◌then◌else◌}
 use Rattle.std.specs.Char.{is_ascii_control, is_ascii_digit, is_ascii_whitespace}
 use Rattle.std.specs.List.{list_all, onto_first, suffix_len}
 use Rattle.std.specs.Option.{is_some, option_map_or}

@@ -6,9 +6,7 @@ ghost use Rattle.jc_script.specs.Script.{apdu_asked, asked, asked_in_session, in
 ghost use Rattle.jc_script.specs.Script.{joined_behind, pieces_asked, steps_asked};
 ghost use Rattle.jc_script.specs.Shown.{shown, shown_command};
 
-use crate::words::{
-    Words, aid_of, budget_of, bytes_of, is_skipped, name_of, put_bytes, trimmed,
-};
+use crate::words::{Words, aid_of, budget_of, bytes_of, is_skipped, name_of, put_bytes, trimmed};
 use jc_base::Aid;
 
 /// The most bytes of a line, without its line feed.

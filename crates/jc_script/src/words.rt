@@ -1,7 +1,7 @@
 //! Lines as words, and words as names and bytes.
 
 ghost use Rattle.std.specs.Prelude.{◌≡◌, ◌≤◌, ◌<◌, ◌∷◌, ◌==◌, ◌/◌, [], length, position, option_copied};
-ghost use Rattle.std.specs.Prelude.{drop, option_map, take, true, Some, IfNone, IfSome};
+ghost use Rattle.std.specs.Prelude.{option_map, take, true, Some, IfNone, IfSome};
 ghost use Rattle.std.specs.Char.{is_ascii_digit};
 ghost use Rattle.std.specs.List.{list_all};
 ghost use Rattle.std.specs.Bool.{OnTrue, OnFalse};
@@ -168,8 +168,8 @@ pub(crate) fn budget_of(word: &[u8]) -> Option<u32>
 
 /// Puts the bytes that hexadecimal digits spell at the front of a room: how many, if they are one or more and fit.
 pub(crate) fn put_bytes(word: &[u8], room: &mut [u8]) -> Option<usize>
-    ensures put { IfSome result (λ count. (count ≤ length room.old) × (bytes_of word.now ≡ Some (take count room.new))
-        × (drop count room.new ≡ drop count room.old)) }
+    ensures put { IfSome result (λ count. bytes_of word.now ≡ Some (take count room.new)) }
+    ensures within { IfSome result (λ count. count ≤ length room.old) }
     ensures none { IfNone result (IfSome (bytes_of word.now) (λ bytes. length room.old < length bytes)) }
 {
     if word.is_empty() || word.len() > MOST_IN_LINE {

@@ -5,6 +5,6 @@ use Rattle.jc_script.proofs.finding.fault_in.Goals as goal
 
 pub fault_behind-requires : goal.fault_behind-requires
 fault_behind-requires c =
-    let all = (words_spread c.args.line.now).size_is in
+    let all = (words_spread c.looked_at.result.now).size_is in
     let parts = ap spread (sym c.new-words.ensures ∙ c.in-Some.ensures.some) in
     omega (arith, all, parts, c.requires)

@@ -1,4 +1,3 @@
-mod Trims
 mod Budgets
 mod Cuts
 mod Spelling

@@ -187,7 +187,6 @@ pub(crate) fn put_bytes(word: &[u8], room: &mut [u8]) -> Option<usize>
 }
 
 /// A line without the white space of ASCII at its end.
-#[tactic(auto, using(crate::proofs::Trims::trimmed_is))]
 pub(crate) fn trimmed(line: &[u8]) -> &[u8]
     ensures trimmed { result.now ≡ trimmed line.now }
     ensures shorter { length result.now ≤ length line.now }

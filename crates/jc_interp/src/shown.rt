@@ -1,6 +1,6 @@
 //! The frame in which a call stopped, as it is shown.
 
-ghost use Rattle.std.specs.Prelude.{◌≡◌, true, length};
+ghost use Rattle.std.specs.Prelude.{◌≡◌, false};
 ghost use Rattle.std.specs.Bool.{OnTrue};
 ghost use Rattle.jc_interp.specs.PrivateShown.{IsShown, MayBeShown};
 

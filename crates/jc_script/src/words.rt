@@ -72,7 +72,7 @@ fn space_in(line: &[u8]) -> Option<usize>
 }
 
 /// Where the first quote stands.
-fn quote_in(text: &[u8]) -> Option<usize>
+pub(crate) fn quote_in(text: &[u8]) -> Option<usize>
     ensures place { result ≡ position is_quote text.now }
     ensures within { IfSome result (λ at. at < length text.now) }
 {

@@ -237,7 +237,7 @@ pub fn said_by<'a>(line: &'a [u8], room: &'a mut [u8; MOST_BYTES]) -> ScriptLine
 }
 
 /// What a line of a session says, of at most [`MOST_IN_LINE`] bytes: it may ask for what is used, and say a budget of
-/// steps, too.
+/// steps, too. The names of `load` may stand in quotes.
 pub fn said_in_session<'a>(line: &'a [u8], room: &'a mut [u8; MOST_BYTES]) -> ScriptLine<'a>
     ensures { shown result ≡ script.said_in_session line.now }
 {

@@ -155,7 +155,7 @@ is_space b = b == 32
 abbrev pub is_quote : ℕ → Bool
 is_quote b = b == 34
 
--- a name without quotes goes up to the first space
+-- a name that doesn't begin with a quote goes up to the first space
 abbrev pub cut_at_space : List ℕ → Cut
 cut_at_space text =
     option_map_or (λ at. record { name = take at text; behind = Some (drop (at + 1) text) }) (position is_space text)

@@ -107,7 +107,7 @@ impl WordMachine {
         let frame = self.frames.top()?;
         let opcode = *code_of(&program.methods, frame).get(usize::from(frame.pc))?;
         let above = operands_on_index(opcode)?;
-        let array = self.frames.operand(above + 1);
+        let array = self.frames.operand(above.saturating_add(1));
         if !self.store.is_there(array) {
             return None;
         }

@@ -17,7 +17,9 @@ use Rattle.jc_interp.specs.declared.machine.WordMachine.{WordMachine}
 drop_at : {X : Type 0} (xs : List X) (i : ℕ) (x : X) → slice_get xs i ≡ Some x → drop i xs ≡ x ∷ drop (i + 1) xs
 drop_at [] i x e = absurd cc
 drop_at (y ∷ ys) zero x e = grind arith
-drop_at (y ∷ ys) (suc i) x e = drop_at ys i x e
+drop_at (y ∷ ys) (suc i) x e =
+    let further : suc (i + 1) ≡ suc i + 1 = omega arith in
+    drop_at ys i x e ∙ ap (λ (n : ℕ). x ∷ drop n (y ∷ ys)) further
 
 module _ (p : Program) (object class : ℕ) (u : WordMachine) where
   abbrev all : List words.Frame
@@ -42,15 +44,15 @@ module _ (p : Program) (object class : ℕ) (u : WordMachine) where
   pub none_at : (i : ℕ) → i < length all → handler_under p class i u ≡ None → from i ≡ from (i + 1)
   none_at i within none = by_frame (slice_get all i) refl
     where
-      by_frame : (o : Option words.Frame) → slice_get all i ≡ o → from i ≡ from (i + 1)
-      by_frame (Some f) e =
-          first_is i f e ∙ ap (caught_in object f (drop (i + 1) all) (from (i + 1))) none
-      by_frame None e = absurd (is_there all i within e)
-
       is_there : {X : Type 0} (xs : List X) (k : ℕ) → k < length xs → slice_get xs k ≡ None → ⊥
       is_there [] k less none = omega (arith, less)
       is_there (x ∷ xs) zero less none = cc
       is_there (x ∷ xs) (suc k) less none = is_there xs k (omega (arith, less)) none
+
+      by_frame : (o : Option words.Frame) → slice_get all i ≡ o → from i ≡ from (i + 1)
+      by_frame (Some f) e =
+          first_is i f e ∙ ap (caught_in object f (drop (i + 1) all) (from (i + 1))) none
+      by_frame None e = absurd (is_there all i within e)
 
   -- where it has one, it goes on there
   pub found_at : (i : ℕ) (h : LoadedHandler) → handler_under p class i u ≡ Some h
@@ -58,6 +60,9 @@ module _ (p : Program) (object class : ℕ) (u : WordMachine) where
       ≡ settled u (from i)
   found_at i h found = by_frame (slice_get all i) refl
     where
+      nothing : Some h ≡ None → ⊥
+      nothing e = cc
+
       by_frame : (o : Option words.Frame) → slice_get all i ≡ o
           → done (handled object h (with_frames u (words.with_frames u.frames (drop i all)))) GoesOn
           ≡ settled u (from i)
@@ -68,6 +73,3 @@ module _ (p : Program) (object class : ℕ) (u : WordMachine) where
           (first_is i f e ∙ ap (caught_in object f (drop (i + 1) all) (from (i + 1))) found))
       by_frame None e = absurd (nothing (sym found ∙ ap (λ (o : Option words.Frame).
           option_and_then (handler_in p class) (option_map (λ (g : words.Frame). g.header) o)) e))
-
-      nothing : Some h ≡ None → ⊥
-      nothing e = cc

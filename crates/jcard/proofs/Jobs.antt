@@ -4,11 +4,12 @@ use Rattle.std.proofs.lemmas.List.{append-nil}
 use Rattle.std.specs.List.{AllZip}
 use Rattle.jc_api.specs.Bound.{Bound}
 use Rattle.jcard.specs.Binding.{IsBindingFor}
-use Rattle.jcard.specs.Files.{Entry, IsWritten, OfFile, WritesAlone, Written}
+use Rattle.jcard.specs.Files.{Entry, IsFaultAt, IsWritten, OfFile, WritesAlone, Written}
 use Rattle.jcard.specs.Folders.{FailsFirst, IsFolderFault, IsImage}
-use Rattle.jcard.specs.Saying.{IsSaidOfFiles, IsSaidOfJob}
-use Rattle.jcard.specs.Saying.IsSaidOfJob.{memory, undone}
-use Rattle.jcard.specs.Verify.{IsUndone, IsUnreadOf, earlier_of}
+use Rattle.jcard.specs.Saying.{IsSaidOfFiles, IsSaidOfJob, IsSaidOfWork}
+use Rattle.jcard.specs.Saying.IsSaidOfJob.{kept, no_memory}
+use Rattle.jcard.specs.Saying.IsSaidOfWork.{memory, undone}
+use Rattle.jcard.specs.Verify.{IsInTheWay, IsUndone, IsUnreadOf, earlier_of}
 use Rattle.jcard.specs.Verify.IsUndone.{unread}
 use Rattle.jcard.specs.Verify.IsUnreadOf.{earlier, last}
 use Rattle.jcard.specs.declared.files.ReadFault.{ReadFault}
@@ -52,6 +53,13 @@ unread_undone holds has job fault =
 -- what is said where a job isn't done
 pub said_undone : (holds : List ℕ → Entry → Type 0) (wrote : List Written → Type 0) (job : VerifyJob) (said : Said)
     (fault : ReadFault) → OfFile (IsUndone holds wrote job) fault
-    → IsSaidOfFiles fault said → IsSaidOfJob holds wrote job said
+    → IsSaidOfFiles fault said → IsSaidOfWork holds wrote job said
 said_undone holds wrote job said (File fault) told says = undone fault told says
 said_undone holds wrote job said Memory told says = memory says
+
+-- what is said where something else is under the certificate's name
+pub said_kept : (holds : List ℕ → Entry → Type 0) (has : List Written → Type 0) (job : VerifyJob) (said : Said)
+    (fault : ReadFault) → OfFile (IsFaultAt job.cert.now (IsInTheWay (holds job.cert.now))) fault
+    → IsSaidOfFiles fault said → IsSaidOfJob holds (IsWritten has has) job said
+said_kept holds has job said (File fault) told says = kept fault told (none_written has) says
+said_kept holds has job said Memory told says = no_memory (none_written has) says

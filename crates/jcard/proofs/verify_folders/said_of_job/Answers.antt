@@ -1,9 +1,14 @@
-use Rattle.jcard.specs.Saying.IsSaidOfJob.{done}
-use Rattle.jcard.proofs.Jobs.{said_undone}
+use Rattle.jcard.specs.Saying.IsSaidOfJob.{worked}
+use Rattle.jcard.proofs.Jobs.{none_beside, said_kept}
 use Rattle.jcard.proofs.verify_folders.said_of_job.Goals as goal
 
 pub returns-in-Ok-clause-said : goal.returns-in-Ok-clause-said
-returns-in-Ok-clause-said g c = done c.in-Ok.answer c.in-Ok.ensures.done c.said_of_verified.ensures
+returns-in-Ok-clause-said g c = worked c.in-Ok.ensures.place c.said_of_work.ensures.said
 
 pub returns-in-Err-clause-said : goal.returns-in-Err-clause-said
-returns-in-Err-clause-said g c = said_undone _ _ _ _ c.in-Err.fault c.in-Err.ensures.faults c.said_of_files.ensures
+returns-in-Err-clause-said g c =
+    said_kept (g.F.Files.holds c.args.files.now) (g.F.Files.has_written c.args.files.now) c.args.job.now
+    c.said_of_files.result c.in-Err.fault c.in-Err.ensures.faults c.said_of_files.ensures
+
+pub returns-in-Err-clause-alone : goal.returns-in-Err-clause-alone
+returns-in-Err-clause-alone g c = none_beside (g.F.Files.has_written c.args.files.now) c.args.job.now.cert.now

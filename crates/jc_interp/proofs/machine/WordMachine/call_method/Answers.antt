@@ -1,3 +1,4 @@
+use Rattle.std.proofs.lemmas.Bool.{OnTrue_at, OnTrue_from}
 use Rattle.jc_interp.specs.Following.{WordState}
 use Rattle.jc_interp.specs.PrivateDone.{done}
 use Rattle.jc_interp.proofs.FirstCalls.{method_may_begin, method_runs, method_runs_out, method_shows}
@@ -49,7 +50,7 @@ returns-in-Throws-clause-call g c =
     (other_end c.enter_first.result c.in-Throws.is))
 
 pub returns-in-GoesOn-clause-shown : goal.returns-in-GoesOn-clause-shown
-returns-in-GoesOn-clause-shown g c there =
+returns-in-GoesOn-clause-shown g c = OnTrue_from c.run.new.shown.is_there _ (λ there.
     let w = c.args.world.now in
     let p = c.args.program.now in
     let natives = g.N.Natives.meaning in
@@ -60,4 +61,4 @@ returns-in-GoesOn-clause-shown g c there =
     (λ accepted program. c.tables_are_known.ensures w accepted program) c.law.ensures
     (record { calls = laws.calls; first = laws.first }) c.args.number c.requires.method
     (done c.enter_first.new.self c.enter_first.result) c.enter_first.ensures c.in-GoesOn.is c.run.new.shown
-    (c.run.ensures.shown there)
+    (OnTrue_at there c.run.ensures.shown))

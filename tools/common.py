@@ -160,6 +160,23 @@ def content_of(path, most):
     return content
 
 
+def put_whole(path, content):
+    """Writes a file whole, in the place of one that may be there."""
+    new = '%s.new-%d' % (path, os.getpid())
+    try:
+        with open(new, 'xb') as file:
+            file.write(content)
+        os.replace(new, path)
+    except FileExistsError:
+        raise
+    except BaseException as reason:
+        if os.path.exists(new):
+            os.remove(new)
+        if isinstance(reason, OSError):
+            raise Fault(system_words(reason, path)) from None
+        raise
+
+
 class Made:
     """The files of a folder that a tool made. Names are paths from the folder on."""
 

@@ -173,7 +173,7 @@ def put_whole(path, content):
         if os.path.exists(new):
             os.remove(new)
         if isinstance(reason, OSError):
-            raise Fault(system_words(reason, path)) from None
+            raise Fault('%s: %s' % (shown(path), reason.strerror)) from None
         raise
 
 

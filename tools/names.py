@@ -56,9 +56,7 @@ def classes_of_export(content):
 
 
 def member_name(of, name):
-    """A member by its class, or a class alone."""
-    if name is None:
-        return of
+    """A member of a class."""
     return 'constructor of %s' % of if name == '<init>' else '%s.%s' % (of, shown(name))
 
 
@@ -85,9 +83,9 @@ class Names:
     def member(self, known, table, token):
         """The name of a member by its token, or None. Virtual ones may be of a class above."""
         for one in self.chain(known) if table == 'virtual' else [known]:
-            for (name, _), number in getattr(one, table).items():
-                if number == token:
-                    return member_name(dotted(one.name), name)
+            name = next((name for (name, _), number in getattr(one, table).items() if number == token), None)
+            if name is not None:
+                return member_name(dotted(one.name), name)
         return None
 
     def by_version(self, named):
@@ -125,7 +123,9 @@ class Own:
         if exports:
             self.add_exports(read_of(exports, lambda content: read_exports(content.decode())).values())
         if lines:
-            self.add_lines(read_of(lines, lambda content: read_lines(content.decode())))
+            methods = read_of(lines, lambda content: read_lines(content.decode()))
+            self.add_static({offset: name for offset, (name, _, _) in methods.items()})
+            self.add_described({offset: name for offset, (name, _, _) in methods.items()})
 
     def add_exports(self, known):
         """Takes the names of the classes that other packages see, if they are this package's."""
@@ -135,23 +135,30 @@ class Own:
                 self.add_class(one, rows[one.token])
 
     def add_class(self, known, row):
-        of = self.classes[row.offset] = dotted(known.name)
-        for table in 'fields', 'virtual':
-            for (name, _), token in getattr(known, table).items():
-                self.members[table, row.offset, token] = member_name(of, name)
+        self.classes[row.offset] = dotted(known.name)
         for table, offsets in ('static_fields', row.fields), ('static_methods', row.methods):
-            for (name, _), token in getattr(known, table).items():
-                if token < len(offsets):
-                    self.members[table, offsets[token]] = member_name(of, name)
+            self.add_members(known, table, lambda token, its=offsets: its[token:token + 1])
+        for table in 'fields', 'virtual':
+            self.add_members(known, table, lambda token: [row.offset, token])
 
-    def add_lines(self, methods):
-        """Takes the names of methods by their offsets, and so those of their classes."""
-        for offset, (name, _, _) in methods.items():
+    def add_members(self, known, table, place_of):
+        """Takes the names of a class's members by their places, which their tokens have. One without a place has no
+        name."""
+        for (name, _), token in getattr(known, table).items():
+            if place_of(token):
+                self.members[(table, *place_of(token))] = member_name(dotted(known.name), name)
+
+    def add_static(self, methods):
+        """Takes the names of methods by their offsets."""
+        for offset, name in methods.items():
             of, _, member = name.rpartition('.')
             self.members.setdefault(('static_methods', offset), member_name(shown(of), member))
+
+    def add_described(self, methods):
+        """Takes the names of classes and of virtual methods, by the offsets of methods."""
         for row in self.package.methods():
             if row.offset in methods and row.offset:
-                of, _, member = methods[row.offset][0].rpartition('.')
+                of, _, member = methods[row.offset].rpartition('.')
                 self.classes.setdefault(row.of, shown(of))
                 if not row.flags & NOT_VIRTUAL:
                     self.members.setdefault(('virtual', row.of, row.token), member_name(shown(of), member))

@@ -9,7 +9,8 @@ stand in the file .made-by-TOOL of the folder, as sha256sum writes them. A file 
 left as it is. A link is never written through. Anything else that is in the way is told, before anything is touched.
 """
 import signal
-signal.signal(signal.SIGINT, signal.SIG_DFL)  # until `run` catches it
+if signal.getsignal(signal.SIGINT) != signal.SIG_IGN:
+    signal.signal(signal.SIGINT, signal.SIG_DFL)  # until `run` catches it
 
 import argparse  # noqa: E402
 import contextlib  # noqa: E402
@@ -28,6 +29,8 @@ COMPONENTS = ['Header.cap', 'Applet.cap', 'Import.cap', 'ConstantPool.cap', 'Cla
 FOLDER = '-' * 64  # in the place of a folder's checksum
 WORDS = '%s is there already: this tool didn\'t make it, or it was changed'
 ESCAPES = {'\n': '\\n', '\r': '\\r', '\t': '\\t', '\\': '\\\\'}
+# Letters and marks that Python takes for printable, and that nobody sees: joiners, fillers and selectors of variants.
+UNSEEN = re.compile('[\u034F\u115F\u1160\u17B4\u17B5\u180B-\u180F\u2800\u3164\uFE00-\uFE0F\uFFA0\U000E0100-\U000E01EF]')
 
 
 SIGNALS = [signal.SIGINT, signal.SIGTERM, signal.SIGHUP]
@@ -83,7 +86,8 @@ def run(main):
             signal.signal(number, stop)
     status = status_of(main)
     try:
-        sys.stdout.flush()
+        if sys.stdout:  # it has none where it is closed
+            sys.stdout.flush()
     except OSError as error:
         os.dup2(os.open(os.devnull, os.O_WRONLY), sys.stdout.fileno())
         if not status and not isinstance(error, BrokenPipeError):  # a fault is told already where there is a status
@@ -121,13 +125,15 @@ class Parser(argparse.ArgumentParser):
 
 
 def shown(text):
-    """A name or a path in one line: what isn't printable is escaped, and so are bytes that aren't UTF-8."""
+    """A name or a path in one line: what isn't printable or can't be seen is escaped, as U+202E, which turns the
+    direction of a text. So are bytes that aren't UTF-8."""
     def one(char):
-        if char in ESCAPES or char.isprintable():
+        if char in ESCAPES or char.isprintable() and not UNSEEN.match(char):
             return ESCAPES.get(char, char)
         if '\udc80' <= char <= '\udcff':
             return '\\x%02X' % (ord(char) - 0xDC00)
-        return '\\x%02X' % ord(char) if ord(char) < 256 else '\\u%04X' % ord(char)
+        form = '\\x%02X' if ord(char) < 0x100 else '\\u%04X' if ord(char) < 0x10000 else '\\U%08X'
+        return form % ord(char)
     return ''.join(map(one, text))
 
 
@@ -138,17 +144,15 @@ def system_words(error, path=''):
     return words if error.filename is None and not path else '%s: %s' % (shown(os.fsdecode(name)), words)
 
 
-def is_plain(name):
-    """Whether a word names a file or a folder inside of another one."""
-    return name not in ('', '.', '..') and '/' not in name and '\0' not in name
-
-
-def checksum(path):
+def content_of(path):
+    """The bytes of a regular file, or of one that a link leads to. Nothing else is opened: a pipe may never end."""
+    if not stat.S_ISREG(os.stat(path).st_mode) and not os.path.isdir(path):
+        raise Fault('%s: it isn\'t a regular file' % shown(path))
     with open(path, 'rb') as file:
-        return hashlib.sha256(file.read()).hexdigest()
+        return file.read()
 
 
-def content_of(path, most):
+def content_within(path, most):
     """The bytes of a file, which may be a pipe. There may be so many at most."""
     try:
         with open(path, 'rb') as file:
@@ -158,6 +162,16 @@ def content_of(path, most):
     if len(content) > most:
         raise Fault('%s: more than %d bytes' % (shown(path), most))
     return content
+
+
+def is_plain(name):
+    """Whether a word names a file or a folder inside of another one."""
+    return name not in ('', '.', '..') and '/' not in name and '\0' not in name
+
+
+def checksum(path):
+    with open(path, 'rb') as file:
+        return hashlib.sha256(file.read()).hexdigest()
 
 
 def put_whole(path, content):

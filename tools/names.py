@@ -3,7 +3,7 @@
 Names of other packages come from vendors' export files, from `exports.txt` of tools/convert, and from the API of this
 card with its binding; those of the package itself from `exports.txt` and `lines.txt` in its folder.
 """
-from common import Fault, content_of, shown
+from common import Fault, content_within, shown
 from converter.api import Binding, api_classes
 from converter.classfile import Refusal
 from converter.folder import LINES
@@ -25,7 +25,7 @@ KINDS = {1: ('class', None), 2: ('field', 'fields'), 3: ('virtual method', 'virt
 
 def read_of(path, read):
     """What is read of a file's bytes. A fault names the file."""
-    content = content_of(path, MOST_BYTES)
+    content = content_within(path, MOST_BYTES)
     try:
         return read(content)
     except (Fault, Refusal) as fault:
@@ -57,7 +57,7 @@ def classes_of_export(content):
 
 def member_name(of, name):
     """A member of a class."""
-    return 'constructor of %s' % of if name == '<init>' else '%s.%s' % (of, shown(name))
+    return 'constructor of %s' % of if name == '<init>' else '%s.%s' % (of, name)
 
 
 class Names:
@@ -85,7 +85,7 @@ class Names:
         for one in self.chain(known) if table == 'virtual' else [known]:
             name = next((name for (name, _), number in getattr(one, table).items() if number == token), None)
             if name is not None:
-                return member_name(dotted(one.name), name)
+                return member_name(dotted(one.name), shown(name))
         return None
 
     def by_version(self, named):
@@ -123,9 +123,10 @@ class Own:
         if exports:
             self.add_exports(read_of(exports, lambda content: read_exports(content.decode())).values())
         if lines:
-            methods = read_of(lines, lambda content: read_lines(content.decode()))
-            self.add_static({offset: name for offset, (name, _, _) in methods.items()})
-            self.add_described({offset: name for offset, (name, _, _) in methods.items()})
+            known = read_of(lines, lambda content: read_lines(content.decode()))
+            self.classes = {**known.classes, **self.classes}
+            self.add_static(known.methods)
+            self.add_described(known.methods)
 
     def add_exports(self, known):
         """Takes the names of the classes that other packages see, if they are this package's."""
@@ -146,22 +147,22 @@ class Own:
         name."""
         for (name, _), token in getattr(known, table).items():
             if place_of(token):
-                self.members[(table, *place_of(token))] = member_name(dotted(known.name), name)
+                self.members[(table, *place_of(token))] = member_name(dotted(known.name), shown(name))
 
     def add_static(self, methods):
         """Takes the names of methods by their offsets."""
-        for offset, name in methods.items():
-            of, _, member = name.rpartition('.')
-            self.members.setdefault(('static_methods', offset), member_name(shown(of), member))
+        for offset, method in methods.items():
+            of, _, member = method.name.rpartition('.')
+            self.members.setdefault(('static_methods', offset), member_name(of, member))
 
     def add_described(self, methods):
         """Takes the names of classes and of virtual methods, by the offsets of methods."""
         for row in self.package.methods():
             if row.offset in methods and row.offset:
-                of, _, member = methods[row.offset].rpartition('.')
-                self.classes.setdefault(row.of, shown(of))
+                of, _, member = methods[row.offset].name.rpartition('.')
+                self.classes.setdefault(row.of, of)
                 if not row.flags & NOT_VIRTUAL:
-                    self.members.setdefault(('virtual', row.of, row.token), member_name(shown(of), member))
+                    self.members.setdefault(('virtual', row.of, row.token), member_name(of, member))
 
 
 class Entries:
@@ -225,11 +226,12 @@ class Entries:
 def names_of(exps=(), exports=(), binding=None):
     """The names of export files, of texts of tools/convert, and of the API, in this order."""
     names, api = Names(), Binding()
+    if binding is not None:
+        read_of(binding, lambda content: api.read(content.decode()))
+    of_api = api_classes(api)
     for path in exps:
         names.add(read_of(path, classes_of_export))
     for path in exports:
-        names.add(read_of(path, lambda content: read_exports(content.decode())))
-    if binding is not None:
-        read_of(binding, lambda content: api.read(content.decode()))
-    names.add(api_classes(api))
+        names.add(read_of(path, lambda content: read_exports(content.decode(), of_api)))
+    names.add(of_api)
     return names

@@ -5,6 +5,7 @@ from converter.world import Known, Package, aid_of, number_of
 PACKAGES = ['java/lang', 'javacard/framework']
 DEFAULT_PACKAGES = [('F04A430101', 1, 0), ('F04A430102', 1, 0)]
 IN_LANG = 12  # so many classes are in the first package
+MOST_OF_VIRTUAL, MOST_TOKEN = 127, 254
 
 # Classes in the order of their numbers, each with the class above.
 CLASSES = """
@@ -68,47 +69,87 @@ def member_rows(full):
 
 
 class Binding:
-    """What packages, classes and members are called by, by their numbers."""
+    """What packages, classes and members are called by, by their numbers: the default table, until a text is read."""
 
     def __init__(self):
         full, classes = class_rows()
+        self.above, self.rows = dict(classes), list(member_rows(full))
         self.packages = dict(enumerate(DEFAULT_PACKAGES, 1))
         self.classes = {at + 1: at if at < IN_LANG else at - IN_LANG for at in range(len(classes))}
-        self.members = {number: row[3] for number, row in enumerate(member_rows(full), 1)}
-        self.virtual = {number for number, row in enumerate(member_rows(full), 1) if row[2]}
+        self.members = {number: row[3] for number, row in enumerate(self.rows, 1)}
+        self.given = {}  # by where it may be given once, and an AID or a token: to what a line of the text has given it
 
     def read(self, text):
-        """Takes the names of a binding's text in place of the default ones."""
+        """Takes the names of a binding's text in place of the default ones. It has to name all."""
+        named = set()
         for number, line in enumerate(text.split('\n'), 1):
             if line and not line.startswith('#'):
-                try:
-                    self.take(*line.split(' '))
-                except (KeyError, ValueError, TypeError):
-                    raise Refusal('line %d is none of a binding' % number) from None
+                named.add(self.take_line(number, line, named))
+        for kind, table in self.tables().items():
+            for number in table:
+                if (kind, number) not in named:
+                    raise Refusal('it doesn\'t name %s %d' % (kind, number))
 
-    def take(self, kind, number, *words):
-        table = {'package': self.packages, 'class': self.classes, 'member': self.members}[kind]
+    def tables(self):
+        return {'package': self.packages, 'class': self.classes, 'member': self.members}
+
+    def parsed(self, kind, number, *words):
+        """The number that the words of a line name, and what they give: an AID and a version, or a token."""
         number = number_of(number)
-        table[number]  # KeyError where there is no such number
+        self.tables()[kind][number]  # KeyError where there is no such number
         if kind == 'package':
             name, major, minor = words
-            table[number] = aid_of(name).hex(), number_of(major), number_of(minor)
-        else:
-            token, = words
-            table[number] = number_of(token, 127 if kind == 'member' and number in self.virtual else 254)
+            return number, (aid_of(name).hex(), number_of(major), number_of(minor))
+        token, = words
+        is_virtual = kind == 'member' and self.rows[number - 1][2]
+        return number, number_of(token, MOST_OF_VIRTUAL if is_virtual else MOST_TOKEN)
+
+    def take_line(self, at, line, named):
+        """Takes a line; gives what it names."""
+        kind = line.split(' ')[0]
+        try:
+            number, value = self.parsed(*line.split(' '))
+        except (KeyError, ValueError, TypeError):
+            raise Refusal('line %d is none of a binding' % at) from None
+        name = '%s %d' % (kind, number)
+        if (kind, number) in named:
+            raise Refusal('line %d names %s again' % (at, name))
+        called, places = value[0] if kind == 'package' else value, self.places_of(kind, number)
+        for other in [self.given[place, called] for place in places if (place, called) in self.given]:
+            raise Refusal('line %d gives %s what a line before it gave %s' % (at, name, other))
+        self.given[places[0], called] = name
+        self.tables()[kind][number] = value
+        return kind, number
+
+    def places_of(self, kind, number):
+        """Where nothing else may be called the same, its own place first: all packages, the classes of a package, the
+        static members of a class, or the virtual ones of a class and of each above or below it."""
+        if kind != 'member':
+            return [kind if kind == 'package' else (kind, number > IN_LANG)]
+        of, _, is_virtual, *_ = self.rows[number - 1]
+        if not is_virtual:
+            return [('static', of)]
+        others = [name for name in self.above if name != of and (of in self.chain(name) or name in self.chain(of))]
+        return [('virtual', name) for name in [of, *others]]
+
+    def chain(self, name):
+        """A class and those above it."""
+        while name is not None:
+            yield name
+            name = self.above[name]
 
 
 def api_classes(binding):
     """The API's classes as a package sees them, by their names."""
-    packages = [Package(PACKAGES[number - 1], bytes.fromhex(name), version)
+    packages = [Package(PACKAGES[number - 1], bytes.fromhex(name), tuple(version))
                 for number, (name, *version) in sorted(binding.packages.items())]
     full, classes = class_rows()
-    known = {}
+    known, members = {}, list(enumerate(member_rows(full), 1))
     for at, (name, above) in enumerate(classes):
         virtual = dict(known[above].virtual) if above else {}
         known[name] = Known(name, above, packages[at >= IN_LANG], binding.classes[at + 1],
                             is_interface=name.endswith('/Shareable'), virtual=virtual)
-        for number, (of, member, is_virtual, _, kind) in enumerate(member_rows(full), 1):
+        for number, (of, member, is_virtual, _, kind) in members:
             if of == name:
                 table = known[name].virtual if is_virtual else known[name].static_methods
                 table.setdefault((member, kind), binding.members[number])

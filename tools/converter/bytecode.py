@@ -85,6 +85,8 @@ class Decoder:
         self.code, self.pool, self.at, self.start = code, pool, 0, 0
 
     def number(self, count, signed=False):
+        if self.at + count > len(self.code):
+            raise Refusal('its code is cut off')
         self.at += count
         return int.from_bytes(self.code[self.at - count:self.at], 'big', signed=signed)
 
@@ -178,11 +180,12 @@ class Decoder:
             return self.made('field', of, 'get' if opcode % 2 == 0 else 'put', self.pool.member(self.number(2)))
         if 0xB6 <= opcode <= 0xB9:
             reference = self.pool.member(self.number(2))
-            self.at += 2 if opcode == 0xB9 else 0
+            self.number(2 if opcode == 0xB9 else 0)
             return self.made('call', ['virtual', 'special', 'static', 'interface'][opcode - 0xB6], reference)
         if opcode in (0xBB, 0xBD, 0xC0, 0xC1):
             names = {0xBB: 'new', 0xBD: 'new_references', 0xC0: 'cast', 0xC1: 'test'}
-            return self.made(names[opcode], self.pool.class_name(self.number(2)))
+            read = self.pool.class_name if opcode == 0xBB else self.pool.class_or_array
+            return self.made(names[opcode], read(self.number(2)))
         return None
 
     def other(self, opcode):
@@ -201,13 +204,16 @@ class Decoder:
 
     def switch(self, is_table):
         """A switch by the numbers that it knows, with a target for each behind the default."""
-        self.at += -self.at % 4
+        self.number(-self.at % 4)
         default, first = self.number(4, signed=True), self.number(4, signed=True)
+        last = self.number(4, signed=True) if is_table else None
+        count = last - first + 1 if is_table else first
+        if not 0 <= count * (4 if is_table else 8) <= len(self.code) - self.at:
+            raise Refusal('a switch has more cases than its code has room for')
         if is_table:
-            matches = range(first, self.number(4, signed=True) + 1)
-            targets = [self.number(4, signed=True) for _ in matches]
+            matches, targets = range(first, last + 1), [self.number(4, signed=True) for _ in range(count)]
         else:
-            pairs = [(self.number(4, signed=True), self.number(4, signed=True)) for _ in range(first)]
+            pairs = [(self.number(4, signed=True), self.number(4, signed=True)) for _ in range(count)]
             matches, targets = [m for m, _ in pairs], [t for _, t in pairs]
         targets = tuple(self.start + target for target in [default, *targets])
         return self.made('switch', 'table' if is_table else 'lookup', list(matches), targets=targets, ends=True)

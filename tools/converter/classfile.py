@@ -1,6 +1,14 @@
-"""Reads class files: names, fields, methods with their code, and the pool's entries as far as they can be used."""
+"""Reads class files: names, fields, methods with their code, and the pool's entries as far as they can be used.
+
+Names and types are checked where they are read: they are those that a source of Java can have. So they hold no blank,
+no control character, and nothing that can't be printed, and stand as words in the texts that are written of them.
+"""
 import re
+import unicodedata
+from bisect import bisect_right
 from dataclasses import dataclass, field
+
+from common import Fault, shown
 
 PUBLIC, PRIVATE, PROTECTED, STATIC, FINAL, SYNCHRONIZED = 1, 2, 4, 8, 0x10, 0x20
 NATIVE, INTERFACE, ABSTRACT, SYNTHETIC = 0x100, 0x200, 0x400, 0x1000
@@ -10,7 +18,18 @@ SIZES = {3: 4, 4: 4, 5: 8, 6: 8, 7: 2, 8: 2, 9: 4, 10: 4, 11: 4, 12: 4, 15: 3, 1
 WORDS = {4: 'the type float', 5: 'the type long', 6: 'the type double', 8: 'a constant of type String'}
 
 
-class Refusal(Exception):
+# General categories of characters: the first of a name in Java, and those behind it. Java allows some that can't be
+# seen, and these are refused.
+LETTERS = {'Lu', 'Ll', 'Lt', 'Lm', 'Lo', 'Nl', 'Sc', 'Pc'}
+FURTHER = {*LETTERS, 'Nd', 'Mn', 'Mc'}
+METHODS = '<init>', '<clinit>'  # names that aren't Java's own
+NO_CLASSES = 'package-info', 'module-info'  # the same of class files
+ONE_TYPE = re.compile(r'\[*(?:[ZBSIJFDC]|L([^;\[]+);)')
+MOST_PARAMETERS = 255
+MOST_DIMENSIONS = 255
+
+
+class Refusal(Fault):
     """What is wrong, and in which class, method and line, as far as that is known."""
 
     def __init__(self, text, place=None):
@@ -21,9 +40,38 @@ class Refusal(Exception):
         return '%s: %s' % (self.place, self.text) if self.place else self.text
 
 
-def one_line(text):
-    """A text with what isn't printable escaped, as in names of files."""
-    return ''.join(c if c.isprintable() else c.encode('unicode_escape').decode() for c in str(text))
+def is_name(text):
+    """Whether a text is a name in Java."""
+    kinds = [unicodedata.category(char) for char in text]
+    return bool(kinds) and kinds[0] in LETTERS and FURTHER.issuperset(kinds) and shown(text) == text
+
+
+def is_method_name(text):
+    return text in METHODS or is_name(text)
+
+
+def is_class_name(text):
+    """Whether a text is the name of a class, with its package, as class files have it."""
+    *packages, name = text.split('/')
+    return all(map(is_name, packages)) and (is_name(name) or name in NO_CLASSES)
+
+
+def is_type(text):
+    """Whether a text is the type of a field."""
+    found = ONE_TYPE.fullmatch(text)
+    return bool(found) and text.count('[') <= MOST_DIMENSIONS and (found[1] is None or is_class_name(found[1]))
+
+
+def is_method_type(text):
+    """Whether a text is the type of a method."""
+    taken, is_closed, given = text[1:].partition(')')
+    parts = [found[0] for found in ONE_TYPE.finditer(taken)]
+    is_whole = text.startswith('(') and is_closed and ''.join(parts) == taken and len(parts) <= MOST_PARAMETERS
+    return bool(is_whole) and all(map(is_type, parts)) and (given == 'V' or is_type(given))
+
+
+def is_any_type(text):
+    return is_method_type(text) if text.startswith('(') else is_type(text)
 
 
 class Refusals(Exception):
@@ -44,7 +92,8 @@ class Reference:
 
 @dataclass
 class Code:
-    """A method's code. Handlers have four parts each: start, end, where they go on, and the class or None."""
+    """A method's code. Handlers have four parts each: start, end, where they go on, and the class or None. Lines are
+    pairs of a place and a line from there on, in order."""
     bytes: bytes
     locals: int
     handlers: list
@@ -52,7 +101,8 @@ class Code:
 
     def line(self, at):
         """The line of the instruction at a place, or None where the file doesn't say it."""
-        return max((pair for pair in self.lines if pair[0] <= at), default=(0, None))[1]
+        number = bisect_right(self.lines, (at, 1 << 16))
+        return self.lines[number - 1][1] if number else None
 
 
 @dataclass
@@ -112,7 +162,7 @@ class Pool:
     """The constant pool of a class file."""
 
     def __init__(self, source):
-        self.entries = [None]
+        self.entries, self.checked = [None], set()
         count = source.number(2)
         while len(self.entries) < count:
             tag = source.number(1)
@@ -135,18 +185,42 @@ class Pool:
     def text(self, index):
         return self.bytes_of(index, 1).decode('utf-8', 'replace')
 
+    def checked_text(self, index, is_right, what):
+        """A text that has to be a name or a type."""
+        text = self.text(index)
+        if (text, what) not in self.checked and not is_right(text):
+            raise Refusal('%s isn\'t %s in Java' % (text or 'an empty text', what))
+        self.checked.add((text, what))
+        return text
+
+    def member_name(self, index):
+        return self.checked_text(index, is_method_name, 'the name of a member')
+
+    def type(self, index):
+        return self.checked_text(index, is_any_type, 'a type')
+
     def class_name(self, index):
-        """The name of a class; that of an array of references is the type of the array."""
-        return self.text(int.from_bytes(self.bytes_of(index, 7), 'big'))
+        return self.checked_text(int.from_bytes(self.bytes_of(index, 7), 'big'), is_class_name, 'the name of a class')
+
+    def class_or_array(self, index):
+        """The name of a class, or the type of an array."""
+        named = int.from_bytes(self.bytes_of(index, 7), 'big')
+        return self.type(named) if self.text(named).startswith('[') else self.class_name(index)
 
     def member(self, index):
         of, named = self.pair(index, 9, 10, 11)
         name, kind = self.pair(named, 12)
-        return Reference(self.class_name(of), self.text(name), type_of_access(self.text(name), self.text(kind)))
+        name, kind = self.member_name(name), self.type(kind)
+        if self.entries[index][0] == 9 and kind.startswith('(') or self.entries[index][0] != 9 and kind[0] != '(':
+            raise Refusal('an entry of its constant pool isn\'t what it has to be')
+        return Reference(self.class_or_array(of), name, type_of_access(name, kind))
 
     def constant(self, index):
         """The number of a constant that code pushes; of another one a word for it."""
-        tag = self.entries[index][0]
+        entry = self.entries[index] if index < len(self.entries) else None
+        if entry is None:
+            raise Refusal('an entry of its constant pool isn\'t what it has to be')
+        tag = entry[0]
         if tag != 3:
             return WORDS.get(tag, 'a constant of type Class')
         return int.from_bytes(self.bytes_of(index, 3), 'big', signed=True)
@@ -154,7 +228,7 @@ class Pool:
     def type_of_dynamic(self, index):
         """The type of what invokedynamic calls."""
         _, named = self.pair(index, 18)
-        return self.text(self.pair(named, 12)[1])
+        return self.type(self.pair(named, 12)[1])
 
 
 def attributes(source, pool):
@@ -177,11 +251,12 @@ def read_code(content, pool):
     for table in attributes(source, pool).get('LineNumberTable', []):
         rows = Bytes(table)
         code.lines += [(rows.number(2), rows.number(2)) for _ in range(rows.number(2))]
+    code.lines.sort()
     return code
 
 
 def read_member(source, pool):
-    member = Member(source.number(2), pool.text(source.number(2)), pool.text(source.number(2)))
+    member = Member(source.number(2), pool.member_name(source.number(2)), pool.type(source.number(2)))
     if member.has(SYNTHETIC) and member.has(STATIC):
         member.type = type_of_access(member.name, member.type)
     found = attributes(source, pool)
@@ -191,6 +266,29 @@ def read_member(source, pool):
     return member
 
 
+def read_members(source, pool, is_right, word):
+    """All fields of a class, or all methods."""
+    found = {}
+    for _ in range(source.number(2)):
+        member = read_member(source, pool)
+        if not is_right(member.type) or member.key in found:
+            raise Refusal('the %s %s %s' % (word, member.name, 'is there twice' if member.key in found else
+                                            'has a type that isn\'t a %s\'s' % word))
+        found[member.key] = member
+    return list(found.values())
+
+
+def check_method(method):
+    """Refuses a method that is abstract and can't be, one that has no code and has to, and what no constructor and no
+    initialiser can be."""
+    if method.has(ABSTRACT) and (method.code or method.has(STATIC | PRIVATE) or method.name in METHODS):
+        raise Refusal('the method %s can\'t be abstract' % method.name)
+    if not method.code and not method.has(ABSTRACT | NATIVE):
+        raise Refusal('the method %s has no code' % method.name)
+    if method.name in METHODS and (method.has(STATIC) != (method.name == '<clinit>') or result(method.type) != 'V'):
+        raise Refusal('the method %s isn\'t as a compiler writes it' % method.name)
+
+
 def read_class(content):
     """The class of a class file's bytes."""
     source = Bytes(content)
@@ -198,13 +296,15 @@ def read_class(content):
         raise Refusal('it is no class file')
     source.number(4)
     pool = Pool(source)
-    flags, name, above = source.number(2), pool.class_name(source.number(2)), source.number(2)
+    flags, name, above = source.number(2), pool.class_name(source.number(2)), pool.class_name(source.number(2))
     interfaces = [pool.class_name(source.number(2)) for _ in range(source.number(2))]
-    fields = [read_member(source, pool) for _ in range(source.number(2))]
-    methods = [read_member(source, pool) for _ in range(source.number(2))]
+    fields = read_members(source, pool, is_type, 'field')
+    methods = read_members(source, pool, is_method_type, 'method')
+    for method in methods:
+        check_method(method)
     named = attributes(source, pool).get('SourceFile')
     text = pool.text(int.from_bytes(named[0], 'big')) if named else None
-    return ClassFile(name, pool.class_name(above) if above else None, interfaces, flags, fields, methods, pool, text)
+    return ClassFile(name, above, interfaces, flags, fields, methods, pool, text)
 
 
 def with_line(name, line):

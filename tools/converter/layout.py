@@ -33,6 +33,8 @@ def add_classes(world, files, refusals):
     """The classes of a package in their order; each is put into the world. Methods that are refused are gathered. Where
     a class is refused for itself, nothing else of the package can be told."""
     found, broken, seen = [], [], 0
+    if len(files) > MOST:
+        raise Refusal('there are more than %d classes' % MOST)
     for file in in_order(files):
         is_interface = file.has(INTERFACE)
         known = Known(file.name, None if is_interface else file.above, is_interface=is_interface, file=file)
@@ -45,8 +47,6 @@ def add_classes(world, files, refusals):
             broken.append(Refusal(refusal.text, refusal.place or dotted(file.name)))
             known.above = None if is_interface else OBJECT
         found.append(known)
-    if len(found) > MOST:
-        broken.append(Refusal('there are more than %d classes' % MOST))
     if broken:
         raise Refusals(broken + refusals)
     return found
@@ -139,8 +139,9 @@ def add_static_members(known):
     """Static members and constructors; those that other packages see get tokens."""
     methods = [m for m in known.file.methods if m.name == '<init>' or m.has(STATIC) and m.name != '<clinit>']
     for members, table in (methods, known.static_methods), (static_fields(known.file), known.static_fields):
-        seen = [m for m in members if known.token is not None and m.has(VISIBLE)]
-        table.update({m.key: seen.index(m) if m in seen else None for m in members})
+        seen = [m.key for m in members if known.token is not None and m.has(VISIBLE)]
+        table.update({m.key: None for m in members})
+        table.update(zip(seen, range(len(seen))))
         if len(seen) > MOST:
             raise Refusal('it has more than %d static members that other packages see' % MOST)
 

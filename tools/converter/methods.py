@@ -1,6 +1,7 @@
 """Writes the Method component: the code of all methods, headers and handlers. Also the order of the constant pool."""
 from converter.assemble import Assembler, u1, u2
 from converter.classfile import Refusal, parameters
+from converter.layout import place_of
 from converter.world import MOST
 
 # Kinds of entries in the order of the pool. Fields of objects come first, as instructions have a byte for them.
@@ -21,10 +22,11 @@ class Methods:
         self.pool = {entry: number for number, entry in enumerate(ordered)}
         self.offsets, self.rows = {}, {}
         self.codes = codes = {where: Assembler(m.cards, self.pool) for where, m in translated.items()}
-        handlers = {where: list(self.handlers(codes[where], m)) for where, m in translated.items()}
-        count = sum(map(len, handlers.values()))
+        covering = {where: ranges(codes[where], m) for where, m in translated.items()}
+        count = sum(map(len, covering.values()))
         if count > MOST:
-            raise Refusal('there are more than %d handlers' % MOST)
+            raise too_many(classes, covering, count)
+        handlers = {where: list(self.handlers(rows)) for where, rows in covering.items()}
         at, table, content = 1 + 8 * count, b'', b''
         for where, method in written(classes):
             head = header(method, translated.get(where))
@@ -36,14 +38,27 @@ class Methods:
             content += head + code
         self.info = u1(count) + table + content
 
-    def handlers(self, assembled, method):
-        """Handlers by places of the card's code, with the index of what they catch, and whether one behind covers the
-        same code. Those that cover nothing are left out."""
-        rows = [(*map(assembled.at, places), entry) for *places, entry in method.handlers]
-        rows = [row for row in rows if row[0] < row[1]]
+    def handlers(self, rows):
+        """Handlers of a method, with the index of what they catch, and whether one behind covers the same code."""
         for number, (start, end, to, entry) in enumerate(rows):
             is_covered = any(first < end and start < last for first, last, _, _ in rows[number + 1:])
             yield start, end - start, to, self.pool[entry] if entry else 0, is_covered
+
+
+def ranges(assembled, method):
+    """Handlers of a method by places of the card's code: start, end, where they go on, and the entry of what they
+    catch. Those that cover nothing are left out."""
+    rows = [(*map(assembled.at, places), entry) for *places, entry in method.handlers]
+    return [row for row in rows if row[0] < row[1]]
+
+
+def too_many(classes, covering, count):
+    """The refusal of too many handlers, at the method that has most of them."""
+    known, method = max(((k, method) for k in classes for method in k.file.methods),
+                        key=lambda pair: len(covering.get((pair[0].name, pair[1].key), [])))
+    most = len(covering[known.name, method.key])
+    return Refusal('the package has %d handlers, and at most there are %d: %d are of this method, as javac splits the '
+                   'range of a try at each return and jump out of it' % (count, MOST, most), place_of(known, method))
 
 
 def written(classes):

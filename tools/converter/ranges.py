@@ -10,8 +10,11 @@ A value is a range, REFERENCE, TOLD where it comes from something that is refuse
 known. An operand has a source beside it: a local and a number, where it is the sum of both as they are now, or None. By
 that a comparison says something of a local, on either way that goes on from it.
 """
+from heapq import heappop, heappush
+
 from converter.classfile import Refusal, STATIC, parameters, result
 from converter.numbers import BYTE, INT, OPERATORS, SHORT, common, left_of, lies_in, widened
+from converter.world import MOST
 from instructions import OPCODES
 
 OF_TYPE = {'Z': BYTE, 'B': BYTE, 'S': SHORT}
@@ -21,6 +24,9 @@ NEEDED = {'e': SHORT, 'i': (SHORT[0], 0xFFFF)}
 # The card's branches that compare numbers, by conditions.
 WITH_ZERO, WITH_ANOTHER = (range(OPCODES[first], OPCODES[first] + 6) for first in ('ifeq', 'if_scmpeq'))
 PATIENCE = 4  # how often a loop is looked at before its numbers are widened
+MOST_WORK = 5000000  # values that are looked at: some seconds, and many times what a compiler's code takes
+AT_ONCE = 3  # so many handlers or places are looked at as quickly as one value
+TOO_MANY = 'the method needs more than %d %s'
 WIDE = 'an int here may need more than 16 bits: cast the value to short or byte before'
 
 
@@ -48,6 +54,7 @@ class Ranges:
         self.heads = {target for i in instructions for target in i.targets if target <= i.at}
         self.heads.update(at for start, end, at, _ in method.code.handlers if at < end)
         self.states, self.visits, self.faults, self.waiting, self.never = {}, {}, {}, [], {}
+        self.work = 0
         self.run()
 
     def run(self):
@@ -55,14 +62,13 @@ class Ranges:
         first += [value for kind in parameters(self.method.type) for value in values_of(kind)]
         self.arrive(0, tuple(first + [None] * (self.method.code.locals - len(first))), (), ())
         while self.waiting:
-            at = min(self.waiting)
-            self.waiting.remove(at)
-            self.visit(self.instructions[at])
+            self.visit(self.instructions[heappop(self.waiting)])
             if not self.waiting:
                 self.reach_the_rest()
 
     def reach_the_rest(self):
         """Ways that no run takes are followed too where they lead to code that no other way leads to."""
+        self.count_work(len(self.never) // AT_ONCE)
         for at, state in sorted(self.never.items()):
             if at not in self.states:
                 self.arrive(at, *state)
@@ -72,13 +78,16 @@ class Ranges:
         """A state goes on at a place, and is joined with what has arrived there before."""
         if at not in self.instructions:
             raise Refusal('control flow goes on where no instruction is')
+        if len(state[1]) > MOST:
+            raise Refusal(TOO_MANY % (MOST, 'operands'))
+        self.count_work(1 + len(state[0]) + len(state[1]))
         before = self.states.get(at)
         if before:
             state = self.with_one_before(at, before, state)
         if state != before:
             self.states[at] = state
             if at not in self.waiting:
-                self.waiting.append(at)
+                heappush(self.waiting, at)
 
     def with_one_before(self, at, before, now):
         if len(before[1]) != len(now[1]):
@@ -93,12 +102,18 @@ class Ranges:
             found.append(tuple(values))
         return *found, tuple(b if b == n else None for b, n in zip(before[2], now[2]))
 
+    def count_work(self, more):
+        self.work += more
+        if self.work > MOST_WORK:
+            raise Refusal('it would take too long to work out its numbers')
+
     def visit(self, instruction):
         self.at = instruction.at
         locals, operands, sources = self.states[self.at]
-        for start, end, at, _ in self.method.code.handlers:
-            if start <= self.at < end:
-                self.arrive(at, locals, (REFERENCE,), (None,))
+        handlers = self.method.code.handlers
+        self.count_work((len(self.waiting) + len(handlers)) // AT_ONCE)
+        for at in dict.fromkeys(at for start, end, at, _ in handlers if start <= self.at < end):
+            self.arrive(at, locals, (REFERENCE,), (None,))
         self.locals, self.operands, self.compared = list(locals), list(zip(operands, sources)), None
         getattr(self, 'on_' + instruction.operation)(*instruction.operands)
         for target in instruction.targets:

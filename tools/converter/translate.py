@@ -1,11 +1,12 @@
 """Turns the code of a class file's method into instructions of the card."""
+import re
 from dataclasses import dataclass
 
 from converter.bytecode import Decoder
 from converter.classfile import PRIVATE, Reference, Refusal, Refusals, STATIC, parameters, with_line
 from converter.layout import method_of, place_of
 from converter.numbers import BYTE, INT, SHORT, lies_in
-from converter.ranges import Ranges
+from converter.ranges import Ranges, TOO_MANY
 from converter.world import MOST, OBJECT, dotted
 from instructions import OPCODES
 
@@ -13,6 +14,19 @@ TESTS_NULL = Reference('java/util/Objects', 'requireNonNull', '(Ljava/lang/Objec
 KINDS = {'Z': 10, 'B': 11, 'S': 12}  # of arrays, for newarray, checkcast and instanceof
 FORMS = {'Z': 'b', 'B': 'b', 'S': 's'}  # of instructions on fields; of a reference a
 BEFORE = -1  # the place in front of a method's code
+
+
+STRINGS = 'a switch over Strings isn\'t in the profile'
+HASH_OF_STRING = Reference('java/lang/String', 'hashCode', '()I')
+OF_STRING = re.compile(r'\bjava\.lang\.String\b|\bof type String\b')  # what else is told where one is switched over
+LIBRARIES = re.compile('javax?/|javacardx?/')  # packages that are Java's or Java Card's own
+
+
+def has_member(known, member):
+    """Whether a class itself has a member, whoever may name it."""
+    key = member.name, member.type
+    tables = (known.virtual, known.package_virtual, known.fields, known.static_methods, known.static_fields)
+    return any(key in table for table in tables) or bool(known.file and method_of(known, key))
 
 
 @dataclass(frozen=True)
@@ -63,7 +77,9 @@ class Translator:
         if self.faults:
             name = '%s.%s' % (dotted(self.known.name), self.method.name)
             lines = [(self.method.code.line(max(at, 0)), text) for at, text in sorted(self.faults)]
-            raise Refusals([Refusal(text, with_line(name, line)) for line, text in dict.fromkeys(lines)])
+            switched = {line for line, text in lines if text == STRINGS}
+            told = [(line, text) for line, text in lines if line not in switched or not OF_STRING.search(text)]
+            raise Refusals([Refusal(text, with_line(name, line)) for line, text in dict.fromkeys(told)])
         return found
 
     def tried(self, at, work, *arguments):
@@ -78,6 +94,8 @@ class Translator:
         code = self.method.code
         self.instructions = Decoder(code.bytes, self.known.file.pool).instructions()
         self.check_members()
+        if code.locals > MOST:
+            raise Refusal(TOO_MANY % (MOST, 'locals'))
         ranges = Ranges(self.method, self.instructions)
         self.faults += [(at, text) for at, text in ranges.faults.items() if at not in self.refused]
         self.refused.update(ranges.faults)
@@ -93,19 +111,37 @@ class Translator:
                     for *places, caught in code.handlers]
         for count, word in (self.depth, 'operands'), (max(self.used, arguments), 'locals'):
             if count > MOST:
-                raise Refusal('the method needs more than %d %s' % (MOST, word))
+                raise Refusal(TOO_MANY % (MOST, word))
         return Translated(self.cards, handlers, self.depth, arguments, max(self.used - arguments, 0))
 
     def check_members(self):
-        """Refuses instructions and types of members before numbers are looked at, so that the reason is the plainer
-        one. What is refused so is looked at no more."""
+        """Refuses instructions and members before numbers are looked at, so that the reason is the plainer one. What is
+        refused so is looked at no more."""
+        switches = {before.at: i.at for before, i in zip(self.instructions, self.instructions[1:])
+                    if i.operation == 'switch' and HASH_OF_STRING in before.operands}
+        self.faults += [(at, STRINGS) for at in switches]
         for instruction in self.instructions:
             if instruction.operation == 'refused':
                 self.faults.append((instruction.at, instruction.operands[0]))
-            for operand in instruction.operands:
-                if hasattr(operand, 'type'):
-                    self.tried(instruction.at, self.world.check_type, operand.type)
-        self.refused = {at for at, _ in self.faults}
+            for member in [operand for operand in instruction.operands if isinstance(operand, Reference)]:
+                if instruction.at not in switches:
+                    self.tried(instruction.at, self.check_member, member)
+        self.refused = {at for at, _ in self.faults} | set(switches.values())
+
+    def check_member(self, member):
+        """Refuses a member that no class has, or whose type the profile hasn't: the member first."""
+        if member != TESTS_NULL and not member.of.startswith('[') and not self.is_there(member):
+            raise self.missing(member)
+        self.world.check_type(member.type)
+
+    def is_there(self, member):
+        """Whether a member is one of its class or of those above. Of a class that isn't known it is as if it were, as
+        the class is told; but not of one by a name of Java's or Java Card's own libraries, unless it is made anew."""
+        if member.of not in self.world.known:
+            return member.name == '<init>' or not LIBRARIES.match(member.of)
+        above = list(self.world.chain(member.of))
+        names = {name for k in above for name in [k.name, *k.interfaces]} | {OBJECT}
+        return any(has_member(self.world.known[name], member) for name in names if name in self.world.known)
 
     def translate(self, waiting):
         """Translates the first of the instructions, perhaps with some behind it; gives how many. What is never reached
@@ -259,7 +295,10 @@ class Translator:
         self.tested(OPCODES['instanceof'], name)
 
     def missing(self, member):
-        return Refusal('%s.%s isn\'t among the members that a package can name' % (dotted(member.of), member.name))
+        known = self.world.known.get(member.of)
+        is_of_api = LIBRARIES.match(member.of) and not (known and known.file)
+        what = 'isn\'t in the profile\'s API' if is_of_api else 'isn\'t among the members that a package can name'
+        return Refusal('%s.%s %s' % (dotted(member.of), member.name, what))
 
     def field_entry(self, member):
         """An entry for a field of objects, of the class that declares it."""

@@ -17,13 +17,15 @@ A line of such a text is one of these. Names and types are those of class files;
 import re
 from dataclasses import dataclass, field
 
-from converter.classfile import PROTECTED, PUBLIC, Refusal, parameters, result
+from converter.classfile import PROTECTED, PUBLIC, Refusal, is_class_name, is_method_name, is_method_type, is_name
+from converter.classfile import is_type, parameters, result
 
 OBJECT, SHAREABLE = 'java/lang/Object', 'javacard/framework/Shareable'
 PRIMITIVES = 'ZBS'
 WORDS = {'I': 'int', 'J': 'long', 'F': 'float', 'D': 'double', 'C': 'char'}
 EXPORTS = 'exports.txt'  # the name of such a text
 MOST = 255  # classes, tokens, locals: what a byte counts
+DIGITS = 9  # of a number, at most, without zeros that lead
 
 
 @dataclass(frozen=True)
@@ -109,9 +111,10 @@ TABLES = {
 
 def number_of(text, most=MOST):
     """A number in decimal digits, of one byte where nothing else is said."""
-    if not re.fullmatch('[0-9]+', text) or int(text) > most:
+    digits = text.lstrip('0') or text[:1]
+    if not re.fullmatch('[0-9]+', text) or len(digits) > DIGITS or int(digits) > most:
         raise ValueError(text)
-    return int(text)
+    return int(digits)
 
 
 def aid_of(text):
@@ -121,41 +124,82 @@ def aid_of(text):
     return bytes.fromhex(text)
 
 
-def check_kind(kind):
-    """That a text is a type as class files have it."""
-    parts = [*parameters(kind), result(kind)] if kind.startswith('(') else [kind]
-    if not all(re.fullmatch(r'V|\[*([ZBSIJFDC]|L[^;\[]+;)', part) for part in parts):
-        raise ValueError(kind)
+def word(text, is_right):
+    """A word of a line, which is of a kind."""
+    if not is_right(text):
+        raise ValueError(text)
+    return text
 
 
-def read_exports(text):
-    """The classes of a package that was converted before, by their names."""
-    known, package, at = {}, None, None
+def check_new(package, known):
+    """Refuses a package by the name or the AID of another one, of which classes are known."""
+    for other in [known.package for known in known.values()]:
+        if package.name == other.name:
+            raise Refusal('the package %s is known already, from the API or an import' % dotted(package.name))
+        if package.aid == other.aid:
+            raise Refusal('the package %s has the AID of %s' % (dotted(package.name), dotted(other.name)))
+
+
+class Exports:
+    """The text of a package that was converted before, read line by line: `known` has its classes by their names.
+    A class is of the package that the text is of, and neither the package nor the class is known from elsewhere: else
+    a library could stand in the place of the API, or of another library."""
+
+    def __init__(self, before):
+        self.before, self.known, self.package, self.at = before, {}, None, None
+
+    def take(self, first, *rest):
+        """Takes the words of a line."""
+        if first == 'package':
+            self.take_package(*rest)
+        elif first in ('class', 'interface'):
+            self.take_class(first == 'interface', *rest)
+        elif first == 'implements':
+            name, = rest
+            self.at.interfaces.append(word(name, is_class_name))
+        elif first == 'closed':
+            name, kind = rest
+            self.at.closed.add((word(name, is_name), word(kind, is_method_type)))
+        else:
+            self.take_member(first, *rest)
+
+    def take_package(self, name, aid, major, minor):
+        if self.package:
+            raise Refusal('it is of a second package')
+        package = Package(word(name, is_class_name), aid_of(aid), (number_of(major), number_of(minor)))
+        check_new(package, self.before)
+        self.package = package
+
+    def take_class(self, is_interface, name, token, *above):
+        above = None if is_interface and not above else word(*above, is_class_name)
+        if word(name, is_class_name).rpartition('/')[0] != self.package.name:
+            raise Refusal('the class %s isn\'t of the package %s' % (dotted(name), dotted(self.package.name)))
+        if name in self.known or name in self.before:
+            raise Refusal('the class %s is known already' % dotted(name))
+        self.at = self.known[name] = Known(name, above, self.package, number_of(token), is_interface)
+
+    def take_member(self, kind_of_member, name, kind, token):
+        is_field = kind_of_member.endswith('field')
+        key = word(name, is_name if is_field else is_method_name), word(kind, is_type if is_field else is_method_type)
+        getattr(self.at, TABLES[kind_of_member])[key] = number_of(token)
+
+
+def read_exports(text, before=()):
+    """The classes of a package that was converted before, by their names. Classes that are known before are those of
+    the API and of other imports."""
+    exports = Exports(dict(before))
     for number, line in enumerate(text.split('\n'), 1):
-        word, *rest = line.split() or ['#']
+        words = line.split()
         try:
-            if word == 'package':
-                name, aid, major, minor = rest
-                package = Package(name, aid_of(aid), (number_of(major), number_of(minor)))
-            elif word in ('class', 'interface') and package:
-                above = rest[2] if word == 'class' else None
-                at = Known(rest[0], above, package, number_of(rest[1]), word == 'interface')
-                known[at.name] = at
-            elif word == 'implements':
-                at.interfaces.append(rest[0])
-            elif word == 'closed':
-                at.closed.add((rest[0], rest[1]))
-            elif word in TABLES:
-                name, kind, token = rest
-                check_kind(kind)
-                getattr(at, TABLES[word])[name, kind] = number_of(token)
-            elif not word.startswith('#'):
-                raise ValueError
-        except (ValueError, IndexError, AttributeError):
+            if words and not words[0].startswith('#'):
+                exports.take(*words)
+        except Refusal as refusal:
+            raise Refusal('line %d: %s' % (number, refusal)) from None
+        except (ValueError, IndexError, KeyError, AttributeError, TypeError):
             raise Refusal('line %d is none of %s' % (number, EXPORTS)) from None
-    if package is None:
+    if exports.package is None:
         raise Refusal('it names no package')
-    return known
+    return exports.known
 
 
 def seen_above(world, of):

@@ -46,5 +46,5 @@ mod ImageWords
 mod MadeArrays
 mod NativeCalls
 mod Putting
-mod Unwinding
+mod Outward
 mod Showing

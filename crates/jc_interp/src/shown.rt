@@ -1,6 +1,6 @@
 //! The frame in which a call stopped, as it is shown.
 
-ghost use Rattle.std.specs.Prelude.{◌≡◌, true, length};
+ghost use Rattle.std.specs.Prelude.{◌≡◌, false};
 ghost use Rattle.std.specs.Bool.{OnTrue};
 ghost use Rattle.jc_interp.specs.PrivateShown.{IsShown, MayBeShown};
 
@@ -107,7 +107,7 @@ impl WordMachine {
         let frame = self.frames.top()?;
         let opcode = *code_of(&program.methods, frame).get(usize::from(frame.pc))?;
         let above = operands_on_index(opcode)?;
-        let array = self.frames.operand(above + 1);
+        let array = self.frames.operand(above.saturating_add(1));
         if !self.store.is_there(array) {
             return None;
         }

@@ -1,5 +1,5 @@
 -- Budgets of steps, as their decimal digits are read.
-use Rattle.std.proofs.Common.{◌≡◌, ℕ, ◌+◌, ◌<◌, ◌^◌, ◌==◌, ◌&&◌, Bool, true, false, nat_lt, List, [], ◌∷◌, length, refl}
+use Rattle.std.proofs.Common.{◌≡◌, ℕ, ◌<◌, ◌^◌, ◌&&◌, Bool, true, nat_lt, List, [], ◌∷◌, length, refl}
 use Rattle.std.proofs.Common.{Option, Some, None, ap, sym, ◌∙◌, arith, Result, Ok, Err, if◌then◌else◌}
 use Rattle.std.specs.Char.{is_ascii_digit}
 use Rattle.std.specs.List.{list_all}

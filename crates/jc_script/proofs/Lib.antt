@@ -1,7 +1,7 @@
-mod Trims
 mod Budgets
 mod Cuts
 mod Spelling
+mod Joining
 mod Feeds
 mod Lines
 mod Parts

@@ -10,11 +10,12 @@ use Rattle.std.specs.Str.{is_utf8}
 use Rattle.hex.specs.Hex.{encode_upper}
 use Rattle.jc_api.specs.Text.{words_of}
 use Rattle.jc_base.specs.Aid.{has_aid_length}
-use Rattle.jc_script.specs.Script.{budget_of, control_in, trimmed}
+use Rattle.jc_api.specs.Options.{◌>>=◌}
+use Rattle.jc_script.specs.Script.{budget_of, control_in, cut_name, is_quote, name_of, quoted_names, trimmed}
 use Rattle.jc_script.specs.declared.fault.LineCause.{LineCause}
 use Rattle.jc_script.specs.declared.fault.LineCause.TheVariants.{AidLength, BlankTooMany, NoBudget, NoDigit, NotText}
-use Rattle.jc_script.specs.declared.fault.LineCause.TheVariants.{OddDigit, TooLong, TooMany, UnknownCommand, Unprintable}
-use Rattle.jc_script.specs.declared.fault.LineCause.TheVariants.{WordMissing, WordTooMany}
+use Rattle.jc_script.specs.declared.fault.LineCause.TheVariants.{OddDigit, OpenQuote, TooLong, TooMany, UnknownCommand}
+use Rattle.jc_script.specs.declared.fault.LineCause.TheVariants.{Unprintable, WordMissing, WordTooMany}
 use Rattle.jc_script.specs.declared.fault.LineFault.{LineFault}
 use Rattle.jc_script.specs.declared.finding.Dialect.{Dialect}
 use Rattle.jc_script.specs.declared.finding.Dialect.TheVariants.{Script, Session}
@@ -95,6 +96,31 @@ words_fault (form ∷ forms) needed column (word ∷ words) =
     option_map_or Some (word_fault form column word)
     (words_fault forms (needed - 1) (column + (length word + 1)) words)
 
+-- ---- names in quotes, in a session
+
+-- whether a name begins with a quote that has no other
+abbrev pub is_open : List ℕ → Bool
+is_open [] = false
+is_open (b ∷ text) = is_quote b && not (is_some (position is_quote text))
+
+-- such a quote in front of a line's last bytes
+abbrev pub open_fault : (line last : List ℕ) → Option LineFault
+open_fault line last =
+    if is_open last then Some (fault_at OpenQuote (length line + 1 - length last)) else None
+
+-- or in front of the second name, where the first is one
+abbrev pub second_fault : (line last : List ℕ) → Option LineFault
+second_fault line last = do
+  folder ← cut_name last
+  name ← name_of folder.name
+  rest ← folder.behind
+  open_fault line rest
+
+abbrev pub quote_fault : List ℕ → Option LineFault
+quote_fault line = do
+  names ← quoted_names line
+  option_map_or Some (open_fault line names) (second_fault line names)
+
 -- ---- a line
 
 -- the forms of a command's words, and how many of them have to stand there
@@ -152,9 +178,18 @@ abbrev pub looked_at : Dialect → List ℕ → List ℕ
 looked_at Script line = line
 looked_at Session line = trimmed line
 
+-- a script has no names in quotes
+abbrev pub quote_fault_in : Dialect → List ℕ → Option LineFault
+quote_fault_in Script line = None
+quote_fault_in Session line = quote_fault line
+
+-- a quote without another, or the first fault among the words
+abbrev pub fault_of : Dialect → List ℕ → LineFault
+fault_of dialect line = unwrap_or (quote_fault_in dialect line) (fault_among dialect (words_of line))
+
 -- the first fault of a line that is no command, of a script or of a session
 abbrev pub fault_in : Dialect → List ℕ → LineFault
-fault_in dialect line = fault_among dialect (words_of (looked_at dialect line))
+fault_in dialect line = fault_of dialect (looked_at dialect line)
 
 -- ---- as text
 
@@ -171,6 +206,7 @@ cause_text (NoDigit b) = codes "no hexadecimal digit: " ++ encode_utf8 b
 cause_text (Unprintable b) = codes "a byte that isn't printable: " ++ escaped b
 cause_text AidLength = codes "an AID with fewer than 5 or more than 16 bytes"
 cause_text NotText = codes "a name that isn't UTF-8"
+cause_text OpenQuote = codes "a quote without another"
 cause_text NoBudget = codes "no number from 1 to 4294967295"
 cause_text TooLong = codes "more than 1024 bytes"
 cause_text TooMany = codes "more than 100000 lines"

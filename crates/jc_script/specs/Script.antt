@@ -1,6 +1,7 @@
 -- Scripts: their lines, and the commands that lines ask for. A byte is its number: 10 is the line feed.
-use Rattle.std.specs.Prelude.{ℕ, suc, ◌+◌, ◌-◌, ◌^◌, ◌==◌, ◌&&◌, ◌||◌, nat_le, nat_lt, List, [], ◌∷◌, length, Option, Some, None}
-use Rattle.std.specs.Prelude.{◌++◌, take, Bool, bytes_eq, codes, not, position, if◌then◌else◌}
+use Rattle.std.specs.Prelude.{ℕ, suc, ◌+◌, ◌-◌, ◌^◌, ◌==◌, ◌&&◌, ◌||◌, nat_le, nat_lt}
+use Rattle.std.specs.Prelude.{List, [], ◌∷◌, ◌++◌, drop, length, take, Option, Some, None}
+use Rattle.std.specs.Prelude.{Bool, bytes_eq, codes, not, position, if◌then◌else◌}
 use Rattle.std.specs.Char.{is_ascii_control, is_ascii_digit, is_ascii_whitespace}
 use Rattle.std.specs.List.{list_all, onto_first, suffix_len}
 use Rattle.std.specs.Option.{is_some, option_map_or}
@@ -62,12 +63,16 @@ budget_in text = if is_budget text then Some (digits_value 10 text) else None
 abbrev pub budget_of : List ℕ → Option ℕ
 budget_of word = text_of word >>= budget_in
 
--- `load FOLDER CERTIFICATE`
-unfoldable pub load_asked : List (List ℕ) → Option ScriptCommand
-load_asked (folder ∷ certificate ∷ []) = do
+-- a folder and a certificate, where both are names
+abbrev pub loading : (folder certificate : List ℕ) → Option ScriptCommand
+loading folder certificate = do
   f ← name_of folder
   c ← name_of certificate
   Some (Load f c)
+
+-- `load FOLDER CERTIFICATE`
+unfoldable pub load_asked : List (List ℕ) → Option ScriptCommand
+load_asked (folder ∷ certificate ∷ []) = loading folder certificate
 load_asked _ = None
 
 -- `install APPLET INSTANCE`, and DATA behind them
@@ -137,6 +142,60 @@ asked_in_session (keyword ∷ words) =
     else (if bytes_eq keyword (codes "apdu") then pieces_asked words
     else asked (keyword ∷ words))
 
+-- ---- names in quotes, in a session: `load "my folder" "my certificate"`
+
+-- a name at the front of a text, and what stands behind it and a space, if a space stands there
+pub record Cut : Type 0 where
+  pub name : List ℕ
+  pub behind : Option (List ℕ)
+
+abbrev pub is_space : ℕ → Bool
+is_space b = b == 32
+
+abbrev pub is_quote : ℕ → Bool
+is_quote b = b == 34
+
+-- a name that doesn't begin with a quote goes up to the first space
+abbrev pub cut_at_space : List ℕ → Cut
+cut_at_space text =
+    option_map_or (λ at. record { name = take at text; behind = Some (drop (at + 1) text) }) (position is_space text)
+    (record { name = text; behind = None })
+
+-- behind a closing quote stands nothing, or a space
+abbrev pub behind_quote : (name text : List ℕ) → Option Cut
+behind_quote name [] = Some (record { name = name; behind = None })
+behind_quote name (b ∷ text) = if is_space b then Some (record { name = name; behind = Some text }) else None
+
+-- behind an opening quote the name goes up to the next quote
+abbrev pub cut_at_quote : List ℕ → Option Cut
+cut_at_quote text = do
+  at ← position is_quote text
+  behind_quote (take at text) (drop (at + 1) text)
+
+-- a name that begins with a quote stands between two quotes
+unfoldable pub cut_name : List ℕ → Option Cut
+cut_name [] = Some (cut_at_space [])
+cut_name (b ∷ text) = if is_quote b then cut_at_quote text else Some (cut_at_space (b ∷ text))
+
+-- two names, one space between them and nothing behind them
+unfoldable pub quoted_load : List ℕ → Option ScriptCommand
+quoted_load text = do
+  folder ← cut_name text
+  rest ← folder.behind
+  certificate ← cut_name rest
+  if is_some certificate.behind then None else loading folder.name certificate.name
+
+-- what stands behind `load` and a space, in a line that has a quote
+abbrev pub quoted_names : List ℕ → Option (List ℕ)
+quoted_names line =
+    if bytes_eq (cut_at_space line).name (codes "load") && is_some (position is_quote line)
+    then (cut_at_space line).behind
+    else None
+
+-- a line of a session, by its names in quotes or by its words
+unfoldable pub asked_by_line : List ℕ → Option ScriptCommand
+asked_by_line line = option_map_or quoted_load (quoted_names line) (asked_in_session (words_of line))
+
 -- ---- what a line says
 
 pub data ScriptLine : Type 0 where
@@ -152,13 +211,14 @@ said_by line = if is_skipped line then Skipped else option_map_or Asks (asked (w
 abbrev pub trimmed : List ℕ → List ℕ
 trimmed line = take (length line - suffix_len is_ascii_whitespace line) line
 
--- a line of a session: `cells`, `objects` and `steps` too; bytes of a command may stand in several words
+-- a line of a session: `cells`, `objects` and `steps` too; bytes of a command may stand in several words, and names in
+-- quotes
 unfoldable pub said_trimmed : List ℕ → ScriptLine
 said_trimmed line =
     if bytes_eq line (codes "cells") then Asks Cells
     else (if bytes_eq line (codes "objects") then Asks Objects
     else (if is_skipped line then Skipped
-    else option_map_or Asks (asked_in_session (words_of line)) Bad))
+    else option_map_or Asks (asked_by_line line) Bad))
 
 -- white space at its end counts for nothing
 abbrev pub said_in_session : List ℕ → ScriptLine

@@ -3,11 +3,13 @@
 ghost use Rattle.std.specs.Prelude.{◌≡◌, ◌≤◌, [], length, option_map};
 ghost use Rattle.jc_script.specs.Script as script;
 ghost use Rattle.jc_script.specs.Script.{apdu_asked, asked, asked_in_session, install_asked, load_asked, reset_asked};
+ghost use Rattle.jc_script.specs.Script.{asked_by_line, loading, quoted_load};
 ghost use Rattle.jc_script.specs.Script.{joined_behind, pieces_asked, steps_asked};
 ghost use Rattle.jc_script.specs.Shown.{shown, shown_command};
 
 use crate::words::{
-    Words, aid_of, budget_of, bytes_of, is_skipped, name_of, put_bytes, trimmed,
+    Words, aid_of, budget_of, bytes_of, cut_name, is_skipped, name_of, put_bytes, quoted_names,
+    trimmed,
 };
 use jc_base::Aid;
 
@@ -54,6 +56,16 @@ pub enum ScriptLine<'a> {
     Bad,
 }
 
+/// A folder and a certificate, where both are names.
+fn loading<'a>(folder: &'a [u8], certificate: &'a [u8]) -> Option<ScriptCommand<'a>>
+    ensures { option_map shown_command result ≡ loading folder.now certificate.now }
+{
+    Some(ScriptCommand::Load {
+        folder: name_of(folder)?,
+        certificate: name_of(certificate)?,
+    })
+}
+
 #[tactic(auto, unfolding(crate::specs::Script::load_asked))]
 fn load_asked(mut words: Words) -> Option<ScriptCommand>
     ensures { option_map shown_command result ≡ load_asked words.entry }
@@ -63,10 +75,20 @@ fn load_asked(mut words: Words) -> Option<ScriptCommand>
     if words.next().is_some() {
         return None;
     }
-    Some(ScriptCommand::Load {
-        folder: name_of(folder)?,
-        certificate: name_of(certificate)?,
-    })
+    loading(folder, certificate)
+}
+
+/// Two names, of which some stand in quotes, with one space between them.
+#[tactic(auto, unfolding(crate::specs::Script::quoted_load))]
+fn quoted_load(text: &[u8]) -> Option<ScriptCommand<'_>>
+    ensures { option_map shown_command result ≡ quoted_load text.now }
+{
+    let folder = cut_name(text)?;
+    let certificate = cut_name(folder.behind?)?;
+    if certificate.behind.is_some() {
+        return None;
+    }
+    loading(folder.name, certificate.name)
 }
 
 #[tactic(auto, unfolding(crate::specs::Script::install_asked))]
@@ -189,6 +211,17 @@ fn asked_in_session<'a>(
     }
 }
 
+/// The command that a line of a session asks for, if it does.
+#[tactic(auto, unfolding(crate::specs::Script::asked_by_line))]
+fn asked_by_line<'a>(line: &'a [u8], room: &'a mut [u8; MOST_BYTES]) -> Option<ScriptCommand<'a>>
+    ensures { option_map shown_command result ≡ asked_by_line line.now }
+{
+    match quoted_names(line) {
+        Some(names) => quoted_load(names),
+        None => asked_in_session(Words::new(line), room),
+    }
+}
+
 /// What a line says, of at most [`MOST_IN_LINE`] bytes. The bytes that it spells are put down in this room.
 #[tactic(auto, unfolding(crate::specs::Script::said_by))]
 pub fn said_by<'a>(line: &'a [u8], room: &'a mut [u8; MOST_BYTES]) -> ScriptLine<'a>
@@ -204,7 +237,7 @@ pub fn said_by<'a>(line: &'a [u8], room: &'a mut [u8; MOST_BYTES]) -> ScriptLine
 }
 
 /// What a line of a session says, of at most [`MOST_IN_LINE`] bytes: it may ask for what is used, and say a budget of
-/// steps, too.
+/// steps, too. The names of `load` may stand in quotes.
 pub fn said_in_session<'a>(line: &'a [u8], room: &'a mut [u8; MOST_BYTES]) -> ScriptLine<'a>
     ensures { shown result ≡ script.said_in_session line.now }
 {
@@ -223,7 +256,7 @@ fn said_trimmed<'a>(line: &'a [u8], room: &'a mut [u8; MOST_BYTES]) -> ScriptLin
     } else if is_skipped(line) {
         ScriptLine::Skipped
     } else {
-        match asked_in_session(Words::new(line), room) {
+        match asked_by_line(line, room) {
             Some(command) => ScriptLine::Asks(command),
             None => ScriptLine::Bad,
         }

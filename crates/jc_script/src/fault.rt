@@ -26,6 +26,8 @@ pub enum LineCause {
     AidLength,
     /// A name isn't UTF-8.
     NotText,
+    /// A name begins with a quote, and no other follows.
+    OpenQuote,
     /// A budget of steps isn't 1 to 4,294,967,295 in decimal digits.
     NoBudget,
     /// The line has more than 1,024 bytes.
@@ -78,6 +80,7 @@ impl fmt::Display for LineCause {
             }
             LineCause::AidLength => write!(f, "an AID with fewer than 5 or more than 16 bytes"),
             LineCause::NotText => write!(f, "a name that isn't UTF-8"),
+            LineCause::OpenQuote => write!(f, "a quote without another"),
             LineCause::NoBudget => write!(f, "no number from 1 to 4294967295"),
             LineCause::TooLong => write!(f, "more than 1024 bytes"),
             LineCause::TooMany => write!(f, "more than 100000 lines"),

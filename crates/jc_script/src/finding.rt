@@ -3,12 +3,16 @@
 ghost use Rattle.std.specs.Prelude.{◌≡◌, ◌+◌, ◌<◌, ◌≤◌, length, not, position, IfSome};
 ghost use Rattle.std.specs.Char.{is_ascii_hexdigit};
 ghost use Rattle.jc_script.specs.Faults.{aid_fault, budget_fault, byte_cause, byte_forms, command_fault, control_fault};
-ghost use Rattle.jc_script.specs.Faults.{digits_fault, looked_at};
+ghost use Rattle.jc_api.specs.Text.{words_of};
+ghost use Rattle.jc_script.specs.Faults.{digits_fault, fault_among, fault_of, is_open, looked_at, open_fault};
+ghost use Rattle.jc_script.specs.Faults.{quote_fault, quote_fault_in, second_fault};
 ghost use Rattle.jc_script.specs.Faults.{extra_fault, fault_at, fault_behind, fault_in, is_printable, keyword_fault};
 ghost use Rattle.jc_script.specs.Faults.{missing_fault, name_fault, odd_fault, spread, word_fault, words_fault};
 
 use crate::fault::{LineCause, LineFault};
-use crate::words::{Words, budget_of, control_in, trimmed};
+use crate::words::{
+    Words, budget_of, control_in, cut_name, name_of, quote_in, quoted_names, trimmed,
+};
 
 /// Whose line it is: a script's, or a session's, which has three commands more.
 #[derive(Clone, Copy, Debug, PartialEq, Eq)]
@@ -279,15 +283,90 @@ fn looked_at(dialect: Dialect, line: &[u8]) -> &[u8]
     }
 }
 
+/// Whether a name begins with a quote that has no other.
+fn is_open(text: &[u8]) -> bool
+    ensures { result ≡ is_open text.now }
+{
+    match text.split_first() {
+        None => false,
+        Some((first, rest)) => *first == b'"' && quote_in(rest).is_none(),
+    }
+}
+
+/// Such a quote in front of a line's last bytes.
+fn open_fault(line: &[u8], last: &[u8]) -> Option<LineFault>
+    requires { length line.now ≤ 1024 }
+    ensures { result ≡ open_fault line.now last.now }
+{
+    if is_open(last) {
+        let column = (line.len() + 1).saturating_sub(last.len());
+        Some(fault_at(LineCause::OpenQuote, column))
+    } else {
+        None
+    }
+}
+
+/// Such a quote in front of the second name, where the first is one.
+fn second_fault(line: &[u8], last: &[u8]) -> Option<LineFault>
+    requires { length line.now ≤ 1024 }
+    ensures { result ≡ second_fault line.now last.now }
+{
+    let folder = cut_name(last)?;
+    name_of(folder.name)?;
+    open_fault(line, folder.behind?)
+}
+
+/// A quote without another, in a line with names in quotes.
+fn quote_fault(line: &[u8]) -> Option<LineFault>
+    requires { length line.now ≤ 1024 }
+    ensures { result ≡ quote_fault line.now }
+{
+    let names = quoted_names(line)?;
+    match open_fault(line, names) {
+        Some(fault) => Some(fault),
+        None => second_fault(line, names),
+    }
+}
+
+/// A script has no names in quotes.
+fn quote_fault_in(dialect: Dialect, line: &[u8]) -> Option<LineFault>
+    requires { length line.now ≤ 1024 }
+    ensures { result ≡ quote_fault_in dialect line.now }
+{
+    match dialect {
+        Dialect::Script => None,
+        Dialect::Session => quote_fault(line),
+    }
+}
+
+/// What is wrong with the words of a line.
+fn fault_among(dialect: Dialect, line: &[u8]) -> LineFault
+    requires { length line.now ≤ 1024 }
+    ensures { result ≡ fault_among dialect (words_of line.now) }
+{
+    let mut words = Words::new(line);
+    match words.next() {
+        Some(keyword) => fault_behind(dialect, keyword, &mut words),
+        None => fault_at(LineCause::UnknownCommand, 1),
+    }
+}
+
+/// A quote without another, or the first fault among the words.
+fn fault_of(dialect: Dialect, line: &[u8]) -> LineFault
+    requires { length line.now ≤ 1024 }
+    ensures { result ≡ fault_of dialect line.now }
+{
+    match quote_fault_in(dialect, line) {
+        Some(fault) => fault,
+        None => fault_among(dialect, line),
+    }
+}
+
 /// What is wrong with a line that is no command, of at most [`MOST_IN_LINE`](crate::MOST_IN_LINE) bytes: the first
 /// fault from the left. It is for people: what a line does hangs on [`said_by`](crate::said_by) alone.
 pub fn fault_in(dialect: Dialect, line: &[u8]) -> LineFault
     requires { length line.now ≤ 1024 }
     ensures { result ≡ fault_in dialect line.now }
 {
-    let mut words = Words::new(looked_at(dialect, line));
-    match words.next() {
-        Some(keyword) => fault_behind(dialect, keyword, &mut words),
-        None => fault_at(LineCause::UnknownCommand, 1),
-    }
+    fault_of(dialect, looked_at(dialect, line))
 }

@@ -1,13 +1,14 @@
 //! Lines as words, and words as names and bytes.
 
 ghost use Rattle.std.specs.Prelude.{◌≡◌, ◌≤◌, ◌<◌, ◌∷◌, ◌==◌, ◌/◌, [], length, position, option_copied};
-ghost use Rattle.std.specs.Prelude.{drop, option_map, take, true, Some, IfNone, IfSome};
+ghost use Rattle.std.specs.Prelude.{option_map, take, true, Some, IfNone, IfSome};
 ghost use Rattle.std.specs.Char.{is_ascii_digit};
 ghost use Rattle.std.specs.List.{list_all};
 ghost use Rattle.std.specs.Bool.{OnTrue, OnFalse};
 ghost use Rattle.hex.specs.Hex.{decode_of};
 ghost use Rattle.jc_api.specs.Text.{given, is_skipped, spelled_aid, words_of};
-ghost use Rattle.jc_script.specs.PrivateWords.{words_left};
+ghost use Rattle.jc_script.specs.PrivateWords.{shown_cut, words_left};
+ghost use Rattle.jc_script.specs.Script.{behind_quote, cut_at_quote, cut_at_space, cut_name, is_quote, quoted_names};
 ghost use Rattle.jc_script.specs.Script.{budget_in, budget_of, bytes_of, control_in, name_of, text_of, trimmed};
 
 use crate::command::{MOST_BYTES, MOST_IN_LINE};
@@ -68,6 +69,93 @@ fn space_in(line: &[u8]) -> Option<usize>
     ensures { result ≡ position (λ b. b == 32) line.now }
 {
     line.iter().position(|b| *b == b' ')
+}
+
+/// Where the first quote stands.
+pub(crate) fn quote_in(text: &[u8]) -> Option<usize>
+    ensures place { result ≡ position is_quote text.now }
+    ensures within { IfSome result (λ at. at < length text.now) }
+{
+    text.iter().position(|b| *b == b'"')
+}
+
+/// A name at the front of a text, and what stands behind it and a space, if a space stands there.
+#[derive(Drop)]
+pub(crate) struct Cut<'a> {
+    pub(crate) name: &'a [u8],
+    pub(crate) behind: Option<&'a [u8]>,
+}
+
+/// Cuts at the first space.
+fn cut_at_space(text: &[u8]) -> Cut<'_>
+    ensures { shown_cut result ≡ cut_at_space text.now }
+{
+    match space_in(text) {
+        Some(at) => Cut {
+            name: &text[..at],
+            behind: Some(&text[at + 1..]),
+        },
+        None => Cut {
+            name: text,
+            behind: None,
+        },
+    }
+}
+
+/// A name and the text behind its closing quote: nothing, or a space and what follows.
+fn behind_quote<'a>(name: &'a [u8], text: &'a [u8]) -> Option<Cut<'a>>
+    ensures { option_map shown_cut result ≡ behind_quote name.now text.now }
+{
+    match text.split_first() {
+        None => Some(Cut { name, behind: None }),
+        Some((first, rest)) => {
+            if *first == b' ' {
+                Some(Cut {
+                    name,
+                    behind: Some(rest),
+                })
+            } else {
+                None
+            }
+        }
+    }
+}
+
+/// Cuts at the next quote, behind an opening one.
+fn cut_at_quote(text: &[u8]) -> Option<Cut<'_>>
+    ensures { option_map shown_cut result ≡ cut_at_quote text.now }
+{
+    let at = quote_in(text)?;
+    behind_quote(&text[..at], &text[at + 1..])
+}
+
+/// The name at the front of a text: it may stand between quotes.
+#[tactic(auto, unfolding(crate::specs::Script::cut_name))]
+pub(crate) fn cut_name(text: &[u8]) -> Option<Cut<'_>>
+    ensures { option_map shown_cut result ≡ cut_name text.now }
+{
+    match text.split_first() {
+        Some((first, rest)) => {
+            if *first == b'"' {
+                cut_at_quote(rest)
+            } else {
+                Some(cut_at_space(text))
+            }
+        }
+        None => Some(cut_at_space(text)),
+    }
+}
+
+/// What stands behind `load` and a space, in a line that has a quote.
+pub(crate) fn quoted_names(line: &[u8]) -> Option<&[u8]>
+    ensures { option_copied result ≡ quoted_names line.now }
+{
+    let cut = cut_at_space(line);
+    if cut.name == b"load".as_slice() && quote_in(line).is_some() {
+        cut.behind
+    } else {
+        None
+    }
 }
 
 /// Whether a line says nothing: it is empty, or its first byte is `#`.
@@ -168,8 +256,8 @@ pub(crate) fn budget_of(word: &[u8]) -> Option<u32>
 
 /// Puts the bytes that hexadecimal digits spell at the front of a room: how many, if they are one or more and fit.
 pub(crate) fn put_bytes(word: &[u8], room: &mut [u8]) -> Option<usize>
-    ensures put { IfSome result (λ count. (count ≤ length room.old) × (bytes_of word.now ≡ Some (take count room.new))
-        × (drop count room.new ≡ drop count room.old)) }
+    ensures put { IfSome result (λ count. bytes_of word.now ≡ Some (take count room.new)) }
+    ensures within { IfSome result (λ count. count ≤ length room.old) }
     ensures none { IfNone result (IfSome (bytes_of word.now) (λ bytes. length room.old < length bytes)) }
 {
     if word.is_empty() || word.len() > MOST_IN_LINE {
@@ -187,7 +275,6 @@ pub(crate) fn put_bytes(word: &[u8], room: &mut [u8]) -> Option<usize>
 }
 
 /// A line without the white space of ASCII at its end.
-#[tactic(auto, using(crate::proofs::Trims::trimmed_is))]
 pub(crate) fn trimmed(line: &[u8]) -> &[u8]
     ensures trimmed { result.now ≡ trimmed line.now }
     ensures shorter { length result.now ≤ length line.now }

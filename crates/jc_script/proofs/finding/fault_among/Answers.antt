@@ -1,7 +1,7 @@
 use Rattle.std.proofs.Common.{arith, ap, sym, ◌∙◌}
 use Rattle.jc_script.specs.Faults.{spread}
 use Rattle.jc_script.proofs.Faulting.{words_spread}
-use Rattle.jc_script.proofs.finding.fault_in.Goals as goal
+use Rattle.jc_script.proofs.finding.fault_among.Goals as goal
 
 pub fault_behind-requires : goal.fault_behind-requires
 fault_behind-requires c =

@@ -174,6 +174,23 @@ def checksum(path):
         return hashlib.sha256(file.read()).hexdigest()
 
 
+def put_whole(path, content):
+    """Writes a file whole, in the place of one that may be there."""
+    new = '%s.new-%d' % (path, os.getpid())
+    try:
+        with open(new, 'xb') as file:
+            file.write(content)
+        os.replace(new, path)
+    except FileExistsError:
+        raise
+    except BaseException as reason:
+        if os.path.exists(new):
+            os.remove(new)
+        if isinstance(reason, OSError):
+            raise Fault('%s: %s' % (shown(path), reason.strerror)) from None
+        raise
+
+
 class Made:
     """The files of a folder that a tool made. Names are paths from the folder on."""
 

@@ -4,7 +4,7 @@ import re
 import stat
 from xml.etree import ElementTree
 
-from common import Fault, Taken, shown, system_words
+from common import Fault, Taken, put_whole, shown, system_words
 
 BEGIN = re.compile(rb'(?:\xef\xbb\xbf)?\s*(?:<\?xml[^>]*>\s*)?<testsuites?[\s>/]')
 LOOKED_AT = 1024  # bytes in which a report has begun
@@ -62,16 +62,4 @@ class Report:
         ElementTree.indent(suites)
         content = ElementTree.tostring(suites, encoding='utf-8', xml_declaration=True) + b'\n'
         self.look()
-        new = '%s.new-%d' % (self.path, os.getpid())
-        try:
-            with open(new, 'xb') as file:
-                file.write(content)
-            os.replace(new, self.path)
-        except FileExistsError:
-            raise
-        except BaseException as reason:
-            if os.path.exists(new):
-                os.remove(new)
-            if isinstance(reason, OSError):
-                raise Fault(system_words(reason, self.path)) from None
-            raise
+        put_whole(self.path, content)

@@ -1,12 +1,11 @@
 -- The frames below the top one.
 use Rattle.std.proofs.Common.{◌≡◌, ℕ, ◌+◌, ◌-◌, ◌<◌, ◌≤◌, List, length, map, drop, get_or, reverse, slice_get, Option, Some}
 use Rattle.std.proofs.Common.{None, option_map, refl, sym, ap, ◌∙◌, arith}
-use Rattle.std.proofs.lemmas.List.{drop_more, get_or-reverse, length-reverse}
+use Rattle.std.proofs.lemmas.List.{get_or-reverse, length-reverse}
 use Rattle.std.proofs.lemmas.Option.{slice_get-get_or, slice_get-map, slice_get_past}
 use Rattle.std.proofs.Math.Seq.{drop-drop}
-use Rattle.jc_frames.specs.Frames.{Frame, Frames, with_frames}
+use Rattle.jc_frames.specs.Frames.{Frame}
 use Rattle.jc_frames.specs.PrivateLaid.{frame_in, frames_in}
-use Rattle.jc_frames.specs.declared.header.FrameHeader.{FrameHeader}
 use Rattle.jc_frames.specs.declared.place.FramePlace.{FramePlace}
 
 -- counted from the end

@@ -1,13 +1,11 @@
 -- Frames on words are looked at outward, one by one, for a handler.
 use Rattle.std.proofs.Common.{◌≡◌, ℕ, zero, suc, ◌+◌, ◌<◌, List, [], ◌∷◌, length, drop, slice_get, Option, Some, None}
-use Rattle.std.proofs.Common.{option_map, refl, sym, ap, ◌∙◌, subst, arith}
-use Rattle.std.proofs.lemmas.Option.{slice_get-get_or}
+use Rattle.std.proofs.Common.{option_map, refl, sym, ap, ◌∙◌, arith}
 use Rattle.std.specs.Option.{option_and_then}
 use Rattle.jc_frames.specs.Frames as words
-use Rattle.jc_frames.specs.declared.header.FrameHeader.{FrameHeader}
 use Rattle.jc_program.specs.declared.handler.LoadedHandler.{LoadedHandler}
 use Rattle.jc_program.specs.declared.program.Program.{Program}
-use Rattle.jc_interp.specs.PrivateDone.{Done, done, with_frames}
+use Rattle.jc_interp.specs.PrivateDone.{done, with_frames}
 use Rattle.jc_interp.specs.PrivateUnwinding.{Unwound, caught_in, handled, handler_in, handler_under, settled}
 use Rattle.jc_interp.specs.PrivateUnwinding.{unwound_from}
 use Rattle.jc_interp.specs.declared.ends.StepEnd.TheVariants.{GoesOn}

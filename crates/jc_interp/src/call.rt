@@ -138,9 +138,7 @@ impl WordMachine {
         natives.law();
         accepted_packages_are_type_safe(natives);
         match self.enter_first(program, number, call) {
-            StepEnd::GoesOn => {
-                self.run(natives, world, program, selected, steps, denial, shown)
-            }
+            StepEnd::GoesOn => { self.run(natives, world, program, selected, steps, denial, shown) }
             StepEnd::Throws(_) | StepEnd::Gives(_) | StepEnd::UsedUp => {
                 shown.is_there = false;
                 RunEnd::RanOut {

@@ -1,4 +1,4 @@
-use Rattle.std.proofs.Common.{◌≡◌, arith}
+use Rattle.std.proofs.Common.{arith}
 use Rattle.jc_frames.proofs.Under.{from_end, past_end}
 use Rattle.jc_frames.proofs.place.place_under.Goals as goal
 

@@ -1,7 +1,4 @@
-use Rattle.std.proofs.Common.{arith, sym, ap, ◌∙◌, ◌≡◌, option_map, List}
-use Rattle.jc_frames.specs.Frames.{Frame}
-use Rattle.jc_frames.specs.declared.header.FrameHeader.{FrameHeader}
-use Rattle.jc_frames.specs.declared.place.FramePlace.{FramePlace}
+use Rattle.std.proofs.Common.{arith}
 use Rattle.jc_frames.proofs.Under.{header_is}
 use Rattle.jc_frames.proofs.frames.Frames.frame_under.Goals as goal
 

@@ -29,8 +29,7 @@ loop-others-preserved c =
     let within : i < length u.frames.frames =
     omega (arith, c.loop-others-test.true, c.count-others-end.ensures, same) in
     let none : handler_under c.args.program.now c.args.class i u ≡ None =
-    sym c.handler_under.ensures ∙ c.in_default.is in
-    (
+    sym c.handler_under.ensures ∙ c.in_default.is in (
       c.loop-others.invariant.0,
       c.loop-others.invariant.1
           ∙ none_at c.args.program.now c.args.object c.args.class u i within none,

@@ -1,6 +1,5 @@
 -- Why calls didn't end by themselves, on words.
 use Rattle.std.proofs.Common.{◌≡◌, ℕ, Option, Some, None, option_map, sym, ap, ◌∙◌}
-use Rattle.jc_interp.specs.declared.ends.RunEnd.TheVariants as runs
 use Rattle.jc_machine.specs.declared.stop.CodePoint.{CodePoint}
 use Rattle.jc_store.specs.Heap.{Object, object_at}
 use Rattle.jc_store.specs.Store.{IsThere}

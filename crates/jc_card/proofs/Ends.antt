@@ -4,7 +4,6 @@ use Rattle.std.proofs.Common.{Option, Some, None, refl, sym, ap, ◌∙◌, subs
 use Rattle.std.specs.List.{AllByRecursion}
 use Rattle.std.specs.Option.{option_map_or}
 use Rattle.jc_base.specs.declared.declared_type.DeclaredType.{DeclaredType}
-use Rattle.jc_base.specs.declared.declared_type.DeclaredType.TheVariants as types
 use Rattle.jc_cap_desc.specs.Shape.{Shape}
 use Rattle.jc_api.specs.declared.class.ApiClass.TheVariants.{IsoException}
 use Rattle.jc_machine.specs.Lookup.{is_byte, is_kept_as, is_of_class, is_word, leads_to}

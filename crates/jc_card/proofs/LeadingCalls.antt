@@ -1,5 +1,5 @@
 -- Where the accesses of a call of the runtime's lead.
-use Rattle.std.proofs.Common.{◌≡◌, ℕ, zero, suc, ◌+◌, List, [], ◌∷◌, ◌++◌, Option, Some, None, Bool, true, arith, cond}
+use Rattle.std.proofs.Common.{◌≡◌, ℕ, zero, suc, List, [], ◌∷◌, ◌++◌, Option, Some, None, Bool, true, arith, cond}
 use Rattle.std.proofs.Common.{refl, ap, ◌&&◌, IfSome, append-nil}
 use Rattle.jc_link.specs.Built.{IsBuilt}
 use Rattle.jc_machine.specs.Apart.{IsApart, IsApartAnswer, IsSetApart, StaysApart, is_applets}

@@ -1,7 +1,7 @@
 -- The runtime's own objects, made one behind the other.
 use Rattle.std.proofs.Common.{◌≡◌, ℕ, zero, suc, List, [], ◌∷◌, ◌++◌, length, map, replicate, Some, ◌⊎◌, inl, inr}
 use Rattle.std.proofs.Common.{arith, refl, sym, ap, ◌∙◌, subst}
-use Rattle.std.specs.Prelude.{◌+◌, ◌-◌, ◌<◌, ◌≤◌, Bool, true, false, Option, IfNone, IfSome, get_or, is_some, slice_get}
+use Rattle.std.specs.Prelude.{◌+◌, ◌<◌, ◌≤◌, Bool, true, false, Option, IfNone, IfSome, get_or, is_some, slice_get}
 use Rattle.std.specs.List.{list_all}
 use Rattle.std.proofs.lemmas.Bool.{and_parts}
 use Rattle.std.proofs.lemmas.List.{length-append, length-replicate}

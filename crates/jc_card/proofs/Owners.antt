@@ -12,9 +12,7 @@ use Rattle.jc_card.specs.Card.{CardState, with_selected}
 use Rattle.jc_card.specs.Commands as commands
 use Rattle.jc_card.specs.Install as installs
 use Rattle.jc_card.specs.Parts.{Left, and_then, clear, gives}
-use Rattle.jc_card.specs.declared.calls.AppletCall.TheVariants as calls
 use Rattle.jc_card.specs.declared.fault.InstallFault.{InstallFault}
-use Rattle.jc_card.specs.declared.fault.InstallFault.TheVariants as faults
 use Rattle.jc_card.specs.declared.places.AppletPlace.{AppletPlace}
 use Rattle.std.proofs.lemmas.Bool.{and_from, and_parts, le-leb, leb-false, ne_eqb}
 use Rattle.std.proofs.lemmas.Option.{same_Some}

@@ -1,5 +1,5 @@
 -- The applet that is selected, and another one that is.
-use Rattle.std.proofs.Common.{◌≡◌, true, Option, Some, IfSome, arith}
+use Rattle.std.proofs.Common.{◌≡◌, ℕ, true, Option, Some, IfSome, arith}
 use Rattle.jc_names.specs.declared.owner.Owner.{Owner}
 use Rattle.jc_natives.specs.Kept.{instance_of}
 use Rattle.jc_natives.specs.Meaning.{fits_instance}

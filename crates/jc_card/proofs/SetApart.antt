@@ -10,7 +10,6 @@ use Rattle.jc_base.specs.Parts.{Infos}
 use Rattle.jc_base.specs.declared.fault.LoadFault.{LoadFault}
 use Rattle.jc_cap.specs.declared.applets.Applet.{Applet}
 use Rattle.jc_cap.specs.declared.arrays.StaticArray.{StaticArray}
-use Rattle.jc_cap.specs.declared.arrays.StaticArray.TheVariants as Of
 use Rattle.jc_cap_desc.specs.Shape.{Shape}
 use Rattle.jc_firewall.specs.Verdict.{runtime_context}
 use Rattle.jc_link.specs.Built.{IsBuilt, api, loaded}
@@ -28,7 +27,6 @@ use Rattle.std.proofs.Common.{◌+◌, ◌<◌, ◌||◌, false, not, length, re
 use Rattle.std.specs.Option.{option_map_or}
 use Rattle.jc_base.specs.declared.declared_type.DeclaredType.{DeclaredType}
 use Rattle.jc_base.specs.declared.class_ref.ClassRef.{ClassRef}
-use Rattle.jc_base.specs.declared.declared_type.DeclaredType.TheVariants as Declared
 use Rattle.jc_link.specs.Statics.{StaticField}
 use Rattle.jc_machine.specs.Machine.{StaticValue}
 use Rattle.jc_machine.specs.Storable.{FieldsHoldStorable, HoldStorable, is_librarys, is_storable, may_be_held}

@@ -8,7 +8,6 @@ use Rattle.jc_names.specs.declared.name.MethodName.{MethodName}
 use Rattle.jc_natives.specs.Counted.{LeavesNumbers}
 use Rattle.jc_natives.specs.Kept.{Kept}
 use Rattle.jc_natives.specs.declared.kept.Instance.{Instance}
-use Rattle.jc_store.specs.declared.kind.ClearingEvent.TheVariants as events
 use Rattle.jc_words.specs.Values.{Ref}
 use Rattle.jc_card.specs.Card.{CardState}
 use Rattle.jc_card.specs.Commands.{deselect, unselect}

@@ -1,7 +1,6 @@
 use Rattle.std.proofs.Common.{◌∙◌, ap, sym, None, arith}
 use Rattle.jc_firewall.specs.Verdict.{runtime}
 use Rattle.jc_program.specs.Classes.{class_number}
-use Rattle.jc_machine.specs.Lookup.{class_of}
 use Rattle.jc_store.specs.Store.{fresh, with_made}
 use Rattle.jc_card.proofs.Making.{as_made, is_made, made_more, own_number, there_is}
 use Rattle.jc_card.specs.PrivateNew.{made_of}

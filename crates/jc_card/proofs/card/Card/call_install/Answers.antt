@@ -39,8 +39,8 @@ call-requires c =
           may_call laws k card h a.owner.context a.owner name values can first c.called_at-called.ensures refl read few;
     }
 
-pub invariant_of-self : goal.invariant_of-self
-invariant_of-self c =
+pub returns : goal.returns
+returns c card holds =
     let laws : CallLaws =
     record { lawful = c.law.ensures; calls = c.accepted_packages_are_type_safe.ensures.calls } in
     let a = c.args in
@@ -53,16 +53,18 @@ invariant_of-self c =
     c.install_words-words.ensures.few in
     let name : MethodName = Loaded a.place.number a.place.install in
     let values : List TaggedValue = Ref 13 ∷ Word 0 ∷ Word a.size ∷ [] in
-    let card = c.self.invariant.card in
-    let h = c.self.invariant.holds in
-    let known = subst (λ (w : World). IsInstallPlace w a.place) (subst (λ (x : CardWords). Holds x card)
-    c.self.view_is h).world c.requires.place in
+    let h = subst (λ (x : CardWords). Holds x card) (sym c.self.view_is) holds in
+    let known = subst (λ (w : World). IsInstallPlace w a.place) holds.world c.requires.place in
     let can = can_begin card h.typed a.place a.owner a.size (omega (arith, c.ranges.size)) known
     c.built_worlds_are_sound.ensures in
     let after : CardWords = record k { machine = c.call.new.self; kept = c.call.new.natives } in
-    left_card after (ReadsEnded c.call.result) (call_install card a.place a.owner a.size)
-    (method_called laws k card h a.owner.context a.owner name values can first c.called_at-called.ensures refl read few
-    after c.call.result c.call.ensures.call c.call.ensures.dropped refl refl refl refl refl refl)
+    method_called laws k card h a.owner.context a.owner name values can first c.called_at-called.ensures refl read few
+    after c.call.result c.call.ensures.call c.call.ensures.dropped refl refl refl refl refl refl
 
-pub returns : goal.returns
-returns c card holds = grind (arith, words_read, can_begin, method_called)
+pub invariant_of-self : goal.invariant_of-self
+invariant_of-self c =
+    let after : CardWords =
+    record (the_view c.self.inside) { machine = c.call.new.self; kept = c.call.new.natives } in
+    let card = c.self.invariant.card in
+    left_card after (ReadsEnded c.call.result) (call_install card c.args.place c.args.owner c.args.size)
+    (returns c card (subst (λ (x : CardWords). Holds x card) c.self.view_is c.self.invariant.holds))

@@ -1,5 +1,5 @@
 -- What the program says to a command line: a message, the stream that it is written to, and the exit status.
-use Rattle.std.specs.Prelude.{⊤, ◌≡◌, ◌⊎◌, ◌++◌, ℕ, Bool, true, false, List, Option, Some, None, option_map, codes}
+use Rattle.std.specs.Prelude.{⊤, ◌≡◌, ◌⊎◌, ◌++◌, ℕ, Bool, true, false, List, [], Option, Some, None, option_map, codes}
 use Rattle.std.specs.Prelude.{bytes_eq, if◌then◌else◌}
 use Rattle.std.specs.String.{string_bytes}
 use Rattle.std.specs.declared.io.ErrorKind.{ErrorKind}
@@ -12,11 +12,11 @@ use Rattle.jc_base.specs.Reason.{name_of}
 use Rattle.jc_offcard.specs.Answer.{verify_line_of}
 use Rattle.jcard.specs.Answer.{line_of}
 use Rattle.jc_run.specs.Texts.{script_fault_text}
-use Rattle.jcard.specs.Files.{Entry, Written, file_line}
+use Rattle.jcard.specs.Files.{Entry, IsFaultAt, Written, file_line}
 use Rattle.jcard.specs.Line.{IsJobFor, IsLineError}
 use Rattle.jcard.specs.Texts.{AnswersTexts, IsTextFault, fault_line_of}
 use Rattle.jcard.specs.declared.answer.EvalAnswer.{EvalAnswer}
-use Rattle.jcard.specs.Verify.{IsDone, IsUndone}
+use Rattle.jcard.specs.Verify.{IsDone, IsInTheWay, IsReplaceable, IsUndone}
 use Rattle.jcard.specs.declared.job.Job.{Job}
 use Rattle.jcard.specs.declared.job.Job.TheVariants.{Eval, Verify, Run, Session}
 use Rattle.jcard.specs.declared.job.VerifyJob.{VerifyJob}

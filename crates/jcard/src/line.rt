@@ -57,9 +57,9 @@ const SESSION_HELP: &str =
   objects                          tells how many objects are used, and how many there may be
   steps N                          lets a call of an applet run at most N instructions from now on
 
-AIDs, DATA and BYTES are in hexadecimal. An empty line, or one that begins with #, says nothing. A line that
-can't be read, or of which a folder or a file can't be read, is answered on standard error, and the session goes
-on. It ends with the input. For example:
+AIDs, DATA and BYTES are in hexadecimal, BYTES in one word or several. FOLDER and CERT may stand in quotes. An empty
+line, or one that begins with #, says nothing. A line that can't be read, or of which a folder or a file can't be
+read, is answered on standard error, and the session goes on. It ends with the input. For example:
 
   printf 'objects\\napdu 00A4040006F00102031001\\n' | jcard session
 

@@ -1,15 +1,17 @@
 -- What comes of a job, by its steps.
-use Rattle.std.proofs.Common.{subst, sym, ℕ, List, []}
+use Rattle.std.proofs.Common.{subst, sym, ℕ, true, List, [], inl, inr}
 use Rattle.std.proofs.lemmas.List.{append-nil}
 use Rattle.std.specs.List.{AllZip}
 use Rattle.jc_api.specs.Bound.{Bound}
 use Rattle.jcard.specs.Binding.{IsBindingFor}
-use Rattle.jcard.specs.Files.{Entry, IsFaultAt, IsWritten, OfFile, WritesAlone, Written}
+use Rattle.jcard.specs.Files.{Entry, IsFaultAt, IsWritten, OfFile, WritesAlone, Written, file}
 use Rattle.jcard.specs.Folders.{FailsFirst, IsFolderFault, IsImage}
+use Rattle.jcard.specs.PrivateVerify.{MayBeLost}
 use Rattle.jcard.specs.Saying.{IsSaidOfFiles, IsSaidOfJob, IsSaidOfWork}
 use Rattle.jcard.specs.Saying.IsSaidOfJob.{kept, no_memory}
 use Rattle.jcard.specs.Saying.IsSaidOfWork.{memory, undone}
-use Rattle.jcard.specs.Verify.{IsInTheWay, IsUndone, IsUnreadOf, earlier_of}
+use Rattle.jcard.specs.Verify.{IsInTheWay, IsReplaceable, IsUndone, IsUnreadOf, earlier_of}
+use Rattle.jcard.specs.Verify.IsReplaceable.{certificate, empty}
 use Rattle.jcard.specs.Verify.IsUndone.{unread}
 use Rattle.jcard.specs.Verify.IsUnreadOf.{earlier, last}
 use Rattle.jcard.specs.declared.files.ReadFault.{ReadFault}
@@ -63,3 +65,9 @@ pub said_kept : (holds : List ℕ → Entry → Type 0) (has : List Written → 
     → IsSaidOfFiles fault said → IsSaidOfJob holds (IsWritten has has) job said
 said_kept holds has job said (File fault) told says = kept fault told (none_written has) says
 said_kept holds has job said Memory told says = no_memory (none_written has) says
+
+-- a file may be written over whose bytes may be lost
+pub replaceable : (holds : Entry → Type 0) (bytes : List ℕ) → holds (file bytes) → MayBeLost bytes true
+    → IsReplaceable holds
+replaceable holds bytes held (inl none) = empty (subst (λ (bs : List ℕ). holds (file bs)) none held)
+replaceable holds bytes held (inr spelled) = certificate bytes spelled.rows held spelled.spells

@@ -170,7 +170,7 @@ CALL = '''//! The call that C makes.
 
 use crate::card::{begin, new_card};
 use jc_frames::CodePlace;
-use jc_interp::RunEnd;
+use jc_interp::{RunEnd, ShownFrame};
 use jc_natives::Runtime;
 use std::alloc::Global;
 
@@ -203,6 +203,7 @@ pub extern "C" fn calls_run(alloc: Global, images: &[u8], call: &Call, ended: &m
         return;
     };
     let mut natives = Runtime::new();
+    let mut stopped = ShownFrame::none();
     let first = CodePlace {
         package: call.first_package,
         offset: call.first_offset,
@@ -216,13 +217,13 @@ pub extern "C" fn calls_run(alloc: Global, images: &[u8], call: &Call, ended: &m
     }
     let _ = card
         .machine
-        .run(&mut natives, &card.world, &card.program, None, 1000, &mut None);
+        .run(&mut natives, &card.world, &card.program, None, 1000, &mut None, &mut stopped);
     if !begin(&mut card, place, &[call.argument]) {
         return;
     }
     let end = card
         .machine
-        .run(&mut natives, &card.world, &card.program, None, call.steps, &mut None);
+        .run(&mut natives, &card.world, &card.program, None, call.steps, &mut None, &mut stopped);
     match end {
         RunEnd::Gave(None) => ended.how = 1,
         RunEnd::Gave(Some(word)) => {

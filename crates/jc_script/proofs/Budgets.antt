@@ -27,8 +27,8 @@ read_so [] (Err e) digits h = refl
 read_so (d ∷ ds) (Ok n) digits h = grind (arith, h.0.1, h.1)
 read_so (d ∷ ds) (Err e) digits h = grind (arith, h)
 
-pub budget_is : {E : Type 0} (ds : List ℕ) (r : Result ℕ E) → list_all is_ascii_digit ds ≡ true → ParsesUnsigned 32 10 ds r
-    → budget_read r ≡ budget_in ds
+pub budget_is : {E : Type 0} (ds : List ℕ) (r : Result ℕ E) → list_all is_ascii_digit ds ≡ true
+    → ParsesUnsigned 32 10 ds r → budget_read r ≡ budget_in ds
 budget_is ds r digits h =
     read_so ds r digits
     (parse_digits (numerals_by_value _ tells_all_ascii_digits) 32 ds r h (sym (all_is ds) ∙ digits))

@@ -118,7 +118,7 @@ cause_text NoCertificate = Some (codes "it is no certificate, and stays as it is
 cause_text (LongCertificate most) =
     Some ((codes "the certificate has more than " ++ decimal most) ++ codes " bytes, and isn't written")
 
--- a byte with which characters begin that are invisible or change the direction of a text: C2, D8, E2, EF
+-- a byte of UTF-8 with which characters begin that are invisible, or that change the direction of a text
 abbrev pub may_hide : ℕ → Bool
 may_hide b = b == 194 || (b == 216 || (b == 226 || b == 239))
 

@@ -27,3 +27,9 @@ mod Staying
 mod StayingApart
 mod Switching
 mod TypingWords
+mod UnseeingHeaps
+mod Unseeing
+mod UnseeingRules
+mod UnseeingCalls
+mod UnseeingSteps
+mod OwningSteps

@@ -25,3 +25,5 @@ pub mod Idle
 pub mod ExamplePackages
 pub mod Examples
 pub mod TypedExamples
+pub mod Unseen
+pub mod Owning

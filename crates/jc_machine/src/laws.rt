@@ -1,6 +1,6 @@
 //! What holds of accepted worlds.
 
-ghost use Rattle.std.specs.Prelude.{◌≡◌, ◌↔◌, Bool, List, Some, true, false, option_map, ℕ};
+ghost use Rattle.std.specs.Prelude.{◌≡◌, ◌≢◌, ◌↔◌, Bool, List, Some, true, false, option_map, ℕ};
 ghost use Rattle.jc_api.specs.Bound.{Bound};
 ghost use Rattle.jc_api.specs.NoClash.{HasNoClash};
 ghost use Rattle.jc_cap_desc.specs.Shape.{MethodBody, Shape};
@@ -19,7 +19,10 @@ ghost use Rattle.jc_machine.specs.Lookup.{body_at, code_at, instruction_at};
 ghost use Rattle.jc_machine.specs.Machine.{Machine, MethodPlace, StaticValue, Surroundings};
 ghost use Rattle.jc_machine.specs.Natives.{AreNativesGuarded, KeepsObjects};
 ghost use Rattle.jc_machine.specs.Runtime.{HasRuntimeObjects};
-ghost use Rattle.jc_machine.specs.Step.{Start, defensive_step, runtime_call};
+ghost use Rattle.jc_machine.specs.Step.{Start, defensive_step, runtime_call, steps_of};
+ghost use Rattle.jc_machine.specs.Going.{with_heap};
+ghost use Rattle.jc_machine.specs.Owning.{StepsOwned};
+ghost use Rattle.jc_machine.specs.Unseen.{AreAlike, AreNativesBlind, CallsAlike, StepsAlike, runs_without};
 ghost use Rattle.jc_machine.specs.Storable.{FieldsHoldStorable, HoldStorable, may_be_held};
 ghost use Rattle.jc_machine.specs.TypedWords.{KeepWordsTyped};
 ghost use Rattle.jc_machine.specs.Uncounted.{HaveCells, IsInstructionAt};
@@ -96,6 +99,28 @@ pub fn steps_stay_apart<N: Natives>(_natives: &N)
         → StaysApart keeps s m }
     ensures objects { (before after : Heap TaggedValue) (owner : Owner) → IsSetApart before → KeepsObjects before after
         → is_applets owner ≡ true → AddsFor owner before after → HoldStorable after → IsSetApart after }
+{}
+
+/// As whom frames run: behind each step their owners are as they were; or there is a frame more, with its caller's
+/// owners, or with the owner active to which the verdict on the call's access switches, or with that of an object of
+/// which a native member has a member called; or the innermost are gone. It does nothing.
+pub fn owners_go_by_calls<N: Natives>(_natives: &N)
+    ensures { (s : Surroundings N.Kept) → AreNativesGuarded s.natives → (m : Machine N.Kept) → StepsOwned s m }
+{}
+
+/// No step of a frame in another context, and no call without one in it, sees the components of a context's plain
+/// objects: on objects that differ there alone it makes the same accesses, and comes to the same but for these. It does
+/// nothing.
+pub fn contents_are_unseen<N: Natives>(_natives: &N)
+    ensures steps { (context : ℕ) (s : Surroundings N.Kept) → AreNativesGuarded s.natives → AreNativesBlind s.natives
+        → (m : Machine N.Kept) → HasRuntimeObjects m.heap → is_applets m.top.active ≡ true
+        → m.top.active.context ≢ context → (heap : Heap TaggedValue) → AreAlike context m.heap heap
+        → StepsAlike context (defensive_step s m) (defensive_step s (with_heap m heap)) }
+    ensures calls { (context : ℕ) (s : Surroundings N.Kept) → AreNativesGuarded s.natives → AreNativesBlind s.natives
+        → (keeps : N.Kept → Bool) → AreNativesApart keeps s.natives → HaveApiMembers s.world.shapes → (steps : ℕ)
+        → (m : Machine N.Kept) → IsApart keeps m → runs_without s context steps m ≡ true → (heap : Heap TaggedValue)
+        → AreAlike context m.heap heap
+        → CallsAlike context (steps_of s steps m) (steps_of s steps (with_heap m heap)) }
 {}
 
 /// A test that native members keep, and that holds of what the runtime keeps, holds of it behind each call of the

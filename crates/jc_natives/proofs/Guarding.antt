@@ -268,7 +268,7 @@ whose : (active : ℕ) (f : Facts) → (is_own active f ≡ true) ⊎ ((active =
     → (active ≡ f.owner.context) ⊎ (active ≡ runtime_context)
 whose active f h1 = grind (arith, eqb-true)
 
-own_use : (way : Way) (active : ℕ) (f : Facts) → is_allowed (verdict_of (access_of way) active f) ≡ true
+pub own_use : (way : Way) (active : ℕ) (f : Facts) → is_allowed (verdict_of (access_of way) active f) ≡ true
     → f.mark ≡ Plain → (active ≡ f.owner.context) ⊎ (active ≡ runtime_context)
 own_use way active f h1 h2 = grind (arith, whose, by_fields, by_components, by_calls)
 

@@ -36,3 +36,8 @@ mod Unstuck
 mod Same
 mod Counting
 mod AtOnce
+mod UnseenHeaps
+mod UnseenReads
+mod UnseenTests
+mod UnseenMembers
+mod UnseenAnswers

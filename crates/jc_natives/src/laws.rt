@@ -6,6 +6,7 @@ ghost use Rattle.jc_cap_desc.specs.Shape.{Shape};
 ghost use Rattle.jc_link.specs.Built.{IsBuilt};
 ghost use Rattle.jc_link.specs.Linked.{IsBoundTo, Linked, World, with_linked};
 ghost use Rattle.jc_machine.specs.Apart.{AreNativesApart, is_applets};
+ghost use Rattle.jc_machine.specs.Unseen.{AreNativesBlind};
 ghost use Rattle.jc_machine.specs.Calls.{type_of_member};
 ghost use Rattle.jc_machine.specs.Machine.{NativeCall, Surroundings};
 ghost use Rattle.jc_machine.specs.Natives.{IsGuardedAnswer, KeepsObjects};
@@ -32,6 +33,12 @@ use jc_machine::{calls_keep_what_members_keep, held_values_stay};
 #[tactic(auto, using(crate::proofs::Answering::answers_guarded))]
 pub fn members_are_guarded()
     ensures { (w : World) (call : NativeCall Kept) → IsGuardedAnswer meaning w call (meaning.answer w call) }
+{}
+
+/// What an applet calls sees no component of another context's plain objects. It does nothing.
+#[tactic(auto, using(crate::proofs::UnseenAnswers::members_blind))]
+pub fn members_see_no_contents()
+    ensures { AreNativesBlind meaning }
 {}
 
 /// What the runtime keeps fits the objects as long as these stay. It does nothing.

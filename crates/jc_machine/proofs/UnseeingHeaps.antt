@@ -1,0 +1,148 @@
+-- Objects that are alike: what is read of them beside components of a hidden one is the same.
+use Rattle.std.proofs.Common.{◌≡◌, ℕ, zero, suc, ◌+◌, ◌&&◌, Bool, true, false, List, [], ◌∷◌, ◌++◌, length, arith}
+use Rattle.std.proofs.Common.{Option, Some, None, refl, sym, ap, ◌∙◌, slice_get, set, length-set}
+use Rattle.std.specs.Prelude.{⊤}
+use Rattle.std.specs.Option.{option_map, option_map_or, option_and_then}
+use Rattle.jc_base.specs.declared.declared_type.DeclaredType.{DeclaredType}
+use Rattle.jc_base.specs.declared.declared_type.ReturnType.{ReturnType}
+use Rattle.jc_cap_desc.specs.Shape.{Shape}
+use Rattle.jc_names.specs.declared.name.ClassName.{ClassName}
+use Rattle.jc_names.specs.declared.owner.Owner.{Owner}
+use Rattle.jc_store.specs.Heap.{Heap, Object, cells_in, object_at, with_cell, with_new, with_object}
+use Rattle.jc_store.specs.declared.kind.Kind.{Kind}
+use Rattle.jc_store.specs.declared.kind.Mark.{Mark}
+use Rattle.jc_store.specs.declared.kind.ObjectType.{ObjectType}
+use Rattle.jc_machine.specs.Lookup.{are_of_types, is_given, is_of_type, leads_to, mark_of}
+use Rattle.jc_machine.specs.Reading.{Pointwise}
+use Rattle.jc_machine.specs.Unseen.{AreAlike, IsAlike}
+use Rattle.jc_words.specs.Values.{Null, Ref, TaggedValue, Unset, Word}
+
+abbrev pub with_cells : Object TaggedValue → List TaggedValue → Object TaggedValue
+with_cells o cells = record { kind = o.kind; owner = o.owner; cells = cells }
+
+pub as_cells : (context : ℕ) (o p : Object TaggedValue) → IsAlike context o p → p ≡ with_cells o p.cells
+as_cells context o p a =
+    ap (λ (k : Kind). record { kind = k; owner = p.owner; cells = p.cells }) (sym a.kind)
+    ∙ ap (λ (w : Owner). record { kind = o.kind; owner = w; cells = p.cells }) (sym a.owner)
+
+abbrev pub AlikeAt : ℕ → Option (Object TaggedValue) → Option (Object TaggedValue) → Type 0
+AlikeAt context None None = ⊤
+AlikeAt context (Some o) (Some p) = IsAlike context o p
+AlikeAt context None (Some p) = ⊥
+AlikeAt context (Some o) None = ⊥
+
+got_alike : (context : ℕ) (os ps : Heap TaggedValue) → AreAlike context os ps → (n : ℕ)
+    → AlikeAt context (slice_get os n) (slice_get ps n)
+got_alike context [] [] a n = tt
+got_alike context (o ∷ os) (p ∷ ps) a zero = a.0
+got_alike context (o ∷ os) (p ∷ ps) a (suc n) = got_alike context os ps a.1 n
+got_alike context [] (p ∷ ps) a n = absurd a
+got_alike context (o ∷ os) [] a n = absurd a
+
+pub at_alike : (context : ℕ) (os ps : Heap TaggedValue) → AreAlike context os ps → (n : ℕ)
+    → AlikeAt context (object_at os n) (object_at ps n)
+at_alike context os ps a zero = tt
+at_alike context os ps a (suc n) = got_alike context os ps a n
+
+-- ---- changes
+
+set_both : (context : ℕ) (os ps : Heap TaggedValue) → AreAlike context os ps → (n : ℕ) (o p : Object TaggedValue)
+    → IsAlike context o p → AreAlike context (set os n o) (set ps n p)
+set_both context [] [] a n o p same = tt
+set_both context (x ∷ os) (y ∷ ps) a zero o p same = (same, a.1)
+set_both context (x ∷ os) (y ∷ ps) a (suc n) o p same = (a.0, set_both context os ps a.1 n o p same)
+set_both context [] (y ∷ ps) a n o p same = absurd a
+set_both context (x ∷ os) [] a n o p same = absurd a
+
+pub with_both : (context : ℕ) (os ps : Heap TaggedValue) → AreAlike context os ps → (n : ℕ) (o p : Object TaggedValue)
+    → IsAlike context o p → AreAlike context (with_object os n o) (with_object ps n p)
+with_both context os ps a zero o p same = a
+with_both context os ps a (suc n) o p same = set_both context os ps a n o p same
+
+pub cell_both : (context : ℕ) (o p : Object TaggedValue) → IsAlike context o p → (index : ℕ) (v : TaggedValue)
+    → IsAlike context (with_cell o index v) (with_cell p index v)
+cell_both context o p a index v = record {
+  kind = a.kind;
+  owner = a.owner;
+  size = length-set o.cells index v ∙ a.size ∙ sym (length-set p.cells index v);
+  seen = λ e. ap (λ (cells : List TaggedValue). set cells index v) (a.seen e);
+}
+
+pub alike_itself : (context : ℕ) (o : Object TaggedValue) → IsAlike context o o
+alike_itself context o = record { kind = refl; owner = refl; size = refl; seen = λ e. refl }
+
+pub new_both : (context : ℕ) (os ps : Heap TaggedValue) → AreAlike context os ps → (new : Object TaggedValue)
+    → AreAlike context (with_new os new) (with_new ps new)
+new_both context [] [] a new = (alike_itself context new, tt)
+new_both context (o ∷ os) (p ∷ ps) a new = (a.0, new_both context os ps a.1 new)
+new_both context [] (p ∷ ps) a new = absurd a
+new_both context (o ∷ os) [] a new = absurd a
+
+-- ---- sizes
+
+pub as_long : (context : ℕ) (os ps : Heap TaggedValue) → AreAlike context os ps → length os ≡ length ps
+as_long context [] [] a = refl
+as_long context (o ∷ os) (p ∷ ps) a = ap suc (as_long context os ps a.1)
+as_long context [] (p ∷ ps) a = absurd a
+as_long context (o ∷ os) [] a = absurd a
+
+pub as_large : (context : ℕ) (os ps : Heap TaggedValue) → AreAlike context os ps → cells_in os ≡ cells_in ps
+as_large context [] [] a = refl
+as_large context (o ∷ os) (p ∷ ps) a =
+    let e = as_large context os ps a.1 in
+    let f = (a.0).size in omega (arith, e, f)
+as_large context [] (p ∷ ps) a = absurd a
+as_large context (o ∷ os) [] a = absurd a
+
+-- ---- types and marks
+
+module _ (context : ℕ) (H K : Heap TaggedValue) (a : AreAlike context H K) where
+  kinds_both : {A : Type 0} (f : Kind → A) (d : A) (x y : Option (Object TaggedValue)) → AlikeAt context x y
+      → option_map_or (λ (o : Object TaggedValue). f o.kind) x d
+      ≡ option_map_or (λ (o : Object TaggedValue). f o.kind) y d
+  kinds_both f d None None b = refl
+  kinds_both f d (Some o) (Some p) b = ap f b.kind
+  kinds_both f d None (Some p) b = absurd b
+  kinds_both f d (Some o) None b = absurd b
+
+  pub leads_both : (test : ObjectType → Bool) (v : TaggedValue) → leads_to H test v ≡ leads_to K test v
+  leads_both test (Word n) = refl
+  leads_both test (Ref n) =
+      kinds_both (λ (k : Kind). test k.object) false (object_at H n) (object_at K n) (at_alike context H K a n)
+  leads_both test Null = refl
+  leads_both test Unset = refl
+
+  pub type_both : (world : List Shape) (type : DeclaredType ClassName) (v : TaggedValue)
+      → is_of_type world H type v ≡ is_of_type world K type v
+  type_both world type v = grind (arith, leads_both)
+
+  pub types_both : (world : List Shape) (types : List (DeclaredType ClassName)) (vs : List TaggedValue)
+      → are_of_types world H types vs ≡ are_of_types world K types vs
+  types_both world [] [] = refl
+  types_both world (t ∷ types) (v ∷ vs) =
+      ap (λ (b : Bool). b && are_of_types world H types vs) (type_both world t v)
+      ∙ ap (λ (b : Bool). is_of_type world K t v && b) (types_both world types vs)
+  types_both world [] (v ∷ vs) = refl
+  types_both world (t ∷ types) [] = refl
+
+  pub given_both : (world : List Shape) (type : ReturnType ClassName) (v : Option TaggedValue)
+      → is_given world H type v ≡ is_given world K type v
+  given_both world type v = grind (arith, type_both)
+
+  marks_both : (x y : Option (Object TaggedValue)) → AlikeAt context x y
+      → option_map (λ (o : Object TaggedValue). o.kind.mark) x
+      ≡ option_map (λ (o : Object TaggedValue). o.kind.mark) y
+  marks_both None None b = refl
+  marks_both (Some o) (Some p) b = ap (λ (k : Kind). Some k.mark) b.kind
+  marks_both None (Some p) b = absurd b
+  marks_both (Some o) None b = absurd b
+
+  pub mark_both : (v : TaggedValue) → mark_of H v ≡ mark_of K v
+  mark_both (Word n) = refl
+  mark_both (Ref n) = marks_both (object_at H n) (object_at K n) (at_alike context H K a n)
+  mark_both Null = refl
+  mark_both Unset = refl
+
+  pub stored_mark : (v : Option TaggedValue) → option_and_then (mark_of H) v ≡ option_and_then (mark_of K) v
+  stored_mark None = refl
+  stored_mark (Some v) = mark_both v

@@ -1,0 +1,317 @@
+-- Members answer alike where objects are alike, called by an applet of another context.
+use Rattle.std.proofs.Common.{◌≡◌, ℕ, suc, ◌+◌, ◌==◌, ◌&&◌, Bool, true, false, cond, not, List, [], ◌∷◌, ◌++◌, length, map}
+use Rattle.std.proofs.Common.{Option, Some, None, refl, sym, ap, ◌∙◌, subst, slice_get, arith, nat_le, nat_lt}
+use Rattle.std.specs.Prelude.{⊤}
+use Rattle.std.specs.List.{list_all}
+use Rattle.std.specs.Option.{option_and_then, option_map, option_map_or}
+use Rattle.jc_api.specs.Numbered.{numbered}
+use Rattle.jc_base.specs.Signature.{Signature}
+use Rattle.jc_base.specs.declared.declared_type.DeclaredType.{DeclaredType}
+use Rattle.jc_cap_desc.specs.Shape.{Shape}
+use Rattle.jc_classes.specs.Members.{DeclaredMethod, method_at}
+use Rattle.jc_firewall.specs.Verdict.{runtime_context}
+use Rattle.jc_link.specs.Linked.{World}
+use Rattle.jc_link.specs.MemberType.{declared_type_of}
+use Rattle.jc_link.specs.Named.{is_concrete}
+use Rattle.jc_machine.specs.Apart.{is_applets}
+use Rattle.jc_machine.specs.Calls.{native_may_begin}
+use Rattle.jc_machine.specs.Lookup.{are_of_instance, are_of_types, is_object_of, is_of_class, may_begin_with}
+use Rattle.jc_machine.specs.Machine.{By, ByCode, ByRuntime, Gives, IsStuck, NativeAnswer, NativeCall, ThrowsObject, Touch}
+use Rattle.jc_machine.specs.Natives.{shareable_member}
+use Rattle.jc_machine.specs.Runtime.{HasRuntimeObjects}
+use Rattle.jc_machine.specs.Unseen.{AreAlike, AreNativesBlind, IsAlike, IsBlindAnswer, with_objects}
+use Rattle.jc_names.specs.declared.name.ClassName.{ClassName}
+use Rattle.jc_names.specs.declared.name.MethodName.TheVariants.{Api}
+use Rattle.std.proofs.lemmas.Bool.{eq-eqb}
+use Rattle.jc_natives.proofs.UnseenHeaps.{AlikeAt, as_cells, as_large, as_long, at_alike, cell_both, leads_both, new_both}
+use Rattle.jc_natives.proofs.UnseenHeaps.{types_both, with_both, with_cells}
+use Rattle.jc_natives.proofs.UnseenMembers.{does_both}
+use Rattle.jc_natives.proofs.UnseenReads.{aid_same, uses_read}
+use Rattle.jc_natives.proofs.UnseenTests.{TestsRead, any_objects, followed_same, tested_same, uses_same}
+use Rattle.jc_natives.specs.Cells.{Write, has_room, put, put_all, written}
+use Rattle.jc_natives.specs.Checks.{Check, CallsOtherAid, Checked, HasRange, Passed, Refused, TestEnd, Unfit, Uses}
+use Rattle.jc_natives.specs.Checks.{UsesUnlessNull, passed, followed, test, tested, refused}
+use Rattle.jc_machine.specs.Runtime.{null_pointer_exception}
+use Rattle.jc_natives.specs.Kept.{Kept}
+use Rattle.jc_natives.specs.Meaning.{answer_by, answer_of, array_or_refusal, begun, done, ended, has_words, meaning}
+use Rattle.jc_natives.specs.Meaning.{new_array, own_touch, own_touch_of, own_touches, touch_by, unchanged, with_room, worked}
+use Rattle.jc_natives.specs.Members.{aid_member, apdu_member, applet_member, member_of_native, natives, object_member}
+use Rattle.jc_natives.specs.Members.{system_member, utility_member}
+use Rattle.jc_natives.specs.Taking.{Called, aid_in, called}
+use Rattle.jc_natives.specs.Work.{Asks, Does, Makes, NewArray, Work}
+use Rattle.jc_natives.specs.declared.native.AidNative.{AidNative}
+use Rattle.jc_natives.specs.declared.native.AidNative.TheVariants as aids
+use Rattle.jc_natives.specs.declared.native.ApduNative.{ApduNative}
+use Rattle.jc_natives.specs.declared.native.AppletNative.{AppletNative}
+use Rattle.jc_natives.specs.declared.native.Native.{Native}
+use Rattle.jc_natives.specs.declared.native.Native.TheVariants.{OfAid, OfApdu, OfApplet, OfObject, OfSystem, OfUtility}
+use Rattle.jc_natives.specs.declared.native.ObjectNative.{ObjectNative}
+use Rattle.jc_natives.specs.declared.native.SystemNative.{SystemNative}
+use Rattle.jc_natives.specs.declared.native.UtilityNative.{UtilityNative}
+use Rattle.jc_natives.specs.declared.row.Length.{Length}
+use Rattle.jc_natives.specs.declared.row.Length.TheVariants as lengths
+use Rattle.jc_natives.specs.declared.row.Way.TheVariants.{Calls, Stores}
+use Rattle.jc_store.specs.Heap.{Heap, Object, cells_in, next_number, object_at, with_cell, with_new, with_object}
+use Rattle.jc_words.specs.Values.{Null, Ref, TaggedValue, Unset, Word}
+
+-- ---- what is written
+
+put_both : (context : ℕ) (os ps : Heap TaggedValue) → AreAlike context os ps → (n i : ℕ) (v : TaggedValue)
+    → AreAlike context (put os n i v) (put ps n i v)
+put_both context os ps a n i v = by_objects (object_at os n) (object_at ps n) (at_alike context os ps a n)
+  where
+    by_objects : (x y : Option (Object TaggedValue)) → AlikeAt context x y
+        → AreAlike context (option_map_or (λ (o : Object TaggedValue). with_object os n (with_cell o i v)) x os)
+        (option_map_or (λ (o : Object TaggedValue). with_object ps n (with_cell o i v)) y ps)
+    by_objects None None b = a
+    by_objects (Some o) (Some p) b = with_both context os ps a n (with_cell o i v) (with_cell p i v) (cell_both context o p b i v)
+    by_objects None (Some p) b = absurd b
+    by_objects (Some o) None b = absurd b
+
+put_all_both : (context : ℕ) (os ps : Heap TaggedValue) → AreAlike context os ps → (n from : ℕ) (vs : List TaggedValue)
+    → AreAlike context (put_all os n from vs) (put_all ps n from vs)
+put_all_both context os ps a n from [] = a
+put_all_both context os ps a n from (v ∷ vs) =
+    put_all_both context (put os n from v) (put ps n from v) (put_both context os ps a n from v) n (from + 1) vs
+
+written_both : (context : ℕ) (os ps : Heap TaggedValue) → AreAlike context os ps → (writes : List Write)
+    → AreAlike context (written Word os writes) (written Word ps writes)
+written_both context os ps a [] = a
+written_both context os ps a (x ∷ writes) =
+    written_both context (put_all os x.object x.from (map Word x.words)) (put_all ps x.object x.from (map Word x.words))
+    (put_all_both context os ps a x.object x.from (map Word x.words)) writes
+
+-- ---- which tests read an AID's length
+
+is_without_aid : Length → Bool
+is_without_aid (lengths.ShortAt place) = true
+is_without_aid (lengths.ByteAt place) = true
+is_without_aid (lengths.Fixed count) = true
+is_without_aid (lengths.OfAid place) = false
+
+module _ (context : ℕ) (w : World) (call : NativeCall Kept) (K : Heap TaggedValue)
+    (alike : AreAlike context call.heap K) where
+  abbrev H : Heap TaggedValue
+  H = call.heap
+
+  abbrev other_call : NativeCall Kept
+  other_call = with_objects call K
+
+  abbrev h : Called
+  h = called w call
+
+  abbrev k : Called
+  k = called w other_call
+
+  -- ---- whether it begins
+
+  object_of_both : (world : List Shape) (c : ClassName) (v : TaggedValue)
+      → is_object_of world H c v ≡ is_object_of world K c v
+  object_of_both world c (Word n) = refl
+  object_of_both world c (Ref n) = leads_both context H K alike (is_of_class world c) (Ref n)
+  object_of_both world c Null = refl
+  object_of_both world c Unset = refl
+
+  begins_both : (world : List Shape) (d : DeclaredMethod) (values : List TaggedValue)
+      → may_begin_with world H d values ≡ may_begin_with world K d values
+  begins_both world d values = by_signature (declared_type_of world d)
+    where
+      of_instance : (c : ClassName) (types : List (DeclaredType ClassName)) (vs : List TaggedValue)
+          → are_of_instance world H c types vs ≡ are_of_instance world K c types vs
+      of_instance c types [] = refl
+      of_instance c types (v ∷ vs) =
+          ap (λ (b : Bool). b && are_of_types world H types vs) (object_of_both world c v)
+          ∙ ap (λ (b : Bool). is_object_of world K c v && b) (types_both context H K alike world types vs)
+
+      by_static : (b : Bool) (signature : Signature ClassName)
+          → cond b (are_of_types world H signature.parameters values)
+          (are_of_instance world H d.class signature.parameters values)
+          ≡ cond b (are_of_types world K signature.parameters values)
+          (are_of_instance world K d.class signature.parameters values)
+      by_static true signature = types_both context H K alike world signature.parameters values
+      by_static false signature = of_instance d.class signature.parameters values
+
+      by_signature : (o : Option (Signature ClassName))
+          → option_map_or (λ (signature : Signature ClassName). cond d.method.is_static
+          (are_of_types world H signature.parameters values)
+          (are_of_instance world H d.class signature.parameters values)) o false
+          ≡ option_map_or (λ (signature : Signature ClassName). cond d.method.is_static
+          (are_of_types world K signature.parameters values)
+          (are_of_instance world K d.class signature.parameters values)) o false
+      by_signature None = refl
+      by_signature (Some signature) = by_static d.method.is_static signature
+
+  native_begins_both : native_may_begin w.shapes H call.member call.arguments
+      ≡ native_may_begin w.shapes K call.member call.arguments
+  native_begins_both =
+      ap (λ (b : Bool). is_concrete w.shapes (Api call.member) && b) (by_method (method_at w.shapes (Api call.member)))
+    where
+      by_method : (o : Option DeclaredMethod)
+          → option_map_or (λ d. may_begin_with w.shapes H d call.arguments) o false
+          ≡ option_map_or (λ d. may_begin_with w.shapes K d call.arguments) o false
+      by_method None = refl
+      by_method (Some d) = begins_both w.shapes d call.arguments
+
+  -- ---- what is done
+
+  abbrev Blind : NativeAnswer Kept → NativeAnswer Kept → Type 0
+  Blind a b = IsBlindAnswer context a b
+
+  touch_both : (by : By) (n : ℕ) → touch_by by H n ≡ touch_by by K n
+  touch_both ByCode n = refl
+  touch_both ByRuntime n =
+      any_objects context w call K alike n (λ x. option_map_or (λ (o : Object TaggedValue). own_touch n o ∷ []) x [])
+      (λ x. option_map_or (λ (o : Object TaggedValue). own_touch n o ∷ []) x []) refl (λ o cells e. refl)
+
+  own_both : (writes : List Write) → own_touches H writes ≡ own_touches K writes
+  own_both [] = refl
+  own_both (x ∷ writes) =
+      ap (λ (ts : List Touch). cond (has_words x.words) ts [] ++ own_touches H writes) (touch_both x.by x.object)
+      ∙ ap (λ (ts : List Touch). own_touch_of K x ++ ts) (own_both writes)
+
+  unchanged_both : (touches : List Touch) → Blind (unchanged call touches IsStuck) (unchanged other_call touches IsStuck)
+  unchanged_both touches = record { touches = refl; heap = alike; runtime = refl; ends = refl }
+
+  done_both : (touches : List Touch) (work : Work) → Blind (done call touches work) (done other_call touches work)
+  done_both touches (Does writes runtime ending) = record {
+    touches = ap (λ (ts : List Touch). touches ++ ts) (own_both writes);
+    heap = written_both context H K alike writes;
+    runtime = refl;
+    ends = refl;
+  }
+  done_both touches (Makes array) = record {
+    touches = refl;
+    heap = new_both context H K alike (new_array call.active array);
+    runtime = refl;
+    ends = ap (λ (n : ℕ). Gives (Some (Ref (suc n)))) (as_long context H K alike);
+  }
+  done_both touches (Asks question) = record { touches = refl; heap = alike; runtime = refl; ends = refl }
+
+  -- where there is no room for an array on the one there is none on the other
+  room_both : (work : Work)
+      → with_room call.limits.objects call.limits.cells H call.runtime work
+      ≡ with_room call.limits.objects call.limits.cells K call.runtime work
+  room_both (Does writes runtime ending) = refl
+  room_both (Makes array) =
+      ap (λ (b : Bool). array_or_refusal b array call.runtime)
+      (ap (λ (n : ℕ). nat_lt n call.limits.objects && nat_le (cells_in H + 1 + array.size) call.limits.cells)
+      (as_long context H K alike)
+      ∙ ap (λ (n : ℕ). nat_lt (length K) call.limits.objects && nat_le (n + 1 + array.size) call.limits.cells)
+      (as_large context H K alike))
+  room_both (Asks question) = refl
+
+  worked_both : (touches : List Touch) (o : Option Work) → Blind (worked call touches o) (worked other_call touches o)
+  worked_both touches None = unchanged_both touches
+  worked_both touches (Some work) =
+      subst (λ (x : Work). Blind (worked call touches (Some work)) (done other_call touches x)) (room_both work)
+      (done_both touches (with_room call.limits.objects call.limits.cells H call.runtime work))
+
+  ended_both : (touches : List Touch) (e : TestEnd) (o p : Option Work) → (e ≡ Passed → o ≡ p)
+      → Blind (ended call touches e o) (ended other_call touches e p)
+  ended_both touches Passed o p same =
+      subst (λ (x : Option Work). Blind (worked call touches o) (worked other_call touches x)) (same refl)
+      (worked_both touches o)
+  ended_both touches (Refused object) o p same = record { touches = refl; heap = alike; runtime = refl; ends = refl }
+  ended_both touches Unfit o p same = unchanged_both touches
+
+  by_checked : (a b : Checked) (o p : Option Work) → a ≡ b → (a.ends ≡ Passed → o ≡ p)
+      → Blind (ended call a.touches a.ends o) (ended other_call b.touches b.ends p)
+  by_checked a b o p e same =
+      subst (λ (c : Checked). Blind (ended call a.touches a.ends o) (ended other_call c.touches c.ends p)) e
+      (ended_both a.touches a.ends o p same)
+
+  -- ---- whom it is called by
+
+  module _ (own : HasRuntimeObjects call.heap) (applet : call.active.context ≡ runtime_context → ⊥)
+      (other : call.active.context ≡ context → ⊥) where
+    aids_by : (n : ℕ) → object_at H n ≡ object_at K n → aid_in H n ≡ aid_in K n
+    aids_by n e = aid_same context w call K alike own applet other n e
+
+    abbrev Read : List Check → Type 0
+    Read ts = TestsRead context w call K alike ts
+
+    object_read : (native : ObjectNative) → Read (object_member native).tests
+    object_read native = grind arith
+
+    aid_read : (native : AidNative) → Read (aid_member native).tests
+    aid_read aids.Construct = (tt, λ e. (tt, λ f. (tt, λ g. tt)))
+    aid_read aids.Equals = (tt, λ e. (tt, λ f. (tt, λ g. tt)))
+    aid_read aids.GetBytes =
+        (tt, λ e. (tt, λ f. (uses_read context w call K alike own applet other 0 Calls (refused null_pointer_exception) e, λ g. tt)))
+
+    apdu_read : (native : ApduNative) → Read (apdu_member native).tests
+    apdu_read native = grind arith
+
+    applet_read : (native : AppletNative) → Read (applet_member native).tests
+    applet_read native = grind arith
+
+    system_read : (native : SystemNative) → Read (system_member native).tests
+    system_read native = grind arith
+
+    utility_read : (native : UtilityNative) → Read (utility_member native).tests
+    utility_read native = grind arith
+
+    tests_read : (native : Native) → Read (member_of_native native).tests
+    tests_read (OfObject native) = object_read native
+    tests_read (OfAid native) = aid_read native
+    tests_read (OfApdu native) = apdu_read native
+    tests_read (OfApplet native) = applet_read native
+    tests_read (OfSystem native) = system_read native
+    tests_read (OfUtility native) = utility_read native
+
+    begun_both : (o : Option Native) → Blind (begun w call o) (begun w other_call o)
+    begun_both None = unchanged_both []
+    begun_both (Some native) =
+        by_checked (tested h (member_of_native native).tests) (tested k (member_of_native native).tests)
+        ((member_of_native native).does h) ((member_of_native native).does k)
+        (tested_same context w call K alike aids_by (member_of_native native).tests (tests_read native))
+        (does_both context w call K alike own applet other native)
+
+    pub answers_both : Blind (answer_of w call) (answer_of w other_call)
+    answers_both =
+        subst (λ (b : Bool). Blind (answer_of w call)
+        (cond b (begun w other_call (numbered natives call.member)) (unchanged other_call [] IsStuck))) native_begins_both
+        (by_begin (native_may_begin w.shapes H call.member call.arguments))
+      where
+        by_begin : (b : Bool)
+            → Blind (cond b (begun w call (numbered natives call.member)) (unchanged call [] IsStuck))
+            (cond b (begun w other_call (numbered natives call.member)) (unchanged other_call [] IsStuck))
+        by_begin true = begun_both (numbered natives call.member)
+        by_begin false = unchanged_both []
+
+  -- ---- the one member that others have called
+
+  pub modest_both : call.member ≡ shareable_member → Blind (answer_of w call) (answer_of w other_call)
+  modest_both is =
+      subst (λ (b : Bool). Blind (answer_of w call)
+      (cond b (begun w other_call (numbered natives call.member)) (unchanged other_call [] IsStuck))) native_begins_both
+      (by_begin (native_may_begin w.shapes H call.member call.arguments))
+    where
+      shareable_both : Blind (begun w call (numbered natives shareable_member))
+          (begun w other_call (numbered natives shareable_member))
+      shareable_both =
+          by_checked (followed (test h (Uses 0 Calls)) passed) (followed (test k (Uses 0 Calls)) passed) _ _
+          (ap (λ (a : Checked). followed a passed) (uses_same context w call K alike 0 Calls (refused null_pointer_exception)))
+          (λ e. refl)
+
+      by_begin : (b : Bool)
+          → Blind (cond b (begun w call (numbered natives call.member)) (unchanged call [] IsStuck))
+          (cond b (begun w other_call (numbered natives call.member)) (unchanged other_call [] IsStuck))
+      by_begin true =
+          subst (λ (n : ℕ). Blind (begun w call (numbered natives n)) (begun w other_call (numbered natives n))) (sym is)
+          shareable_both
+      by_begin false = unchanged_both []
+
+-- the members of the API see nothing
+pub members_blind : AreNativesBlind meaning
+members_blind = record {
+  members = λ context w call heap own applet other alike.
+      answers_both context w call heap alike own (applet_isnt call applet) other;
+  modest = λ context w call heap is alike. modest_both context w call heap alike is;
+}
+  where
+    unequal : false ≡ true → ⊥
+    unequal g = cc
+
+    applet_isnt : (call : NativeCall Kept) → is_applets call.active ≡ true → call.active.context ≡ runtime_context → ⊥
+    applet_isnt call e f = unequal (sym (ap not (eq-eqb call.active.context runtime_context f)) ∙ e)

@@ -2,11 +2,12 @@
 use Rattle.std.proofs.Common.{◌≡◌, ◌⊎◌, inl, inr, ℕ, zero, suc, ◌||◌, Bool, true, false, cond, refl, sym, arith}
 use Rattle.std.proofs.Common.{ap, ◌∙◌, subst, eqb-true, List, [], ◌∷◌, Some, length-set, slice_get, set}
 use Rattle.std.proofs.lemmas.Option.{none-some, same_Some}
-use Rattle.jc_firewall.specs.Verdict.{AccessRow, components, fields, is_own, row_of, runtime_context}
+use Rattle.jc_firewall.specs.Verdict.{AccessRow, components, fields, is_own, row_of, runtime_context, throws}
 use Rattle.jc_firewall.specs.Verdict.{verdict_in as verdict_in_row, verdict_of}
 use Rattle.jc_firewall.specs.declared.access.Access.{Access}
+use Rattle.jc_firewall.specs.declared.access.Access.TheVariants.{Throw}
 use Rattle.jc_firewall.specs.declared.access.Facts.{Facts}
-use Rattle.jc_firewall.specs.declared.access.Rule.TheVariants.{Components, Fields, Selection, Storing}
+use Rattle.jc_firewall.specs.declared.access.Rule.TheVariants.{Components, Fields, Selection, Storing, Throws}
 use Rattle.jc_firewall.specs.declared.access.Verdict.{Verdict}
 use Rattle.jc_firewall.specs.declared.access.Verdict.TheVariants.{Allowed, Denied}
 use Rattle.jc_store.specs.Heap.{Heap, Object, object_at, with_cell, with_new, with_object}
@@ -26,7 +27,7 @@ use Rattle.jc_machine.proofs.StayingApart.{IsHeld, LeadsApart, adds_none, adds_o
 
 -- ---- whose a plain object is that is written to
 
-abbrev IsOwn : ℕ → Facts → Type 0
+abbrev pub IsOwn : ℕ → Facts → Type 0
 IsOwn active f = (active ≡ f.owner.context) ⊎ (active ≡ runtime_context)
 
 -- the rows of the table that are for components and fields
@@ -49,9 +50,21 @@ by_table : (a b : Bool) (v w : Verdict) (P Q : Type 0) → (a ≡ true → Q) �
     → is_allowed (cond a v (cond b (Denied Storing) w)) ≡ true → P ⊎ Q
 by_table a b v w P Q h1 h2 h3 = grind arith
 
-own_object : (access : Access) (active : ℕ) (f : Facts) → IsWritten access f
+pub own_object : (access : Access) (active : ℕ) (f : Facts) → IsWritten access f
     → is_allowed (verdict_of access active f) ≡ true → f.mark ≡ Plain → IsOwn active f
 own_object access active f written fine plain = grind (arith, by_table, eqb-true, by_row)
+
+own_throw : (own : Bool) → is_allowed (cond (own || false) Allowed (Denied Throws)) ≡ true → own ≡ true
+own_throw own h1 = grind arith
+
+by_throw : (active : ℕ) (f : Facts) → f.mark ≡ Plain → is_allowed (verdict_in_row throws active f) ≡ true
+    → is_own active f ≡ true
+by_throw active f h1 h2 = grind (arith, own_throw)
+
+-- an object that is thrown
+pub own_thrown : (active : ℕ) (f : Facts) → is_allowed (verdict_of Throw active f) ≡ true → f.mark ≡ Plain
+    → IsOwn active f
+own_thrown active f fine plain = grind (arith, by_table, eqb-true, by_throw)
 
 -- an allowed access that writes
 pub is_accessed : {C : Type 0} (h : Here C) (asked : Asked) (object : Object TaggedValue)

@@ -3,11 +3,13 @@
 use Rattle.std.proofs.Common.{◌≡◌, ◌⊎◌, inl, inr, ℕ, ℤ, pos, negsuc, ◌==◌, ◌&&◌, Bool, true, false, List, [], ◌∷◌}
 use Rattle.std.proofs.Common.{◌++◌, length, nat_lt, Option, Some, None, refl, sym, ap, ◌∙◌, subst, arith, eqb-true}
 use Rattle.std.proofs.lemmas.Bool.{and_parts}
+use Rattle.std.proofs.lemmas.Option.{same_Some}
 use Rattle.std.specs.Option.{option_and_then, option_map_or}
 use Rattle.jc_code.specs.Targets.{target_of}
 use Rattle.jc_code.specs.declared.object.Form.{Form}
 use Rattle.jc_firewall.specs.Verdict.{runtime_context, verdict_of}
 use Rattle.jc_firewall.specs.declared.access.Access.{Access}
+use Rattle.jc_firewall.specs.declared.access.Access.TheVariants.{Throw}
 use Rattle.jc_firewall.specs.declared.access.Facts.{Facts}
 use Rattle.jc_firewall.specs.declared.access.Verdict.{Verdict}
 use Rattle.jc_firewall.specs.declared.access.Verdict.TheVariants.{Allowed, AllowedSwitch, Denied}
@@ -25,13 +27,14 @@ use Rattle.jc_machine.specs.Going.{with_heap, with_machine, with_top}
 use Rattle.jc_machine.specs.Guarded.{is_allowed}
 use Rattle.jc_machine.specs.Lookup.{is_shared_interface, mark_of, target_at}
 use Rattle.jc_machine.specs.Machine.{Asked, Machine, Next, Outcome, Stepped, Surroundings, Throws, Touch}
-use Rattle.jc_machine.specs.Runtime.{null_pointer_exception, security_exception}
+use Rattle.jc_machine.specs.Runtime.{HasRuntimeObjects, null_pointer_exception, runtime_objects, security_exception}
 use Rattle.jc_machine.specs.Unseen as unseen
-use Rattle.jc_machine.specs.Unseen.{AreAlike, IsAlike, StepsAlike, is_plain, next, stuck_both}
+use Rattle.jc_machine.specs.Unseen.{AreAlike, IsAlike, IsSeen, StepsAlike, is_hidden, is_plain, next, stuck_both}
 use Rattle.jc_words.specs.Values.{Null, Ref, TaggedValue, Unset, Word, is_tagged_reference}
 use Rattle.jc_machine.proofs.Guarding.{verdict_in}
-use Rattle.jc_machine.proofs.GuardingWrites.{IsWritten, own_object}
-use Rattle.jc_machine.proofs.UnseeingHeaps.{AlikeAt, as_cells, at_alike, cell_both, stored_mark, with_both, with_cells}
+use Rattle.jc_machine.proofs.GuardingWrites.{IsOwn, IsWritten, own_object, own_thrown}
+use Rattle.jc_machine.proofs.UnseeingHeaps.{AlikeAt, as_cells, at_alike, cell_both, is_seen_in, own_seen, stored_mark}
+use Rattle.jc_machine.proofs.UnseeingHeaps.{with_both, with_cells}
 
 -- ---- tests that look at no object
 
@@ -96,10 +99,10 @@ behind ts s t k = record { touches = ap (λ (us : List Touch). ts ++ us) k.touch
 
 -- ---- a plain object of a context is used in that context alone, or by the runtime
 
-unhidden : (context active : ℕ) (access : Access) (f : Facts) → IsWritten access f
-    → (active ≡ runtime_context → ⊥) → (active ≡ context → ⊥) → is_allowed (verdict_of access active f) ≡ true
+unhidden : (context active : ℕ) (f : Facts) → (f.mark ≡ Plain → IsOwn active f)
+    → (active ≡ runtime_context → ⊥) → (active ≡ context → ⊥)
     → (f.owner.context == context && is_plain f.mark) ≡ false
-unhidden context active access f written applet other fine =
+unhidden context active f own applet other =
     by_test (f.owner.context == context && is_plain f.mark) refl
   where
     plain_of : (m : Mark) → is_plain m ≡ true → m ≡ Plain
@@ -114,7 +117,7 @@ unhidden context active access f written applet other fine =
     by_test false e = e
     by_test true e =
         let parts = and_parts (f.owner.context == context) (is_plain f.mark) e in
-        absurd (by_owner parts.0 (own_object access active f written fine (plain_of f.mark parts.1)))
+        absurd (by_owner parts.0 (own (plain_of f.mark parts.1)))
 
 -- ---- two places with other objects
 
@@ -128,19 +131,9 @@ module _ {C : Type 0} (context : ℕ) (h : Here C) (H K : Heap TaggedValue) (ali
   abbrev two : Here C
   two = at_heap h K
 
-  pub throws_both : (object : ℕ) → StepsAlike context (throws one object) (throws two object)
-  throws_both object = record { touches = refl; outcome = unseen.throws (with_heap h.machine H) K object alike }
-
-  pub at_require : (exception : ℕ) (b : Bool) (s t : Stepped C) → StepsAlike context s t
-      → StepsAlike context (require one exception b s) (require two exception b t)
-  at_require exception true s t k = k
-  at_require exception false s t k = throws_both exception
-
-  pub at_same_require : (exception : ℕ) (b c : Bool) (s t : Stepped C) → b ≡ c → StepsAlike context s t
-      → StepsAlike context (require one exception b s) (require two exception c t)
-  at_same_require exception b c s t e k =
-      subst (λ (x : Bool). StepsAlike context (require one exception b s) (require two exception x t)) e
-      (at_require exception b s t k)
+  pub throws_both : (object : ℕ) → IsSeen context H object → StepsAlike context (throws one object) (throws two object)
+  throws_both object seen =
+      record { touches = refl; outcome = unseen.throws (with_heap h.machine H) K object alike seen }
 
   pub goes_both : (pc : ℕ) (locals operands : List TaggedValue)
       → StepsAlike context (goes_to one pc locals operands) (goes_to two pc locals operands)
@@ -170,30 +163,61 @@ module _ {C : Type 0} (context : ℕ) (h : Here C) (H K : Heap TaggedValue) (ali
       → StepsAlike context (loads one form held operands) (loads two form held operands)
   loads_both form held operands = at_some (loaded_as form held) _ _ (λ v. gives_both v operands)
 
-  -- an object, of which all but the components is the same
+  -- an object that is known, of which all but the components is the same
+  pub at_known : (n : ℕ) (f g : Object TaggedValue → Stepped C)
+      → ((o : Object TaggedValue) (cells : List TaggedValue) → object_at H n ≡ Some o
+      → IsAlike context o (with_cells o cells) → StepsAlike context (f o) (g (with_cells o cells)))
+      → StepsAlike context (on_some (object_at H n) f) (on_some (object_at K n) g)
+  at_known n f g k = by_objects (object_at H n) (object_at K n) refl (at_alike context H K alike n)
+    where
+      by_objects : (x y : Option (Object TaggedValue)) → object_at H n ≡ x → AlikeAt context x y
+          → StepsAlike context (on_some x f) (on_some y g)
+      by_objects None None e a = both_stuck
+      by_objects (Some o) (Some p) e a =
+          let is = as_cells context o p a in
+          subst (λ (q : Object TaggedValue). StepsAlike context (f o) (g q)) (sym is)
+          (k o p.cells e (subst (IsAlike context o) is a))
+      by_objects None (Some p) e a = absurd a
+      by_objects (Some o) None e a = absurd a
+
+-- tests that throw objects of the runtime's
+module _ {C : Type 0} (context : ℕ) (h : Here C) (H K : Heap TaggedValue) (alike : AreAlike context H K)
+    (own : HasRuntimeObjects H) where
+  abbrev first : Here C
+  first = at_heap h H
+
+  abbrev second : Here C
+  second = at_heap h K
+
+  pub throws_own : (exception : ℕ) → is_seen_in runtime_objects exception ≡ true
+      → StepsAlike context (throws first exception) (throws second exception)
+  throws_own exception e =
+      throws_both context h H K alike exception (own_seen context H runtime_objects exception own e)
+
+  pub at_require : (exception : ℕ) → is_seen_in runtime_objects exception ≡ true → (b : Bool) (s t : Stepped C)
+      → StepsAlike context s t → StepsAlike context (require first exception b s) (require second exception b t)
+  at_require exception e true s t k = k
+  at_require exception e false s t k = throws_own exception e
+
+  pub at_same_require : (exception : ℕ) → is_seen_in runtime_objects exception ≡ true → (b c : Bool) (s t : Stepped C)
+      → b ≡ c → StepsAlike context s t → StepsAlike context (require first exception b s) (require second exception c t)
+  at_same_require exception e b c s t f k =
+      subst (λ (x : Bool). StepsAlike context (require first exception b s) (require second exception x t)) f
+      (at_require exception e b s t k)
+
   pub at_object : (v : TaggedValue) (f g : ℕ → Object TaggedValue → Stepped C)
       → ((n : ℕ) (o : Object TaggedValue) (cells : List TaggedValue) → IsAlike context o (with_cells o cells)
       → StepsAlike context (f n o) (g n (with_cells o cells)))
-      → StepsAlike context (on_object one v f) (on_object two v g)
+      → StepsAlike context (on_object first v f) (on_object second v g)
   at_object (Word n) f g k = both_stuck
-  at_object (Ref n) f g k = by_objects (object_at H n) (object_at K n) (at_alike context H K alike n)
-    where
-      by_objects : (x y : Option (Object TaggedValue)) → AlikeAt context x y
-          → StepsAlike context (on_some x (f n)) (on_some y (g n))
-      by_objects None None a = both_stuck
-      by_objects (Some o) (Some p) a =
-          let is = as_cells context o p a in
-          subst (λ (q : Object TaggedValue). StepsAlike context (f n o) (g n q)) (sym is)
-          (k n o p.cells (subst (IsAlike context o) is a))
-      by_objects None (Some p) a = absurd a
-      by_objects (Some o) None a = absurd a
-  at_object Null f g k = throws_both null_pointer_exception
+  at_object (Ref n) f g k = at_known context h H K alike n (f n) (g n) (λ o cells e. k n o cells)
+  at_object Null f g k = throws_own null_pointer_exception refl
   at_object Unset f g k = both_stuck
 
   -- ---- the firewall
 
   same_facts : (asked : Asked) (o : Object TaggedValue) (cells : List TaggedValue)
-      → facts_of one asked o ≡ facts_of two asked (with_cells o cells)
+      → facts_of first asked o ≡ facts_of second asked (with_cells o cells)
   same_facts asked o cells =
       ap (λ (m : Option Mark). facts_in h.around.world.shapes h.around.selected o m
       (option_map_or (is_shared_interface h.around.world.shapes) asked.wanted false))
@@ -202,44 +226,56 @@ module _ {C : Type 0} (context : ℕ) (h : Here C) (H K : Heap TaggedValue) (ali
   -- a verdict that is the same
   at_verdict : (asked : Asked) (v : Verdict) (f g : Option Owner → Stepped C)
       → (is_allowed v ≡ true → (switch : Option Owner) → StepsAlike context (f switch) (g switch))
-      → StepsAlike context (by_verdict one asked v f) (by_verdict two asked v g)
+      → StepsAlike context (by_verdict first asked v f) (by_verdict second asked v g)
   at_verdict asked Allowed f g k = behind (touch_of h asked Allowed ∷ []) (f None) (g None) (k refl None)
   at_verdict asked (AllowedSwitch owner) f g k =
       behind (touch_of h asked (AllowedSwitch owner) ∷ []) (f (Some owner)) (g (Some owner)) (k refl (Some owner))
   at_verdict asked (Denied rule) f g k =
-      behind (touch_of h asked (Denied rule) ∷ []) (throws one security_exception) (throws two security_exception)
-      (throws_both security_exception)
+      behind (touch_of h asked (Denied rule) ∷ []) (throws first security_exception) (throws second security_exception)
+      (throws_own security_exception refl)
 
   pub at_judged : (asked : Asked) (o : Object TaggedValue) (cells : List TaggedValue) (f g : Option Owner → Stepped C)
-      → (is_allowed (verdict_in one asked o) ≡ true → (switch : Option Owner) → StepsAlike context (f switch) (g switch))
-      → StepsAlike context (judged one asked o f) (judged two asked (with_cells o cells) g)
+      → (is_allowed (verdict_in first asked o) ≡ true → (switch : Option Owner) → StepsAlike context (f switch) (g switch))
+      → StepsAlike context (judged first asked o f) (judged second asked (with_cells o cells) g)
   at_judged asked o cells f g k =
-      subst (λ (v : Verdict). StepsAlike context (judged one asked o f) (by_verdict two asked v g))
+      subst (λ (v : Verdict). StepsAlike context (judged first asked o f) (by_verdict second asked v g))
       (ap (verdict_of asked.access h.machine.top.active.context) (same_facts asked o cells))
-      (at_verdict asked (verdict_in one asked o) f g k)
+      (at_verdict asked (verdict_in first asked o) f g k)
 
   pub at_accessed : (access : Access) (n : ℕ) (o : Object TaggedValue) (cells : List TaggedValue) (s t : Stepped C)
-      → StepsAlike context s t → StepsAlike context (accessed one access n o s) (accessed two access n (with_cells o cells) t)
+      → StepsAlike context s t → StepsAlike context (accessed first access n o s) (accessed second access n (with_cells o cells) t)
   at_accessed access n o cells s t k = at_judged (asking access n) o cells (λ switch. s) (λ switch. t) (λ fine switch. k)
 
   pub at_stored : (access : Access) (n : ℕ) (o : Object TaggedValue) (cells : List TaggedValue) (v : TaggedValue)
       (s t : Stepped C) → StepsAlike context s t
-      → StepsAlike context (accessed_to_store one access n o v s) (accessed_to_store two access n (with_cells o cells) v t)
+      → StepsAlike context (accessed_to_store first access n o v s) (accessed_to_store second access n (with_cells o cells) v t)
   at_stored access n o cells v s t k =
       at_judged (storing access n v) o cells (λ switch. s) (λ switch. t) (λ fine switch. k)
 
   -- one that reads in a context that isn't hidden: its object is the same
   pub at_read : (h.machine.top.active.context ≡ runtime_context → ⊥) → (h.machine.top.active.context ≡ context → ⊥)
       → (access : Access) (n : ℕ) (o : Object TaggedValue) (cells : List TaggedValue)
-      → IsWritten access (facts_of one (asking access n) o) → IsAlike context o (with_cells o cells)
+      → IsWritten access (facts_of first (asking access n) o) → IsAlike context o (with_cells o cells)
       → (f g : Object TaggedValue → Stepped C) → StepsAlike context (f o) (g o)
-      → StepsAlike context (accessed one access n o (f o))
-      (accessed two access n (with_cells o cells) (g (with_cells o cells)))
+      → StepsAlike context (accessed first access n o (f o))
+      (accessed second access n (with_cells o cells) (g (with_cells o cells)))
   at_read applet other access n o cells written a f g k =
       at_judged (asking access n) o cells (λ switch. f o) (λ switch. g (with_cells o cells)) (λ fine switch.
       subst (λ (cs : List TaggedValue). StepsAlike context (f o) (g (with_cells o cs)))
-      (a.seen (unhidden context h.machine.top.active.context access (facts_of one (asking access n) o) written applet
-      other fine)) k)
+      (a.seen (unhidden context h.machine.top.active.context (facts_of first (asking access n) o)
+      (own_object access h.machine.top.active.context (facts_of first (asking access n) o) written fine) applet other)) k)
+
+  -- an object that is thrown in a context that isn't hidden isn't hidden
+  pub at_thrown : (h.machine.top.active.context ≡ runtime_context → ⊥)
+      → (h.machine.top.active.context ≡ context → ⊥) → (n : ℕ) (o : Object TaggedValue) (cells : List TaggedValue)
+      → object_at H n ≡ Some o
+      → StepsAlike context (accessed first Throw n o (throws first n)) (accessed second Throw n (with_cells o cells) (throws second n))
+  at_thrown applet other n o cells found =
+      at_judged (asking Throw n) o cells (λ switch. throws first n) (λ switch. throws second n) (λ fine switch.
+      throws_both context h H K alike n (λ p e.
+      subst (λ (q : Object TaggedValue). is_hidden context q ≡ false) (same_Some o p (sym found ∙ e))
+      (unhidden context h.machine.top.active.context (facts_of first (asking Throw n) o)
+      (own_thrown h.machine.top.active.context (facts_of first (asking Throw n) o) fine) applet other)))
 
 -- ---- what is stored
 

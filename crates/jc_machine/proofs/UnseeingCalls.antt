@@ -75,19 +75,21 @@ use Rattle.jc_machine.specs.Runtime.{arithmetic_exception, class_cast_exception,
 use Rattle.jc_machine.specs.Step.{act, act_at, caught_in, covering, defensive_step, handler_for, here, is_found, settled}
 use Rattle.jc_machine.specs.Step.{settled_object, through, unwound}
 use Rattle.jc_machine.specs.Unseen as unseen
-use Rattle.jc_machine.specs.Unseen.{AreAlike, AreNativesBlind, ComesAlike, IsAlike, IsBlindAnswer, StepsAlike, next}
-use Rattle.jc_machine.specs.Unseen.{stuck_both}
+use Rattle.jc_machine.specs.Unseen.{AreAlike, AreNativesBlind, ComesAlike, IsAlike, IsBlindAnswer, IsSeen, StepsAlike}
+use Rattle.jc_machine.specs.Unseen.{next, stuck_both}
 use Rattle.jc_machine.specs.Words.{act_word, on_result, shuffled}
 use Rattle.jc_words.specs.Shorts.{binary_of, holds, lookup_offset, short, stable_offset}
 use Rattle.jc_words.specs.Values.{Null, Ref, TaggedValue, Unset, Word, all_written}
-use Rattle.jc_machine.proofs.Unseeing.{at_check, at_heap, at_judged, at_object, at_reference, at_reference_local}
+use Rattle.jc_machine.proofs.Unseeing.{at_check, at_heap, at_judged, at_known, at_object, at_reference, at_reference_local}
 use Rattle.jc_machine.proofs.Unseeing.{at_require, at_same, at_some, at_target, at_word, at_word_local, behind}
 use Rattle.jc_machine.proofs.Unseeing.{both_stuck, branches_both, gives_both, goes_both, leaves_both, throws_both}
+use Rattle.jc_machine.proofs.Unseeing.{throws_own}
+use Rattle.jc_machine.proofs.Staying.{they_stay}
 use Rattle.jc_machine.proofs.UnseeingHeaps.{AlikeAt, as_cells, at_alike, given_both, leads_both, types_both, with_cells}
 use Rattle.jc_machine.proofs.UnseeingRules.{creates_both, field_both, length_both, load_both, store_both, throw_both}
 
 module _ {C : Type 0} (context : ℕ) (h : Here C) (H K : Heap TaggedValue) (alike : AreAlike context H K)
-    (applet : h.machine.top.active.context ≡ runtime_context → ⊥)
+    (own : HasRuntimeObjects H) (applet : h.machine.top.active.context ≡ runtime_context → ⊥)
     (other : h.machine.top.active.context ≡ context → ⊥) where
   abbrev one : Here C
   one = at_heap h H
@@ -131,7 +133,7 @@ module _ {C : Type 0} (context : ℕ) (h : Here C) (H K : Heap TaggedValue) (ali
 
   result_both : (result : Option ℕ) (f g : ℕ → Stepped C) → ((n : ℕ) → StepsAlike context (f n) (g n))
       → StepsAlike context (on_result one result f) (on_result two result g)
-  result_both None f g k = throws_both context h H K alike arithmetic_exception
+  result_both None f g k = throws_own context h H K alike own arithmetic_exception refl
   result_both (Some n) f g k = k n
 
   shuffled_both : (shuffle : shuffles.Shuffle) (vs : List TaggedValue)
@@ -211,11 +213,11 @@ module _ {C : Type 0} (context : ℕ) (h : Here C) (H K : Heap TaggedValue) (ali
       → StepsAlike context (tested one access type v s f) (tested two access type v t g)
   tested_both access type (Word n) s t f g k l = both_stuck
   tested_both access type (Ref n) s t f g k l =
-      at_test type _ _ (λ test. at_object context h H K alike (Ref n)
+      at_test type _ _ (λ test. at_object context h H K alike own (Ref n)
       (λ number object. judged one (wanting access number test.wanted) object (λ switch. f (test.passes object.kind.object)))
       (λ number object. judged two (wanting access number test.wanted) object (λ switch. g (test.passes object.kind.object)))
       (λ number o cells a.
-      at_judged context h H K alike (wanting access number test.wanted) o cells _ _
+      at_judged context h H K alike own (wanting access number test.wanted) o cells _ _
       (λ fine switch. l (test.passes o.kind.object))))
   tested_both access type Null s t f g k l = at_test type _ _ (λ test. k)
   tested_both access type Unset s t f g k l = both_stuck
@@ -224,7 +226,7 @@ module _ {C : Type 0} (context : ℕ) (h : Here C) (H K : Heap TaggedValue) (ali
   check_cast_both type =
       at_reference h.machine.top.operands _ _ (λ v vs.
       tested_both accesses.CheckCast type v _ _ _ _ (gives_both context h H K alike v vs) (λ passes.
-      at_require context h H K alike class_cast_exception passes _ _ (gives_both context h H K alike v vs)))
+      at_require context h H K alike own class_cast_exception refl passes _ _ (gives_both context h H K alike v vs)))
 
   instance_of_both : (type : TestedType) → StepsAlike context (act_instance_of one type) (act_instance_of two type)
   instance_of_both type =
@@ -235,15 +237,15 @@ module _ {C : Type 0} (context : ℕ) (h : Here C) (H K : Heap TaggedValue) (ali
   create_both : (creation : Creation) → StepsAlike context (act_create one creation) (act_create two creation)
   create_both (Creations.Object index) =
       at_class index _ _ (λ c. at_check (has_objects h.around.world.shapes c) _ _
-      (creates_both context h H K alike applet other (Instance c) (cells_of h.around.world.shapes c) h.machine.top.operands))
+      (creates_both context h H K alike own applet other (Instance c) (cells_of h.around.world.shapes c) h.machine.top.operands))
   create_both (Creations.WordArray kind) =
       at_word h.machine.top.operands _ _ (λ count vs.
-      at_require context h H K alike negative_size_exception _ _ _
-      (creates_both context h H K alike applet other (word_array kind) _ vs))
+      at_require context h H K alike own negative_size_exception refl _ _ _
+      (creates_both context h H K alike own applet other (word_array kind) _ vs))
   create_both (Creations.ReferenceArray index) =
       at_class index _ _ (λ c. at_word h.machine.top.operands _ _ (λ count vs.
-      at_require context h H K alike negative_size_exception _ _ _
-      (creates_both context h H K alike applet other (ReferenceArray c) _ vs)))
+      at_require context h H K alike own negative_size_exception refl _ _ _
+      (creates_both context h H K alike own applet other (ReferenceArray c) _ vs)))
 
 -- ---- frames
 
@@ -364,17 +366,22 @@ after_both {C = C} context h H K a b same P k =
     (subst (λ (e : NativeEnd). StepsAlike context (P (at_heap (keeping h a.runtime) a.heap) a.ends)
     (P (at_heap (keeping h a.runtime) b.heap) e)) same.ends k)
 
+-- what it throws isn't hidden
+abbrev ThrowsSeen : ℕ → Heap TaggedValue → NativeEnd → Type 0
+ThrowsSeen context heap ends = (number : ℕ) → ends ≡ ThrowsObject number → IsSeen context heap number
+
 native_both : {C : Type 0} (context : ℕ) (h : Here C) (H K : Heap TaggedValue) → AreAlike context H K
-    → (active : Owner) (previous : Option Owner) (member : ℕ) (arguments : List TaggedValue)
+    → HasRuntimeObjects H → AreNativesGuarded h.around.natives → (active : Owner) (previous : Option Owner) (member : ℕ) (arguments : List TaggedValue)
     → (go : Here C → Signature ClassName → NativeEnd → Stepped C)
     → IsBlindAnswer context (native_answer (at_heap h H) active previous member arguments)
     (native_answer (at_heap h K) active previous member arguments)
-    → ((H2 K2 : Heap TaggedValue) (runtime : C) → AreAlike context H2 K2 → (signature : Signature ClassName)
-    (ends : NativeEnd) → (native_answer (at_heap h H) active previous member arguments).ends ≡ ends
+    → ((H2 K2 : Heap TaggedValue) (runtime : C) → AreAlike context H2 K2 → HasRuntimeObjects H2
+    → (signature : Signature ClassName) (ends : NativeEnd)
+    → (native_answer (at_heap h H) active previous member arguments).ends ≡ ends → ThrowsSeen context H2 ends
     → StepsAlike context (go (at_heap (keeping h runtime) H2) signature ends) (go (at_heap (keeping h runtime) K2) signature ends))
     → StepsAlike context (on_native (at_heap h H) active previous member arguments go)
     (on_native (at_heap h K) active previous member arguments go)
-native_both context h H K alike active previous member arguments go same k =
+native_both context h H K alike own guarded active previous member arguments go same k =
     let a = native_answer (at_heap h H) active previous member arguments in
     let b = native_answer (at_heap h K) active previous member arguments in
     at_same (native_may_begin h.around.world.shapes H member arguments)
@@ -383,7 +390,9 @@ native_both context h H K alike active previous member arguments go same k =
     (at_some (native_type h.around.world.shapes member) _ _ (λ signature.
     touches_both a.touches b.touches _ _ same.touches
     (after_both context h H K a b same (λ x e. go x signature e)
-    (k a.heap b.heap a.runtime same.heap signature a.ends refl))))
+    (k a.heap b.heap a.runtime same.heap (they_stay H a.heap
+    (guarded h.around.world (native_call h.around (with_heap h.machine H) active previous member arguments)).kept own)
+    signature a.ends refl same.thrown))))
 
 module _ {C : Type 0} (context : ℕ) (h : Here C) (H K : Heap TaggedValue) (alike : AreAlike context H K) where
   given_so : (value : Option TaggedValue) (operands : List TaggedValue)
@@ -400,15 +409,16 @@ module _ {C : Type 0} (context : ℕ) (h : Here C) (H K : Heap TaggedValue) (ali
       (given_both context H K alike h.around.world.shapes signature.result value) (given_so value operands)
 
   inner_both : (operands : List TaggedValue) (signature : Signature ClassName) (ends : NativeEnd)
-      → StepsAlike context (inner_native_ends operands (at_heap h H) signature ends)
+      → ThrowsSeen context H ends → StepsAlike context (inner_native_ends operands (at_heap h H) signature ends)
       (inner_native_ends operands (at_heap h K) signature ends)
-  inner_both operands signature (Gives value) = native_gives_both signature value operands
-  inner_both operands signature (ThrowsObject number) = throws_both context h H K alike number
-  inner_both operands signature (Calls callback) = both_stuck
-  inner_both operands signature IsStuck = both_stuck
+  inner_both operands signature (Gives value) seen = native_gives_both signature value operands
+  inner_both operands signature (ThrowsObject number) seen = throws_both context h H K alike number (seen number refl)
+  inner_both operands signature (Calls callback) seen = both_stuck
+  inner_both operands signature IsStuck seen = both_stuck
 
-module _ {C : Type 0} (context : ℕ) (h : Here C) (blind : AreNativesBlind h.around.natives)
-    (H K : Heap TaggedValue) (alike : AreAlike context H K) where
+module _ {C : Type 0} (context : ℕ) (h : Here C) (guarded : AreNativesGuarded h.around.natives)
+    (blind : AreNativesBlind h.around.natives) (H K : Heap TaggedValue) (alike : AreAlike context H K)
+    (own : HasRuntimeObjects H) where
   called_as_both : (callback : Callback) → callback.member ≡ shareable_member → (owner : Owner) (method : MethodName)
       → is_member_or_loaded callback.member method ≡ true → (arguments operands : List TaggedValue)
       → StepsAlike context (called_as (at_heap h H) owner method arguments operands)
@@ -416,12 +426,13 @@ module _ {C : Type 0} (context : ℕ) (h : Here C) (blind : AreNativesBlind h.ar
   called_as_both callback asks owner (Loaded number offset) in_place arguments operands =
       enters_both context h H K alike (Some owner) (record { number = number; offset = offset }) arguments operands
   called_as_both callback asks owner (Api member) in_place arguments operands =
-      native_both context h H K alike owner (Some h.machine.top.active) member arguments (inner_native_ends operands)
+      native_both context h H K alike own guarded owner (Some h.machine.top.active) member arguments
+      (inner_native_ends operands)
       (blind.modest context h.around.world
-      (native_call h.around (with_heap h.machine H) owner (Some h.machine.top.active) member arguments) K
+      (native_call h.around (with_heap h.machine H) owner (Some h.machine.top.active) member arguments) K own
       (eqb-true member callback.member in_place ∙ asks) alike)
-      (λ H2 K2 runtime alike2 signature ends e.
-      inner_both context (keeping h runtime) H2 K2 alike2 operands signature ends)
+      (λ H2 K2 runtime alike2 own2 signature ends e seen.
+      inner_both context (keeping h runtime) H2 K2 alike2 operands signature ends seen)
 
   fits_both : (given signature : Signature ClassName) (class : ClassName) (o : Object TaggedValue)
       (cells arguments : List TaggedValue)
@@ -440,17 +451,12 @@ module _ {C : Type 0} (context : ℕ) (h : Here C) (blind : AreNativesBlind h.ar
   first_part : (a b c : Bool) → (a && b && c) ≡ true → a ≡ true
   first_part a b c e = (and_parts a b (and_parts (a && b) c e).0).0
 
-  at_known_object : (n : ℕ) (f g : Object TaggedValue → Stepped C)
-      → ((o : Object TaggedValue) (cells : List TaggedValue) → StepsAlike context (f o) (g (with_cells o cells)))
-      → StepsAlike context (on_some (object_at H n) f) (on_some (object_at K n) g)
-  at_known_object n f g k = at_object context h H K alike (Ref n) (λ i. f) (λ i. g) (λ i o cells a. k o cells)
-
   calls_back_both : (given : Signature ClassName) (callback : Callback) → callback.member ≡ shareable_member
       → (operands : List TaggedValue)
       → StepsAlike context (calls_back (at_heap h H) given callback operands)
       (calls_back (at_heap h K) given callback operands)
   calls_back_both given callback asks operands =
-      at_known_object callback.object _ _ (λ o cells.
+      at_known context h H K alike callback.object _ _ (λ o cells there a.
       at_some (type_of_member h.around.world.shapes callback.member) _ _ (λ signature.
       at_some (virtual_member h.around.world.shapes callback.member) _ _ (λ member.
       at_same _ _ _ _ (fits_both given signature member.class o cells callback.arguments)
@@ -473,18 +479,19 @@ module _ {C : Type 0} (context : ℕ) (h : Here C) (H K : Heap TaggedValue) (ali
   isnt_runtime : h.machine.top.active.context ≡ runtime_context → ⊥
   isnt_runtime e = applets_not h.machine.top.active rely.applet e
 
-  ends_both : (operands : List TaggedValue) (h2 : Here C) → AreNativesBlind h2.around.natives → (H2 K2 : Heap TaggedValue)
-      → AreAlike context H2 K2 → (signature : Signature ClassName) (ends : NativeEnd)
+  ends_both : (operands : List TaggedValue) (h2 : Here C) → AreNativesGuarded h2.around.natives
+      → AreNativesBlind h2.around.natives → (H2 K2 : Heap TaggedValue) → AreAlike context H2 K2 → HasRuntimeObjects H2
+      → (signature : Signature ClassName) (ends : NativeEnd) → ThrowsSeen context H2 ends
       → ((callback : Callback) → ends ≡ Calls callback → callback.member ≡ shareable_member)
       → StepsAlike context (native_ends operands (at_heap h2 H2) signature ends)
       (native_ends operands (at_heap h2 K2) signature ends)
-  ends_both operands h2 blind H2 K2 alike2 signature (Gives value) asks =
+  ends_both operands h2 guarded blind H2 K2 alike2 own2 signature (Gives value) seen asks =
       native_gives_both context h2 H2 K2 alike2 signature value operands
-  ends_both operands h2 blind H2 K2 alike2 signature (ThrowsObject number) asks =
-      throws_both context h2 H2 K2 alike2 number
-  ends_both operands h2 blind H2 K2 alike2 signature (Calls callback) asks =
-      calls_back_both context h2 blind H2 K2 alike2 signature callback (asks callback refl) operands
-  ends_both operands h2 blind H2 K2 alike2 signature IsStuck asks = both_stuck
+  ends_both operands h2 guarded blind H2 K2 alike2 own2 signature (ThrowsObject number) seen asks =
+      throws_both context h2 H2 K2 alike2 number (seen number refl)
+  ends_both operands h2 guarded blind H2 K2 alike2 own2 signature (Calls callback) seen asks =
+      calls_back_both context h2 guarded blind H2 K2 alike2 own2 signature callback (asks callback refl) operands
+  ends_both operands h2 guarded blind H2 K2 alike2 own2 signature IsStuck seen asks = both_stuck
 
   invokes_both : (switch : Option Owner) (method : MethodName) (arguments operands : List TaggedValue)
       → StepsAlike context (invokes (at_heap h H) switch method arguments operands)
@@ -492,13 +499,13 @@ module _ {C : Type 0} (context : ℕ) (h : Here C) (H K : Heap TaggedValue) (ali
   invokes_both switch (Loaded number offset) arguments operands =
       enters_both context h H K alike switch (record { number = number; offset = offset }) arguments operands
   invokes_both switch (Api member) arguments operands =
-      native_both context h H K alike h.machine.top.active h.machine.top.previous member arguments
+      native_both context h H K alike rely.own rely.guarded h.machine.top.active h.machine.top.previous member arguments
       (native_ends operands)
       (rely.blind.members context h.around.world
       (native_call h.around (with_heap h.machine H) h.machine.top.active h.machine.top.previous member arguments) K
       rely.own rely.applet rely.other alike)
-      (λ H2 K2 runtime alike2 signature ends e.
-      ends_both operands (keeping h runtime) rely.blind H2 K2 alike2 signature ends (λ callback f.
+      (λ H2 K2 runtime alike2 own2 signature ends e seen.
+      ends_both operands (keeping h runtime) rely.guarded rely.blind H2 K2 alike2 own2 signature ends seen (λ callback f.
       (rely.guarded h.around.world
       (native_call h.around (with_heap h.machine H) h.machine.top.active h.machine.top.previous member arguments)).asks
       callback (e ∙ f)))
@@ -519,7 +526,7 @@ module _ {C : Type 0} (context : ℕ) (h : Here C) (H K : Heap TaggedValue) (ali
       → StepsAlike context (with_receiver (at_heap h H) signature f) (with_receiver (at_heap h K) signature g)
   receiver_both signature f g k =
       arguments_both signature _ _ (λ arguments us. at_reference us _ _ (λ receiver operands.
-      at_object context h H K alike receiver (λ number object. f (receiver ∷ arguments) number object operands)
+      at_object context h H K alike rely.own receiver (λ number object. f (receiver ∷ arguments) number object operands)
       (λ number object. g (receiver ∷ arguments) number object operands)
       (λ n o cells a. k (receiver ∷ arguments) n o cells operands)))
 
@@ -535,7 +542,7 @@ module _ {C : Type 0} (context : ℕ) (h : Here C) (H K : Heap TaggedValue) (ali
       (λ method. invokes (at_heap h K) switch method arguments operands))))
       (λ arguments n o cells operands.
       at_check (is_of_class h.around.world.shapes target.class o.kind.object) _ _
-      (at_judged context h H K alike (asking accesses.InvokeVirtual n) o cells _ _ (λ fine switch.
+      (at_judged context h H K alike rely.own (asking accesses.InvokeVirtual n) o cells _ _ (λ fine switch.
       at_some (found_for h target.token o) _ _ (λ method. invokes_both switch method arguments operands))))
 
   special_both : (target : MethodTarget)
@@ -569,8 +576,8 @@ module _ {C : Type 0} (context : ℕ) (h : Here C) (H K : Heap TaggedValue) (ali
       (on_some (interface_method_of h.around.world.shapes (class_of object.kind.object) interface token)
       (λ method. invokes (at_heap h K) switch method arguments operands))))
       (λ arguments n o cells operands.
-      at_judged context h H K alike (wanting accesses.InvokeInterface n (Some interface)) o cells _ _ (λ fine switch.
-      at_require context h H K alike class_cast_exception (has_interface h.around.world.shapes interface o) _ _
+      at_judged context h H K alike rely.own (wanting accesses.InvokeInterface n (Some interface)) o cells _ _ (λ fine switch.
+      at_require context h H K alike rely.own class_cast_exception refl (has_interface h.around.world.shapes interface o) _ _
       (at_some (interface_method_of h.around.world.shapes (class_of o.kind.object) interface token) _ _ (λ method.
       invokes_both switch method arguments operands))))
 
@@ -601,22 +608,22 @@ module _ {C : Type 0} (context : ℕ) (h : Here C) (H K : Heap TaggedValue) (ali
   object_both (objects.Store local) =
       at_reference h.machine.top.operands _ _ (λ v vs. at_check (nat_lt local (length h.machine.top.locals)) _ _
       (goes_both context h H K alike h.next_pc (slice_set h.machine.top.locals local v) vs))
-  object_both (objects.LoadComponent form) = load_both context h H K alike isnt_runtime rely.other form
-  object_both (objects.StoreComponent form) = store_both context h H K alike isnt_runtime rely.other form
-  object_both objects.ArrayLength = length_both context h H K alike isnt_runtime rely.other
-  object_both (objects.Branch when offset) = branch_both context h H K alike isnt_runtime rely.other when offset
-  object_both (objects.Field access index) = field_both context h H K alike isnt_runtime rely.other access index
+  object_both (objects.LoadComponent form) = load_both context h H K alike rely.own isnt_runtime rely.other form
+  object_both (objects.StoreComponent form) = store_both context h H K alike rely.own isnt_runtime rely.other form
+  object_both objects.ArrayLength = length_both context h H K alike rely.own isnt_runtime rely.other
+  object_both (objects.Branch when offset) = branch_both context h H K alike rely.own isnt_runtime rely.other when offset
+  object_both (objects.Field access index) = field_both context h H K alike rely.own isnt_runtime rely.other access index
   object_both (objects.Invoke invocation) = call_both invocation
-  object_both (objects.Create creation) = create_both context h H K alike isnt_runtime rely.other creation
-  object_both (objects.CheckCast type) = check_cast_both context h H K alike isnt_runtime rely.other type
-  object_both (objects.InstanceOf type) = instance_of_both context h H K alike isnt_runtime rely.other type
-  object_both objects.Throw = throw_both context h H K alike isnt_runtime rely.other
+  object_both (objects.Create creation) = create_both context h H K alike rely.own isnt_runtime rely.other creation
+  object_both (objects.CheckCast type) = check_cast_both context h H K alike rely.own isnt_runtime rely.other type
+  object_both (objects.InstanceOf type) = instance_of_both context h H K alike rely.own isnt_runtime rely.other type
+  object_both objects.Throw = throw_both context h H K alike rely.own isnt_runtime rely.other
   object_both objects.ReturnReference =
-      at_reference h.machine.top.operands _ _ (λ v vs. returns_both context h H K alike isnt_runtime rely.other (Some v))
-  object_both objects.ReturnVoid = returns_both context h H K alike isnt_runtime rely.other None
+      at_reference h.machine.top.operands _ _ (λ v vs. returns_both context h H K alike rely.own isnt_runtime rely.other (Some v))
+  object_both objects.ReturnVoid = returns_both context h H K alike rely.own isnt_runtime rely.other None
 
   act_both : (operation : Operation) → StepsAlike context (act (at_heap h H) operation) (act (at_heap h K) operation)
-  act_both (operations.Word operation) = word_both context h H K alike isnt_runtime rely.other operation
+  act_both (operations.Word operation) = word_both context h H K alike rely.own isnt_runtime rely.other operation
   act_both (operations.Object operation) = object_both operation
 
 -- ---- what is thrown, and a step
@@ -627,7 +634,7 @@ module _ {C : Type 0} (context : ℕ) (s : Surroundings C) where
   either_both false o p k = stuck_both
 
   module _ (m : Machine C) (heap : Heap TaggedValue) (alike : AreAlike context m.heap heap) (object : ℕ)
-      (class : ClassName) where
+      (seen : IsSeen context m.heap object) (class : ClassName) where
     caught_both : (f : Frame) (waiting : List Frame) (body : MethodBody) (room : Option ℕ) (o p : Outcome C)
         (handler : Option Handler) → ComesAlike context o p
         → ComesAlike context (caught_in m object f waiting body room o handler)
@@ -653,25 +660,25 @@ module _ {C : Type 0} (context : ℕ) (s : Surroundings C) where
 
     unwound_both : (frames : List Frame)
         → ComesAlike context (unwound s m object class frames) (unwound s (with_heap m heap) object class frames)
-    unwound_both [] = unseen.throws m heap object alike
+    unwound_both [] = unseen.throws m heap object alike seen
     unwound_both (f ∷ waiting) = through_both f waiting _ _ (code_at s.world f.method) (unwound_both waiting)
 
   object_settles : (m : Machine C) (heap : Heap TaggedValue) → AreAlike context m.heap heap → (object : ℕ)
-      (x y : Option (Object TaggedValue)) → AlikeAt context x y
+      → IsSeen context m.heap object → (x y : Option (Object TaggedValue)) → AlikeAt context x y
       → ComesAlike context (settled_object s m object x) (settled_object s (with_heap m heap) object y)
-  object_settles m heap alike object None None a = stuck_both
-  object_settles m heap alike object (Some o) (Some p) a =
+  object_settles m heap alike object seen None None a = stuck_both
+  object_settles m heap alike object seen (Some o) (Some p) a =
       subst (λ (q : Object TaggedValue). ComesAlike context (settled_object s m object (Some o))
       (settled_object s (with_heap m heap) object (Some q))) (sym (as_cells context o p a))
       (either_both (is_throwable s.world.shapes o.kind.object) _ _
-      (unwound_both m heap alike object (class_of o.kind.object) (m.top ∷ m.waiting)))
-  object_settles m heap alike object None (Some p) a = absurd a
-  object_settles m heap alike object (Some o) None a = absurd a
+      (unwound_both m heap alike object seen (class_of o.kind.object) (m.top ∷ m.waiting)))
+  object_settles m heap alike object seen None (Some p) a = absurd a
+  object_settles m heap alike object seen (Some o) None a = absurd a
 
   settles_both : (o p : Outcome C) → ComesAlike context o p → ComesAlike context (settled s o) (settled s p)
   settles_both o p (next m heap a) = next m heap a
-  settles_both o p (unseen.throws m heap object a) =
-      object_settles m heap a object (object_at m.heap object) (object_at heap object)
+  settles_both o p (unseen.throws m heap object a seen) =
+      object_settles m heap a object seen (object_at m.heap object) (object_at heap object)
       (at_alike context m.heap heap a object)
   settles_both o p (unseen.ends m heap value a) = unseen.ends m heap value a
   settles_both o p (unseen.used_up m heap a) = unseen.used_up m heap a

@@ -1,6 +1,9 @@
 -- Objects that are alike: what is read of them beside components of a hidden one is the same.
-use Rattle.std.proofs.Common.{◌≡◌, ℕ, zero, suc, ◌+◌, ◌&&◌, Bool, true, false, List, [], ◌∷◌, ◌++◌, length, arith}
-use Rattle.std.proofs.Common.{Option, Some, None, refl, sym, ap, ◌∙◌, slice_get, set, length-set}
+use Rattle.std.proofs.Common.{◌≡◌, ℕ, zero, suc, ◌+◌, ◌==◌, ◌&&◌, ◌||◌, Bool, true, false, not, List, [], ◌∷◌, length}
+use Rattle.std.proofs.Common.{Option, Some, None, refl, sym, ap, ◌∙◌, subst, arith, eqb-true, slice_get, set, length-set}
+use Rattle.std.proofs.lemmas.Option.{same_Some}
+use Rattle.std.proofs.lemmas.Bool.{and_parts}
+use Rattle.std.specs.List.{AllByRecursion}
 use Rattle.std.specs.Prelude.{⊤}
 use Rattle.std.specs.Option.{option_map, option_map_or, option_and_then}
 use Rattle.jc_base.specs.declared.declared_type.DeclaredType.{DeclaredType}
@@ -14,7 +17,8 @@ use Rattle.jc_store.specs.declared.kind.Mark.{Mark}
 use Rattle.jc_store.specs.declared.kind.ObjectType.{ObjectType}
 use Rattle.jc_machine.specs.Lookup.{are_of_types, is_given, is_of_type, leads_to, mark_of}
 use Rattle.jc_machine.specs.Reading.{Pointwise}
-use Rattle.jc_machine.specs.Unseen.{AreAlike, IsAlike}
+use Rattle.jc_machine.specs.Runtime.{HasRuntimeObject, HasRuntimeObjects, RuntimeObject, runtime_objects}
+use Rattle.jc_machine.specs.Unseen.{AreAlike, IsAlike, IsSeen, is_hidden, is_plain}
 use Rattle.jc_words.specs.Values.{Null, Ref, TaggedValue, Unset, Word}
 
 abbrev pub with_cells : Object TaggedValue → List TaggedValue → Object TaggedValue
@@ -146,3 +150,49 @@ module _ (context : ℕ) (H K : Heap TaggedValue) (a : AreAlike context H K) whe
   pub stored_mark : (v : Option TaggedValue) → option_and_then (mark_of H) v ≡ option_and_then (mark_of K) v
   stored_mark None = refl
   stored_mark (Some v) = mark_both v
+
+-- ---- the runtime's own objects aren't hidden
+
+abbrev pub is_seen_in : List RuntimeObject → ℕ → Bool
+is_seen_in [] n = false
+is_seen_in (x ∷ xs) n = (x.number == n && not (is_plain x.mark)) || is_seen_in xs n
+
+module _ (context : ℕ) (heap : Heap TaggedValue) where
+  one_seen : (x : RuntimeObject) (n : ℕ) → HasRuntimeObject heap x → (x.number == n && not (is_plain x.mark)) ≡ true
+      → IsSeen context heap n
+  one_seen x n has e o found =
+      let parts = and_parts (x.number == n) (not (is_plain x.mark)) e in
+      let there : object_at heap n ≡ Some has.object =
+      ap (object_at heap) (sym (eqb-true x.number n parts.0)) ∙ has.found in
+      let same : o ≡ has.object = same_Some o has.object (sym found ∙ there) in
+      not_both (o.owner.context == context) (is_plain o.kind.mark)
+      (ap (λ (q : Object TaggedValue). is_plain q.kind.mark) same ∙ ap is_plain has.mark
+      ∙ not_true (is_plain x.mark) parts.1)
+    where
+      not_both : (a b : Bool) → b ≡ false → (a && b) ≡ false
+      not_both a b f = grind arith
+
+      not_true : (b : Bool) → not b ≡ true → b ≡ false
+      not_true b f = grind arith
+
+  pub own_seen : (xs : List RuntimeObject) (n : ℕ) → AllByRecursion (HasRuntimeObject heap) xs → is_seen_in xs n ≡ true
+      → IsSeen context heap n
+  own_seen [] n has e = absurd cc
+  own_seen (x ∷ xs) n has e = by_first (x.number == n && not (is_plain x.mark)) refl e (own_seen xs n has.1)
+    where
+      by_first : (b : Bool) → (x.number == n && not (is_plain x.mark)) ≡ b → (b || is_seen_in xs n) ≡ true
+          → (is_seen_in xs n ≡ true → IsSeen context heap n) → IsSeen context heap n
+      by_first true f g later = one_seen x n has.0 f
+      by_first false f g later = later g
+
+set_one : (os : Heap TaggedValue) (n : ℕ) (p q : Object TaggedValue) → slice_get (set os n p) n ≡ Some q → p ≡ q
+set_one [] n p q e = absurd cc
+set_one (o ∷ os) zero p q e = same_Some p q e
+set_one (o ∷ os) (suc n) p q e = set_one os n p q e
+
+-- with another component an object is hidden or not as it was
+pub seen_still : (context : ℕ) (heap : Heap TaggedValue) (n : ℕ) (o : Object TaggedValue) (i : ℕ) (v : TaggedValue)
+    → is_hidden context o ≡ false → IsSeen context (with_object heap n (with_cell o i v)) n
+seen_still context heap zero o i v seen p e = absurd cc
+seen_still context heap (suc n) o i v seen p e =
+    subst (λ (q : Object TaggedValue). is_hidden context q ≡ false) (set_one heap n (with_cell o i v) p e) seen

@@ -23,26 +23,27 @@ use Rattle.jc_machine.specs.Arrays.{is_in_bounds, is_there, loads, stored_as}
 use Rattle.jc_machine.specs.Fields.{FieldTarget, InstanceField, act_field, act_get_static, act_instance, act_on_target}
 use Rattle.jc_machine.specs.Fields.{act_put_static, act_static, field_target, gets, of_class, of_objects, on_holder}
 use Rattle.jc_machine.specs.Fields.{put_static, puts, putting, static_at, stored_in_static}
-use Rattle.jc_machine.specs.Going.{Here, accessed_to_store, gives, leaves_operands, on_some, require, runtime_touch, stored_in, throws}
+use Rattle.jc_machine.specs.Going.{Here, accessed, accessed_to_store, gives, leaves_operands, on_object, on_some}
+use Rattle.jc_machine.specs.Going.{require, runtime_touch, stored_in, throws}
 use Rattle.jc_machine.specs.Going.{throws_system, touched, with_heap, with_machine, no_resource, check}
 use Rattle.jc_machine.specs.Lookup.{component_class, is_array, is_instance, is_of_class, is_of_type, is_throwable}
 use Rattle.jc_machine.specs.Lookup.{leads_to}
 use Rattle.jc_machine.specs.Machine.{Stepped}
 use Rattle.jc_machine.specs.Objects.{act_throw, creates, creates_array, has_space, made}
 use Rattle.jc_machine.specs.Runtime.{array_index_exception, array_store_exception, negative_size_exception}
-use Rattle.jc_machine.specs.Runtime.{system_exception}
+use Rattle.jc_machine.specs.Runtime.{HasRuntimeObjects, null_pointer_exception, runtime_objects, system_exception}
 use Rattle.jc_machine.specs.Unseen.{AreAlike, IsAlike, StepsAlike}
 use Rattle.jc_words.specs.Shorts.{short}
 use Rattle.jc_words.specs.Values.{Null, Ref, TaggedValue, Unset, Word}
-use Rattle.jc_machine.proofs.Unseeing.{at_accessed, at_check, at_heap, at_object, at_read, at_reference}
+use Rattle.jc_machine.proofs.Unseeing.{at_accessed, at_check, at_heap, at_known, at_object, at_read, at_reference}
 use Rattle.jc_machine.proofs.Unseeing.{at_reference_local, at_require, at_same, at_same_require, at_some, at_stored}
-use Rattle.jc_machine.proofs.Unseeing.{at_target, at_top, at_word, behind, both_stuck, gives_both, leaves_both}
-use Rattle.jc_machine.proofs.Unseeing.{loads_both, stored_both, throws_both}
+use Rattle.jc_machine.proofs.Unseeing.{at_target, at_thrown, at_top, at_word, behind, both_stuck, gives_both, leaves_both}
+use Rattle.jc_machine.proofs.Unseeing.{loads_both, stored_both, throws_both, throws_own}
 use Rattle.jc_machine.proofs.UnseeingHeaps.{as_large, as_long, leads_both, new_both, type_both, with_cells, with_both}
-use Rattle.jc_machine.proofs.UnseeingHeaps.{cell_both}
+use Rattle.jc_machine.proofs.UnseeingHeaps.{cell_both, own_seen, seen_still}
 
 module _ {C : Type 0} (context : ℕ) (h : Here C) (H K : Heap TaggedValue) (alike : AreAlike context H K)
-    (applet : h.machine.top.active.context ≡ runtime_context → ⊥)
+    (own : HasRuntimeObjects H) (applet : h.machine.top.active.context ≡ runtime_context → ⊥)
     (other : h.machine.top.active.context ≡ context → ⊥) where
   abbrev one : Here C
   one = at_heap h H
@@ -55,20 +56,20 @@ module _ {C : Type 0} (context : ℕ) (h : Here C) (H K : Heap TaggedValue) (ali
   pub load_both : (form : Form) → StepsAlike context (act_load one form) (act_load two form)
   load_both form =
       at_word h.machine.top.operands _ _ (λ index us. at_reference us _ _ (λ array vs.
-      at_object context h H K alike array _ _ (λ n o cells a. at_check (is_array_of form o.kind.object) _ _
-      (at_read context h H K alike applet other accesses.LoadComponent n o cells (inr refl) a
+      at_object context h H K alike own array _ _ (λ n o cells a. at_check (is_array_of form o.kind.object) _ _
+      (at_read context h H K alike own applet other accesses.LoadComponent n o cells (inr refl) a
       (λ x. require one array_index_exception (is_in_bounds index x)
       (on_some (slice_get x.cells index) (λ v. loads one form v vs)))
       (λ x. require two array_index_exception (is_in_bounds index x)
       (on_some (slice_get x.cells index) (λ v. loads two form v vs)))
-      (at_require context h H K alike array_index_exception (is_in_bounds index o) _ _
+      (at_require context h H K alike own array_index_exception refl (is_in_bounds index o) _ _
       (at_some (slice_get o.cells index) _ _ (λ v. loads_both context h H K alike form v vs)))))))
 
   pub length_both : StepsAlike context (act_length one) (act_length two)
   length_both =
-      at_reference h.machine.top.operands _ _ (λ array vs. at_object context h H K alike array _ _ (λ n o cells a.
+      at_reference h.machine.top.operands _ _ (λ array vs. at_object context h H K alike own array _ _ (λ n o cells a.
       at_check (is_array o.kind.object) _ _
-      (at_accessed context h H K alike accesses.ArrayLength n o cells _ _
+      (at_accessed context h H K alike own accesses.ArrayLength n o cells _ _
       (subst (λ (size : ℕ). StepsAlike context (gives one (Word (length o.cells)) vs) (gives two (Word size) vs)) a.size
       (gives_both context h H K alike (Word (length o.cells)) vs)))))
 
@@ -80,9 +81,9 @@ module _ {C : Type 0} (context : ℕ) (h : Here C) (H K : Heap TaggedValue) (ali
   store_word_both : (form : Form) → StepsAlike context (act_store_word one form) (act_store_word two form)
   store_word_both form =
       at_word h.machine.top.operands _ _ (λ w ts. at_word ts _ _ (λ index us. at_reference us _ _ (λ array vs.
-      at_object context h H K alike array _ _ (λ n o cells a. at_check (is_array_of form o.kind.object) _ _
-      (at_accessed context h H K alike accesses.StoreComponent n o cells _ _
-      (at_same_require context h H K alike array_index_exception (is_in_bounds index o)
+      at_object context h H K alike own array _ _ (λ n o cells a. at_check (is_array_of form o.kind.object) _ _
+      (at_accessed context h H K alike own accesses.StoreComponent n o cells _ _
+      (at_same_require context h H K alike own array_index_exception refl (is_in_bounds index o)
       (is_in_bounds index (with_cells o cells)) _ _ (bounds_both index o cells a)
       (stored_both context h H K alike n o cells index (stored_as form (Word w)) vs a)))))))
 
@@ -91,11 +92,11 @@ module _ {C : Type 0} (context : ℕ) (h : Here C) (H K : Heap TaggedValue) (ali
       at_reference h.machine.top.operands _ _ (λ v ts.
       at_same (is_there one v) (is_there two v) _ _ (leads_both context H K alike (λ object. true) v)
       (at_word ts _ _ (λ index us. at_reference us _ _ (λ array vs.
-      at_object context h H K alike array _ _ (λ n o cells a. at_some (component_class o.kind.object) _ _ (λ class.
-      at_stored context h H K alike accesses.StoreReference n o cells v _ _
-      (at_same_require context h H K alike array_index_exception (is_in_bounds index o)
+      at_object context h H K alike own array _ _ (λ n o cells a. at_some (component_class o.kind.object) _ _ (λ class.
+      at_stored context h H K alike own accesses.StoreReference n o cells v _ _
+      (at_same_require context h H K alike own array_index_exception refl (is_in_bounds index o)
       (is_in_bounds index (with_cells o cells)) _ _ (bounds_both index o cells a)
-      (at_same_require context h H K alike array_store_exception _ _ _ _
+      (at_same_require context h H K alike own array_store_exception refl _ _ _ _
       (leads_both context H K alike (is_instance h.around.world.shapes class) v)
       (stored_both context h H K alike n o cells index v vs a)))))))))
 
@@ -116,10 +117,10 @@ module _ {C : Type 0} (context : ℕ) (h : Here C) (H K : Heap TaggedValue) (ali
       → StepsAlike context (stored_in_static one v s) (stored_in_static two v t)
   stored_static_both (Word n) s t k = k
   stored_static_both (Ref n) s t k =
-      at_object context h H K alike (Ref n)
+      at_object context h H K alike own (Ref n)
       (λ number object. accessed_to_store one accesses.PutStaticReference number object (Ref n) s)
       (λ number object. accessed_to_store two accesses.PutStaticReference number object (Ref n) t) (λ number o cells a.
-      at_stored context h H K alike accesses.PutStaticReference number o cells (Ref n) s t k)
+      at_stored context h H K alike own accesses.PutStaticReference number o cells (Ref n) s t k)
   stored_static_both Null s t k = k
   stored_static_both Unset s t k = both_stuck
 
@@ -135,9 +136,9 @@ module _ {C : Type 0} (context : ℕ) (h : Here C) (H K : Heap TaggedValue) (ali
   gets_both : (form : Form) (field : InstanceField) (v : TaggedValue) (vs : List TaggedValue)
       → StepsAlike context (gets one form field v vs) (gets two form field v vs)
   gets_both form field v vs =
-      at_object context h H K alike v _ _ (λ n o cells a.
+      at_object context h H K alike own v _ _ (λ n o cells a.
       at_check (is_of_class h.around.world.shapes field.class o.kind.object) _ _
-      (at_read context h H K alike applet other accesses.GetField n o cells (inl refl) a
+      (at_read context h H K alike own applet other accesses.GetField n o cells (inl refl) a
       (λ x. on_some (slice_get x.cells field.cell) (λ value. loads one form value vs))
       (λ x. on_some (slice_get x.cells field.cell) (λ value. loads two form value vs))
       (at_some (slice_get o.cells field.cell) _ _ (λ value. loads_both context h H K alike form value vs))))
@@ -145,9 +146,9 @@ module _ {C : Type 0} (context : ℕ) (h : Here C) (H K : Heap TaggedValue) (ali
   puts_both : (form : Form) (field : InstanceField) (v value : TaggedValue) (vs : List TaggedValue)
       → StepsAlike context (puts one form field v value vs) (puts two form field v value vs)
   puts_both form field v value vs =
-      at_object context h H K alike v _ _ (λ n o cells a.
+      at_object context h H K alike own v _ _ (λ n o cells a.
       at_check (is_of_class h.around.world.shapes field.class o.kind.object) _ _
-      (at_stored context h H K alike (putting form) n o cells value _ _
+      (at_stored context h H K alike own (putting form) n o cells value _ _
       (at_same (nat_lt field.cell (length o.cells)) (nat_lt field.cell (length cells)) _ _
       (ap (nat_lt field.cell) a.size)
       (stored_both context h H K alike n o cells field.cell (stored_as form value) vs a))))
@@ -204,16 +205,13 @@ module _ {C : Type 0} (context : ℕ) (h : Here C) (H K : Heap TaggedValue) (ali
 
   system_both : (reason : ℕ) → StepsAlike context (throws_system one reason) (throws_system two reason)
   system_both reason =
-      at_object context h H K alike (Ref system_exception)
-      (λ number object. touched (runtime_touch accesses.PutField system_exception ∷ [])
-      (throws (stored_in one system_exception object 0 (Word reason)) system_exception))
-      (λ number object. touched (runtime_touch accesses.PutField system_exception ∷ [])
-      (throws (stored_in two system_exception object 0 (Word reason)) system_exception)) (λ n o cells a.
+      at_known context h H K alike system_exception _ _ (λ o cells e a.
       behind (runtime_touch accesses.PutField system_exception ∷ []) _ _
       (throws_both context h (with_object H system_exception (with_cell o 0 (Word reason)))
       (with_object K system_exception (with_cell (with_cells o cells) 0 (Word reason)))
       (with_both context H K alike system_exception _ _ (cell_both context o (with_cells o cells) a 0 (Word reason)))
-      system_exception))
+      system_exception (seen_still context H system_exception o 0 (Word reason)
+      (own_seen context H runtime_objects system_exception own refl o e))))
 
   space_both : (cells : List TaggedValue) → has_space one cells ≡ has_space two cells
   space_both cells =
@@ -237,7 +235,19 @@ module _ {C : Type 0} (context : ℕ) (h : Here C) (H K : Heap TaggedValue) (ali
       (space_both cells) (by_space object cells vs (has_space one cells))
 
   pub throw_both : StepsAlike context (act_throw one) (act_throw two)
-  throw_both =
-      at_reference h.machine.top.operands _ _ (λ v vs. at_object context h H K alike v _ _ (λ n o cells a.
-      at_check (is_throwable h.around.world.shapes o.kind.object) _ _
-      (at_accessed context h H K alike accesses.Throw n o cells _ _ (throws_both context h H K alike n))))
+  throw_both = at_reference h.machine.top.operands _ _ (λ v vs. by_value v)
+    where
+      throws_of : Here C → ℕ → Object TaggedValue → Stepped C
+      throws_of g number object =
+          check (is_throwable h.around.world.shapes object.kind.object)
+          (accessed g accesses.Throw number object (throws g number))
+
+      by_value : (v : TaggedValue)
+          → StepsAlike context (on_object one v (throws_of one)) (on_object two v (throws_of two))
+      by_value (Word n) = both_stuck
+      by_value (Ref n) =
+          at_known context h H K alike n (throws_of one n) (throws_of two n) (λ o cells e a.
+          at_check (is_throwable h.around.world.shapes o.kind.object) _ _
+          (at_thrown context h H K alike own applet other n o cells e))
+      by_value Null = throws_own context h H K alike own null_pointer_exception refl
+      by_value Unset = both_stuck

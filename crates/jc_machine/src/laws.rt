@@ -22,7 +22,7 @@ ghost use Rattle.jc_machine.specs.Runtime.{HasRuntimeObjects};
 ghost use Rattle.jc_machine.specs.Step.{Start, defensive_step, runtime_call, steps_of};
 ghost use Rattle.jc_machine.specs.Going.{with_heap};
 ghost use Rattle.jc_machine.specs.Owning.{StepsOwned};
-ghost use Rattle.jc_machine.specs.Unseen.{AreAlike, AreNativesBlind, CallsAlike, StepsAlike, runs_without};
+ghost use Rattle.jc_machine.specs.Unseen.{AreAlike, AreNativesBlind, CallsAlike, StepsAlike, stays_out};
 ghost use Rattle.jc_machine.specs.Storable.{FieldsHoldStorable, HoldStorable, may_be_held};
 ghost use Rattle.jc_machine.specs.TypedWords.{KeepWordsTyped};
 ghost use Rattle.jc_machine.specs.Uncounted.{HaveCells, IsInstructionAt};
@@ -118,7 +118,7 @@ pub fn contents_are_unseen<N: Natives>(_natives: &N)
         → StepsAlike context (defensive_step s m) (defensive_step s (with_heap m heap)) }
     ensures calls { (context : ℕ) (s : Surroundings N.Kept) → AreNativesGuarded s.natives → AreNativesBlind s.natives
         → (keeps : N.Kept → Bool) → AreNativesApart keeps s.natives → HaveApiMembers s.world.shapes → (steps : ℕ)
-        → (m : Machine N.Kept) → IsApart keeps m → runs_without s context steps m ≡ true → (heap : Heap TaggedValue)
+        → (m : Machine N.Kept) → IsApart keeps m → stays_out context (steps_of s steps m).ran ≡ true → (heap : Heap TaggedValue)
         → AreAlike context m.heap heap
         → CallsAlike context (steps_of s steps m) (steps_of s steps (with_heap m heap)) }
 {}

@@ -1,4 +1,4 @@
--- Each step keeps owners, but by calls, returns and catches.
+-- Each step keeps frames and their owners, but by calls, returns and catches.
 use Rattle.std.specs.Prelude.{⊤}
 use Rattle.std.proofs.Common.{◌≡◌, ℕ, ℤ, zero, suc, ◌+◌, ◌-◌, ◌==◌, ◌&&◌, pos, negsuc, Bool, true, false, cond, not, List, []}
 use Rattle.std.proofs.Common.{◌∷◌, ◌++◌, length, map, drop, max, nat_le, nat_lt, Option, Some, None, refl, sym, ap, ◌∙◌, subst}
@@ -80,16 +80,16 @@ use Rattle.jc_machine.specs.Fields.{field_target, gets, of_class, of_objects, on
 use Rattle.jc_machine.specs.Going.{Here, accessed, accessed_to_store, asking, branches, by_verdict, check, facts_of}
 use Rattle.jc_machine.specs.Going.{storing, gives, goes_to, judged, jumps, leaves_operands, moved, on_object, on_reference}
 use Rattle.jc_machine.specs.Going.{on_reference_local, on_some, on_target, on_top, on_word, on_word_local, plain, require}
-use Rattle.jc_machine.specs.Going.{stored_in, stuck, throws, throws_system, touch_of, touched, wanting}
+use Rattle.jc_machine.specs.Going.{stored_in, stuck, throws, throws_system, touch_of, touched, wanting, with_machine}
 use Rattle.jc_machine.specs.Guarded.{frame_answer}
 use Rattle.jc_machine.specs.Machine.{Asked, Callback, Calls, Frame, Gives, IsStuck, Machine, MethodPlace, NativeAnswer}
 use Rattle.jc_machine.specs.Machine.{NativeEnd, Next, Outcome, Stepped, Stuck, Surroundings, Throws, ThrowsObject, Touch}
 use Rattle.jc_machine.specs.Machine.{Ends, UsedUp}
-use Rattle.jc_machine.specs.Natives.{AreNativesGuarded}
+use Rattle.jc_machine.specs.Natives.{AreNativesGuarded, IsGuardedAnswer}
 use Rattle.jc_machine.specs.Objects.{Test, act_branch, act_check_cast, act_create, act_instance_of, act_object, act_throw}
 use Rattle.jc_machine.specs.Objects.{creates, creates_array, has_space, made, on_class, on_known, on_test, tested}
-use Rattle.jc_machine.specs.Owning.{AreOwned, OwnersGo, StepsOwned, Whose, all_whose, back, called, called_back, switch_in}
-use Rattle.jc_machine.specs.Owning.{switch_of, whose, within}
+use Rattle.jc_machine.specs.Owning.{AsksFor, FramesGo, GoesOn, IsCalledBy, IsOfCall, OwnersGo, StepsOwned, Waits}
+use Rattle.jc_machine.specs.Owning.{back, called, called_back, previous_by, runs, switch_in, switch_of}
 use Rattle.jc_machine.specs.Returns.{pc_behind_call, result_of, resumed, returns, returns_to, room_of, with_result}
 use Rattle.jc_machine.specs.Runtime.{null_pointer_exception, security_exception}
 use Rattle.jc_machine.specs.Step.{act, act_at, caught_in, covering, defensive_step, handler_for, here, is_found, settled}
@@ -98,7 +98,15 @@ use Rattle.jc_machine.specs.Words.{act_word, on_result, shuffled}
 use Rattle.jc_words.specs.Values.{Null, Ref, TaggedValue, Unset, Word, is_tagged_reference}
 
 pub record Owned {C : Type 0} (h : Here C) (before : List Touch) (s : Stepped C) : Type 0 where
-  pub owned : AreOwned h.around h.machine (before ++ s.touches) s.outcome
+  pub owned : OwnersGo h.around h.machine (before ++ s.touches) s.outcome
+
+same_call : {f g : Frame} → g.method ≡ f.method → g.active ≡ f.active → g.previous ≡ f.previous → IsOfCall f g
+same_call e d p = record { method = e; active = d; previous = p }
+
+-- the frame that runs goes on
+stays : {C : Type 0} {s : Surroundings C} {m : Machine C} {ts : List Touch} (pc : ℕ) (locals operands : List TaggedValue)
+    → FramesGo s m ts (moved m.top pc locals operands ∷ m.waiting)
+stays pc locals operands = runs _ (same_call refl refl refl)
 
 module _ {C : Type 0} (h : Here C) (before : List Touch) where
   at_check : (b : Bool) (s : Stepped C) → Owned h before s → Owned h before (check b s)
@@ -153,29 +161,29 @@ module _ {C : Type 0} (h : Here C) (before : List Touch) where
   at_object Unset go k = record { owned = tt }
 
   at_jump : (to : ℤ) (vs : List TaggedValue) → Owned h before (jumps h to vs)
-  at_jump (pos pc) vs = (record { owned = within })
+  at_jump (pos pc) vs = (record { owned = stays _ _ _ })
   at_jump (negsuc n) vs = record { owned = tt }
 
   at_branch : (taken : Bool) (offset : ℤ) (vs : List TaggedValue) → Owned h before (branches h taken offset vs)
   at_branch true offset vs = at_jump (target_of h.machine.top.pc offset) vs
-  at_branch false offset vs = (record { owned = within })
+  at_branch false offset vs = (record { owned = stays _ _ _ })
 
   gives_owned : (v : TaggedValue) (vs : List TaggedValue) → Owned h before (gives h v vs)
-  gives_owned v vs = at_check (nat_lt (length vs) h.max_stack) _ (record { owned = within })
+  gives_owned v vs = at_check (nat_lt (length vs) h.max_stack) _ (record { owned = stays _ _ _ })
 
   loads_owned : (form : Form) (held : TaggedValue) (vs : List TaggedValue) → Owned h before (loads h form held vs)
   loads_owned form held vs = at_some (loaded_as form held) _ (λ v e. gives_owned v vs)
 
   leaves_owned : (vs : List TaggedValue) → Owned h before (leaves_operands h vs)
-  leaves_owned vs = record { owned = within }
+  leaves_owned vs = record { owned = stays _ _ _ }
 
   stored_owned : (n : ℕ) (o : Object TaggedValue) (i : ℕ) (v : TaggedValue) (vs : List TaggedValue)
       → Owned h before (leaves_operands (stored_in h n o i v) vs)
-  stored_owned n o i v vs = record { owned = within }
+  stored_owned n o i v vs = record { owned = stays _ _ _ }
 
   behind : (ts : List Touch) (s : Stepped C) → Owned h (before ++ ts) s → Owned h before (touched ts s)
   behind ts s k = record {
-    owned = subst (λ (xs : List Touch). AreOwned h.around h.machine xs s.outcome) (append_assoc before ts s.touches) k.owned;
+    owned = subst (λ (xs : List Touch). OwnersGo h.around h.machine xs s.outcome) (append_assoc before ts s.touches) k.owned;
   }
 
 module _ {C : Type 0} (h : Here C) (before : List Touch) where
@@ -293,7 +301,7 @@ module _ {C : Type 0} (h : Here C) where
     where
       put_owned : (ts : List Touch) (place : StaticPlace) (v : TaggedValue) (vs : List TaggedValue)
           → Owned h ts (leaves_operands (put_static h place v) vs)
-      put_owned ts place v vs = record { owned = within }
+      put_owned ts place v vs = record { owned = stays _ _ _ }
   class_owned access place declared Get Holders.Operand = record { owned = tt }
   class_owned access place declared Put Holders.Operand = record { owned = tt }
   class_owned access place declared Get Holders.This = record { owned = tt }
@@ -310,7 +318,7 @@ module _ {C : Type 0} (h : Here C) where
   by_space true object cells vs n reason = at_check h [] (nat_lt (length vs) h.max_stack) _ made_owned
     where
       made_owned : Owned h [] (leaves_operands (made h object cells) (Ref n ∷ vs))
-      made_owned = record { owned = within }
+      made_owned = record { owned = stays _ _ _ }
   by_space false object cells vs n reason =
       at_some h [] (object_at h.machine.heap system_exception) _ (λ o e. record { owned = refl })
 
@@ -375,8 +383,10 @@ module _ {C : Type 0} (h : Here C) where
     where
       behind_call : (pc : ℕ) (operands : List TaggedValue)
           → Owned h [] (plain (Next (resumed h.machine f waiting pc operands)))
-      behind_call pc operands =
-          record { owned = subst (λ (ws : List Whose). OwnersGo h.around h.machine [] ws) (ap (map whose) e) (back 1) }
+      behind_call pc operands = record {
+        owned = back 1 f (moved f pc f.locals operands) waiting e
+            (record { call = same_call refl refl refl; locals = refl });
+      }
 
       by_result : (pc room : ℕ) (v : Option TaggedValue)
           → Owned h [] (with_result h room v f.operands (λ operands. plain (Next (resumed h.machine f waiting pc operands))))
@@ -390,7 +400,7 @@ module _ {C : Type 0} (h : Here C) where
       (returns_to_owned value h.machine.waiting refl))
 
   goes_owned : (pc : ℕ) (locals vs : List TaggedValue) → Owned h [] (goes_to h pc locals vs)
-  goes_owned pc locals vs = record { owned = within }
+  goes_owned pc locals vs = record { owned = stays _ _ _ }
 
   operands_owned : (count : ℕ) (vs : List TaggedValue) (s : Stepped C) → Owned h [] s → Owned h [] (on_operands count vs s)
   operands_owned count vs s k = at_check h [] _ s k
@@ -437,35 +447,61 @@ module _ {C : Type 0} (h : Here C) where
 
 -- ---- frames
 
-entered_owned : {C : Type 0} (h : Here C) (before : List Touch) (f : Frame) (max_stack : ℕ) (vs : List TaggedValue)
-    → OwnersGo h.around h.machine before (whose f ∷ all_whose h.machine) → Owned h before (entered h f max_stack vs)
-entered_owned h before f max_stack vs k =
-    by_room (has_room h.around (h.machine.top ∷ h.machine.waiting) (length f.locals + max_stack))
-  where
-    k2 : OwnersGo h.around h.machine (before ++ []) (whose f ∷ all_whose h.machine)
-    k2 = subst (λ (xs : List Touch). OwnersGo h.around h.machine xs (whose f ∷ all_whose h.machine)) (sym (append-nil before)) k
+-- the caller waits with operands below its own
+waits_at : {C : Type 0} (h : Here C) (taken : ℕ) (vs : List TaggedValue) → vs ≡ drop taken h.machine.top.operands
+    → Waits h.machine.top (moved h.machine.top h.machine.top.pc h.machine.top.locals vs)
+waits_at h taken vs e =
+    record { call = same_call refl refl refl; pc = refl; locals = refl; taken = taken; operands = e }
 
-    by_room : (b : Bool) → Owned h before (cond b (plain (Next (record {
-          heap = h.machine.heap;
-          statics = h.machine.statics;
-          runtime = h.machine.runtime;
-          top = f;
-          waiting = moved h.machine.top h.machine.top.pc h.machine.top.locals vs ∷ h.machine.waiting;
-        }))) (plain (UsedUp h.machine)))
-    by_room true = record { owned = k2 }
-    by_room false = record { owned = tt }
+called_so : (f : Frame) (switch : Option Owner) (place : MethodPlace) (header : MethodHeader)
+    (arguments : List TaggedValue)
+    → IsCalledBy f (frame_of place header arguments (active_in f switch) (previous_in f switch)) switch
+called_so f None place header arguments = record { active = refl; previous = refl }
+called_so f (Some owner) place header arguments = record { active = refl; previous = refl }
 
-enters_owned : {C : Type 0} (h : Here C) (before : List Touch) (switch : Option Owner) (place : MethodPlace)
-    (arguments vs : List TaggedValue)
-    → OwnersGo h.around h.machine before (record {
-      active = active_in h.machine.top switch;
-      previous = previous_in h.machine.top switch;
-    } ∷ all_whose h.machine) → Owned h before (enters h switch place arguments vs)
-enters_owned h before switch place arguments vs k =
-    at_some h before (option_and_then (λ d. d.method.header) (declared_at h.around.world place)) _ (λ header e.
-    at_check h before (takes header arguments && accepts h place arguments) _
-    (entered_owned h before (frame_of place header arguments (active_in h.machine.top switch)
-    (previous_in h.machine.top switch)) header.max_stack vs k))
+-- a place with other objects, and with something else that the runtime keeps, has the same frames
+abbrev beside : {C : Type 0} → Here C → Heap TaggedValue → C → Here C
+beside h heap runtime = with_machine h (record {
+  heap = heap;
+  statics = h.machine.statics;
+  runtime = runtime;
+  top = h.machine.top;
+  waiting = h.machine.waiting;
+})
+
+module _ {C : Type 0} (h : Here C) (before : List Touch) (heap : Heap TaggedValue) (runtime : C) where
+  entered_owned : (f : Frame) (max_stack : ℕ) (vs : List TaggedValue)
+      → FramesGo h.around h.machine before
+      (f ∷ moved h.machine.top h.machine.top.pc h.machine.top.locals vs ∷ h.machine.waiting)
+      → Owned h before (entered (beside h heap runtime) f max_stack vs)
+  entered_owned f max_stack vs k =
+      by_room (has_room h.around (h.machine.top ∷ h.machine.waiting) (length f.locals + max_stack))
+    where
+      by_room : (b : Bool) → Owned h before (cond b (plain (Next (record {
+            heap = heap;
+            statics = h.machine.statics;
+            runtime = runtime;
+            top = f;
+            waiting = moved h.machine.top h.machine.top.pc h.machine.top.locals vs ∷ h.machine.waiting;
+          }))) (plain (UsedUp (beside h heap runtime).machine)))
+      by_room true = record {
+        owned = subst (λ (xs : List Touch). FramesGo h.around h.machine xs
+            (f ∷ moved h.machine.top h.machine.top.pc h.machine.top.locals vs ∷ h.machine.waiting))
+            (sym (append-nil before)) k;
+      }
+      by_room false = record { owned = tt }
+
+  enters_owned : (switch : Option Owner) (place : MethodPlace) (arguments vs : List TaggedValue) (taken : ℕ)
+      → vs ≡ drop taken h.machine.top.operands
+      → ((top caller : Frame) → Waits h.machine.top caller → IsCalledBy h.machine.top top switch
+      → FramesGo h.around h.machine before (top ∷ caller ∷ h.machine.waiting))
+      → Owned h before (enters (beside h heap runtime) switch place arguments vs)
+  enters_owned switch place arguments vs taken e k =
+      at_some h before (option_and_then (λ d. d.method.header) (declared_at h.around.world place)) _ (λ header f.
+      at_check h before (takes header arguments && accepts (beside h heap runtime) place arguments) _
+      (entered_owned (frame_of place header arguments (active_in h.machine.top switch)
+      (previous_in h.machine.top switch)) header.max_stack vs
+      (k _ _ (waits_at h taken vs e) (called_so h.machine.top switch place header arguments))))
 
 -- ---- native members: a place with other objects, and with something else that the runtime keeps, has the same frames
 
@@ -476,8 +512,8 @@ module _ {C : Type 0} (h : Here C) (before : List Touch) (a : NativeAnswer C) wh
       at_check h before (is_given h.around.world.shapes a.heap signature.result value) _ (by_value value)
     where
       by_value : (v : Option TaggedValue) → Owned h before (with_given (after_native h a) v vs)
-      by_value None = record { owned = within }
-      by_value (Some v) = at_check h before (nat_lt (length vs) h.max_stack) _ (record { owned = within })
+      by_value None = record { owned = stays _ _ _ }
+      by_value (Some v) = at_check h before (nat_lt (length vs) h.max_stack) _ (record { owned = stays _ _ _ })
 
   inner_owned : (signature : Signature ClassName) (vs : List TaggedValue) (ends : NativeEnd)
       → Owned h before (inner_native_ends vs (after_native h a) signature ends)
@@ -485,26 +521,6 @@ module _ {C : Type 0} (h : Here C) (before : List Touch) (a : NativeAnswer C) wh
   inner_owned signature vs (ThrowsObject n) = record { owned = refl }
   inner_owned signature vs (Calls callback) = record { owned = tt }
   inner_owned signature vs IsStuck = record { owned = tt }
-
--- frames of a place with another heap, and with something else that the runtime keeps
-entered_after : {C : Type 0} (h : Here C) (before : List Touch) (a : NativeAnswer C) (f : Frame) (max_stack : ℕ)
-    (vs : List TaggedValue) → OwnersGo h.around h.machine before (whose f ∷ all_whose h.machine)
-    → Owned h before (entered (after_native h a) f max_stack vs)
-entered_after h before a f max_stack vs k =
-    by_room (has_room h.around (h.machine.top ∷ h.machine.waiting) (length f.locals + max_stack))
-  where
-    k2 : OwnersGo h.around h.machine (before ++ []) (whose f ∷ all_whose h.machine)
-    k2 = subst (λ (xs : List Touch). OwnersGo h.around h.machine xs (whose f ∷ all_whose h.machine)) (sym (append-nil before)) k
-
-    by_room : (b : Bool) → Owned h before (cond b (plain (Next (record {
-          heap = a.heap;
-          statics = h.machine.statics;
-          runtime = a.runtime;
-          top = f;
-          waiting = moved h.machine.top h.machine.top.pc h.machine.top.locals vs ∷ h.machine.waiting;
-        }))) (plain (UsedUp (after_native h a).machine)))
-    by_room true = record { owned = k2 }
-    by_room false = record { owned = tt }
 
 module _ {C : Type 0} (h : Here C) (guarded : AreNativesGuarded h.around.natives) (member : ℕ)
     (arguments : List TaggedValue) where
@@ -520,39 +536,55 @@ module _ {C : Type 0} (h : Here C) (guarded : AreNativesGuarded h.around.natives
       (at_some h before (native_type h.around.world.shapes other) _ (λ signature e.
       behind h before b.touches _ (inner_owned h (before ++ b.touches) b signature vs b.ends)))
 
-  called_as_owned : (before : List Touch) (callback : Callback) (object : Object TaggedValue)
-      → a.ends ≡ Calls callback → object_at h.machine.heap callback.object ≡ Some object → (method : MethodName)
-      → (values vs : List TaggedValue) → Owned h before (called_as (after_native h a) object.owner method values vs)
-  called_as_owned before callback object e there (Loaded number offset) values vs =
-      at_some h before (option_and_then (λ d. d.method.header) (declared_at h.around.world (record { number = number; offset = offset }))) _ (λ header f.
-      at_check h before (takes header values && accepts (after_native h a) (record { number = number; offset = offset }) values) _
-      (entered_after h before a (frame_of (record { number = number; offset = offset }) header values
-      (active_in h.machine.top (Some object.owner)) (previous_in h.machine.top (Some object.owner))) header.max_stack vs
-      (called_back member arguments callback object e there)))
-  called_as_owned before callback object e there (Api other) values vs =
-      inner_native before object.owner (Some h.machine.top.active) other values vs
+  called_as_owned : (before : List Touch) (owner : Owner) → AsksFor h.around h.machine owner → (method : MethodName)
+      (values vs : List TaggedValue) (taken : ℕ) → vs ≡ drop taken h.machine.top.operands
+      → Owned h before (called_as (after_native h a) owner method values vs)
+  called_as_owned before owner asks (Loaded number offset) values vs taken e =
+      enters_owned h before a.heap a.runtime (Some owner) (record { number = number; offset = offset }) values vs taken e
+      (λ top caller waits is. called_back top caller owner waits asks is)
+  called_as_owned before owner asks (Api other) values vs taken e =
+      inner_native before owner (Some h.machine.top.active) other values vs
 
   calls_back_owned : (before : List Touch) (given : Signature ClassName) (callback : Callback) → a.ends ≡ Calls callback
-      → (vs : List TaggedValue) → Owned h before (calls_back (after_native h a) given callback vs)
-  calls_back_owned before given callback e vs =
+      → (vs : List TaggedValue) (taken : ℕ) → vs ≡ drop taken h.machine.top.operands
+      → Owned h before (calls_back (after_native h a) given callback vs)
+  calls_back_owned before given callback e vs taken rest =
       at_some h before (object_at a.heap callback.object) _ (λ object there.
       at_some h before (type_of_member h.around.world.shapes callback.member) _ (λ signature f.
       at_some h before (virtual_member h.around.world.shapes callback.member) _ (λ found g.
       at_check h before (callback_fits (after_native h a) given signature found.class object callback.arguments) _
       (at_some h before (virtual_method_of h.around.world.shapes (class_of object.kind.object) found.token 0) _ (λ method d.
       at_check h before (is_in_place_of h.around.world.shapes callback.member found.class signature method) _
-      (called_as_owned before callback object e (was object there) method (Ref callback.object ∷ callback.arguments) vs))))))
+      (called_as_owned before object.owner (asks object (was object there)) method
+      (Ref callback.object ∷ callback.arguments) vs taken rest))))))
     where
+      answer : IsGuardedAnswer h.around.natives h.around.world
+          (native_call h.around h.machine h.machine.top.active h.machine.top.previous member arguments) a
+      answer =
+          guarded h.around.world
+          (native_call h.around h.machine h.machine.top.active h.machine.top.previous member arguments)
+
+      asks : (object : Object TaggedValue) → object_at h.machine.heap callback.object ≡ Some object
+          → AsksFor h.around h.machine object.owner
+      asks object there = record {
+        member = member;
+        arguments = arguments;
+        callback = callback;
+        ends = e;
+        asks = answer.asks callback e;
+        object = object;
+        there = there;
+        whose = refl;
+      }
+
       was : (object : Object TaggedValue) → object_at a.heap callback.object ≡ Some object
           → object_at h.machine.heap callback.object ≡ Some object
       was object there =
-          sym (ap (λ (heap : Heap TaggedValue). object_at heap callback.object)
-          ((guarded h.around.world (native_call h.around h.machine h.machine.top.active h.machine.top.previous member arguments)).calls
-          callback e).heap) ∙ there
+          sym (ap (λ (heap : Heap TaggedValue). object_at heap callback.object) (answer.calls callback e).heap) ∙ there
 
-  native_owned : (before : List Touch) (vs : List TaggedValue)
+  native_owned : (before : List Touch) (vs : List TaggedValue) (taken : ℕ) → vs ≡ drop taken h.machine.top.operands
       → Owned h before (on_native h h.machine.top.active h.machine.top.previous member arguments (native_ends vs))
-  native_owned before vs =
+  native_owned before vs taken rest =
       at_check h before (native_may_begin h.around.world.shapes h.machine.heap member arguments) _
       (at_some h before (native_type h.around.world.shapes member) _ (λ signature e.
       behind h before a.touches _ (by_end (before ++ a.touches) signature a.ends refl)))
@@ -561,62 +593,85 @@ module _ {C : Type 0} (h : Here C) (guarded : AreNativesGuarded h.around.natives
           → Owned h ts (native_ends vs (after_native h a) signature ends)
       by_end ts signature (Gives value) e = gave_owned h ts a signature value vs
       by_end ts signature (ThrowsObject n) e = record { owned = refl }
-      by_end ts signature (Calls callback) e = calls_back_owned ts signature callback e vs
+      by_end ts signature (Calls callback) e = calls_back_owned ts signature callback e vs taken rest
       by_end ts signature IsStuck e = record { owned = tt }
 
 -- ---- calls
 
+-- what stands behind the first of what is left
+rest_of : {A : Type 0} (k : ℕ) (ys : List A) (x : A) (xs : List A) → x ∷ xs ≡ drop k ys → xs ≡ drop (suc k) ys
+rest_of zero [] x xs e = absurd cc
+rest_of {A = A} zero (y ∷ ys) x xs e = ap rest e
+  where
+    rest : List A → List A
+    rest [] = []
+    rest (z ∷ zs) = zs
+rest_of (suc k) [] x xs e = absurd cc
+rest_of (suc k) (y ∷ ys) x xs e = rest_of k ys x xs e
+
 module _ {C : Type 0} (h : Here C) (guarded : AreNativesGuarded h.around.natives) where
   invokes_owned : (before : List Touch) (switch : Option Owner) → switch_in before ≡ switch → (method : MethodName)
-      (arguments vs : List TaggedValue) → Owned h before (invokes h switch method arguments vs)
-  invokes_owned before switch e (Loaded number offset) arguments vs =
-      enters_owned h before switch (record { number = number; offset = offset }) arguments vs
-      (subst (λ (sw : Option Owner). OwnersGo h.around h.machine before (record {
-        active = active_in h.machine.top sw;
-        previous = previous_in h.machine.top sw;
-      } ∷ all_whose h.machine)) e called)
-  invokes_owned before switch e (Api member) arguments vs = native_owned h guarded member arguments before vs
+      (arguments vs : List TaggedValue) (taken : ℕ) → vs ≡ drop taken h.machine.top.operands
+      → Owned h before (invokes h switch method arguments vs)
+  invokes_owned before switch e (Loaded number offset) arguments vs taken rest =
+      enters_owned h before h.machine.heap h.machine.runtime switch (record { number = number; offset = offset }) arguments
+      vs taken rest
+      (λ top caller waits is. called top caller waits (subst (IsCalledBy h.machine.top top) (sym e) is))
+  invokes_owned before switch e (Api member) arguments vs taken rest =
+      native_owned h guarded member arguments before vs taken rest
 
   arguments_owned : (signature : Signature ClassName) (go : List TaggedValue → List TaggedValue → Stepped C)
-      → ((arguments vs : List TaggedValue) → Owned h [] (go arguments vs)) → Owned h [] (with_arguments h signature go)
+      → ((arguments vs : List TaggedValue) (taken : ℕ) → vs ≡ drop taken h.machine.top.operands
+      → Owned h [] (go arguments vs)) → Owned h [] (with_arguments h signature go)
   arguments_owned signature go k =
       at_check h [] (are_of_types h.around.world.shapes h.machine.heap signature.parameters
-      (reverse (take (length signature.parameters) h.machine.top.operands))) _ (k _ _)
+      (reverse (take (length signature.parameters) h.machine.top.operands))) _
+      (k _ _ (length signature.parameters) refl)
 
   receiver_owned : (signature : Signature ClassName)
       (go : List TaggedValue → ℕ → Object TaggedValue → List TaggedValue → Stepped C)
-      → ((arguments : List TaggedValue) (n : ℕ) (o : Object TaggedValue) (vs : List TaggedValue) → Owned h [] (go arguments n o vs))
+      → ((arguments : List TaggedValue) (n : ℕ) (o : Object TaggedValue) (vs : List TaggedValue) (taken : ℕ)
+      → vs ≡ drop taken h.machine.top.operands → Owned h [] (go arguments n o vs))
       → Owned h [] (with_receiver h signature go)
   receiver_owned signature go k =
-      arguments_owned signature _ (λ arguments us. at_reference h [] us _ (λ receiver vs.
-      at_object h [] receiver (λ number object. go (receiver ∷ arguments) number object vs)
-      (λ n o. k (receiver ∷ arguments) n o vs)))
+      arguments_owned signature _ (λ arguments us taken e. by_operands arguments us taken e)
+    where
+      by_operands : (arguments us : List TaggedValue) (taken : ℕ) → us ≡ drop taken h.machine.top.operands
+          → Owned h [] (on_reference us (λ receiver vs.
+          on_object h receiver (λ number object. go (receiver ∷ arguments) number object vs)))
+      by_operands arguments [] taken e = record { owned = tt }
+      by_operands arguments (v ∷ vs) taken e =
+          at_check h [] (is_tagged_reference v) _
+          (at_object h [] v (λ number object. go (v ∷ arguments) number object vs)
+          (λ n o. k (v ∷ arguments) n o vs (suc taken) (rest_of taken h.machine.top.operands v vs e)))
 
   virtual_owned : (target : VirtualTarget) → Owned h [] (act_virtual h target)
   virtual_owned target =
-      receiver_owned target.signature _ (λ arguments n o vs.
+      receiver_owned target.signature _ (λ arguments n o vs taken rest.
       at_check h [] (is_of_class h.around.world.shapes target.class o.kind.object) _
       (at_called h (asking accesses.InvokeVirtual n) o _ (λ ts switch e.
-      at_some h ts (found_for h target.token o) _ (λ method d. invokes_owned ts switch e method arguments vs))))
+      at_some h ts (found_for h target.token o) _ (λ method d.
+      invokes_owned ts switch e method arguments vs taken rest))))
 
   special_owned : (target : MethodTarget) → Owned h [] (act_special h target)
   special_owned target =
-      receiver_owned target.signature _ (λ arguments n o vs.
+      receiver_owned target.signature _ (λ arguments n o vs taken rest.
       at_check h [] (is_of_class h.around.world.shapes target.class o.kind.object) _
-      (invokes_owned [] None refl target.method arguments vs))
+      (invokes_owned [] None refl target.method arguments vs taken rest))
 
   static_call_owned : (target : MethodTarget) → Owned h [] (act_static_call h target)
   static_call_owned target =
-      arguments_owned target.signature _ (λ arguments vs. invokes_owned [] None refl target.method arguments vs)
+      arguments_owned target.signature _
+      (λ arguments vs taken rest. invokes_owned [] None refl target.method arguments vs taken rest)
 
   of_interface_owned : (interface : ClassName) (token : ℕ) (signature : Signature ClassName)
       → Owned h [] (act_of_interface h interface token signature)
   of_interface_owned interface token signature =
-      receiver_owned signature _ (λ arguments n o vs.
+      receiver_owned signature _ (λ arguments n o vs taken rest.
       at_called h (wanting accesses.InvokeInterface n (Some interface)) o _ (λ ts switch e.
       at_require h ts class_cast_exception (has_interface h.around.world.shapes interface o) _
       (at_some h ts (interface_method_of h.around.world.shapes (class_of o.kind.object) interface token) _ (λ method d.
-      invokes_owned ts switch e method arguments vs))))
+      invokes_owned ts switch e method arguments vs taken rest))))
 
   interface_owned : (count token : ℕ) (interface : ClassName) → Owned h [] (act_interface h count token interface)
   interface_owned count token interface =
@@ -670,53 +725,43 @@ module _ {C : Type 0} (h : Here C) (guarded : AreNativesGuarded h.around.natives
 
 -- ---- what is thrown, and a step
 
-tail_of : (k : ℕ) (ws : List Whose) (x : Whose) (xs : List Whose) → x ∷ xs ≡ drop k ws → xs ≡ drop (suc k) ws
-tail_of zero [] x xs e = absurd cc
-tail_of zero (y ∷ ys) x xs e = ap rest e
-  where
-    rest : List Whose → List Whose
-    rest [] = []
-    rest (z ∷ zs) = zs
-tail_of (suc k) [] x xs e = absurd cc
-tail_of (suc k) (y ∷ ys) x xs e = tail_of k ys x xs e
-
 module _ {C : Type 0} (s : Surroundings C) (m0 : Machine C) (touches : List Touch) where
-  either_owned : (b : Bool) (o : Outcome C) → AreOwned s m0 touches o → AreOwned s m0 touches (cond b o Stuck)
+  either_owned : (b : Bool) (o : Outcome C) → OwnersGo s m0 touches o → OwnersGo s m0 touches (cond b o Stuck)
   either_owned true o k = k
   either_owned false o k = tt
 
-  module _ (m : Machine C) (same : all_whose m ≡ all_whose m0) (object : ℕ) (class : ClassName) where
+  module _ (m : Machine C) (same : (m.top ∷ m.waiting) ≡ (m0.top ∷ m0.waiting)) (object : ℕ) (class : ClassName) where
     caught_owned : (f : Frame) (waiting : List Frame) (body : MethodBody) (room : Option ℕ) (o : Outcome C)
-        (handler : Option Handler) (k : ℕ) → map whose (f ∷ waiting) ≡ drop k (all_whose m0)
-        → AreOwned s m0 touches o → AreOwned s m0 touches (caught_in m object f waiting body room o handler)
+        (handler : Option Handler) (k : ℕ) → f ∷ waiting ≡ drop k (m0.top ∷ m0.waiting)
+        → OwnersGo s m0 touches o → OwnersGo s m0 touches (caught_in m object f waiting body room o handler)
     caught_owned f waiting body room o None k e rest = rest
     caught_owned f waiting body room o (Some handler) k e rest =
         either_owned (option_map_or (nat_lt 0) room false) _
-        (subst (λ (ws : List Whose). OwnersGo s m0 touches ws) (sym e) (back k))
+        (back k f _ waiting (sym e) (record { call = same_call refl refl refl; locals = refl }))
 
     through_owned : (f : Frame) (waiting : List Frame) (o : Outcome C) (body : Option MethodBody) (k : ℕ)
-        → map whose (f ∷ waiting) ≡ drop k (all_whose m0) → AreOwned s m0 touches o
-        → AreOwned s m0 touches (through s m object class f waiting o body)
+        → f ∷ waiting ≡ drop k (m0.top ∷ m0.waiting) → OwnersGo s m0 touches o
+        → OwnersGo s m0 touches (through s m object class f waiting o body)
     through_owned f waiting o None k e rest = tt
     through_owned f waiting o (Some body) k e rest =
         either_owned (list_all (is_found s.world f.method.number) (covering body f.pc)) _
         (caught_owned f waiting body (room_of s f) o (handler_for s.world f class body) k e rest)
 
-    unwound_owned : (frames : List Frame) (k : ℕ) → map whose frames ≡ drop k (all_whose m0)
-        → AreOwned s m0 touches (unwound s m object class frames)
+    unwound_owned : (frames : List Frame) (k : ℕ) → frames ≡ drop k (m0.top ∷ m0.waiting)
+        → OwnersGo s m0 touches (unwound s m object class frames)
     unwound_owned [] k e = same
     unwound_owned (f ∷ waiting) k e =
         through_owned f waiting (unwound s m object class waiting) (code_at s.world f.method) k e
-        (unwound_owned waiting (suc k) (tail_of k (all_whose m0) (whose f) (map whose waiting) e))
+        (unwound_owned waiting (suc k) (rest_of k (m0.top ∷ m0.waiting) f waiting e))
 
-  object_owned_by : (m : Machine C) → all_whose m ≡ all_whose m0 → (object : ℕ) (o : Option (Object TaggedValue))
-      → AreOwned s m0 touches (settled_object s m object o)
+  object_owned_by : (m : Machine C) → (m.top ∷ m.waiting) ≡ (m0.top ∷ m0.waiting) → (object : ℕ)
+      (o : Option (Object TaggedValue)) → OwnersGo s m0 touches (settled_object s m object o)
   object_owned_by m same object None = tt
   object_owned_by m same object (Some o) =
       either_owned (is_throwable s.world.shapes o.kind.object) _
       (unwound_owned m same object (class_of o.kind.object) (m.top ∷ m.waiting) 0 same)
 
-  settles_owned : (o : Outcome C) → AreOwned s m0 touches o → AreOwned s m0 touches (settled s o)
+  settles_owned : (o : Outcome C) → OwnersGo s m0 touches o → OwnersGo s m0 touches (settled s o)
   settles_owned (Next m) k = k
   settles_owned (Throws m object) k = object_owned_by m k object (object_at m.heap object)
   settles_owned (Ends m value) k = tt
@@ -730,13 +775,13 @@ steps_owned {C = C} s guarded m =
     (by_method (declared_at s.world m.top.method))
   where
     by_instr : (method : DeclaredMethod) (header : MethodHeader) (o : Option Instr)
-        → AreOwned s m (on_some {C = C} o (λ instr. act (here s m method header instr) instr.operation)).touches
+        → OwnersGo s m (on_some {C = C} o (λ instr. act (here s m method header instr) instr.operation)).touches
         (on_some {C = C} o (λ instr. act (here s m method header instr) instr.operation)).outcome
     by_instr method header None = tt
     by_instr method header (Some instr) = (act_owned (here s m method header instr) guarded instr.operation).owned
 
     by_body : (method : DeclaredMethod) (header : MethodHeader) (o : Option MethodBody)
-        → AreOwned s m (on_some {C = C} o (λ body. on_some (instruction_at body.code m.top.pc)
+        → OwnersGo s m (on_some {C = C} o (λ body. on_some (instruction_at body.code m.top.pc)
         (λ instr. act (here s m method header instr) instr.operation))).touches
         (on_some {C = C} o (λ body. on_some (instruction_at body.code m.top.pc)
         (λ instr. act (here s m method header instr) instr.operation))).outcome
@@ -744,7 +789,7 @@ steps_owned {C = C} s guarded m =
     by_body method header (Some body) = by_instr method header (instruction_at body.code m.top.pc)
 
     by_header : (method : DeclaredMethod) (o : Option MethodHeader)
-        → AreOwned s m (on_some {C = C} o (λ header. on_some (code_at s.world m.top.method) (λ body.
+        → OwnersGo s m (on_some {C = C} o (λ header. on_some (code_at s.world m.top.method) (λ body.
         on_some (instruction_at body.code m.top.pc) (λ instr. act (here s m method header instr) instr.operation)))).touches
         (on_some {C = C} o (λ header. on_some (code_at s.world m.top.method) (λ body.
         on_some (instruction_at body.code m.top.pc) (λ instr. act (here s m method header instr) instr.operation)))).outcome
@@ -752,7 +797,7 @@ steps_owned {C = C} s guarded m =
     by_header method (Some header) = by_body method header (code_at s.world m.top.method)
 
     by_method : (o : Option DeclaredMethod)
-        → AreOwned s m (on_some {C = C} o (λ method. on_some method.method.header (λ header.
+        → OwnersGo s m (on_some {C = C} o (λ method. on_some method.method.header (λ header.
         on_some (code_at s.world m.top.method) (λ body. on_some (instruction_at body.code m.top.pc)
         (λ instr. act (here s m method header instr) instr.operation))))).touches
         (on_some {C = C} o (λ method. on_some method.method.header (λ header.

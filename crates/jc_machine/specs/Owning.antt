@@ -1,29 +1,43 @@
--- As whom frames run: a step changes owners by calls, returns and catches alone, and a call that switches switches to
--- the owner that the verdict on its access names, or that a native member calls back.
-use Rattle.std.specs.Prelude.{⊤, ◌≡◌, ℕ, List, [], ◌∷◌, drop, map, Option, Some, None, unwrap_or}
+-- As whom code runs, and what becomes of the frames that wait: a step changes the owner that is active by calls, returns
+-- and catches alone. A call that switches switches to the owner that the verdict on its access names, or to the owner of
+-- the object that a native member asks for a shareable object (Java Card Runtime Environment Specification, Contexts and
+-- Context Switching).
+use Rattle.std.specs.Prelude.{⊤, ◌≡◌, ℕ, List, [], ◌∷◌, drop, Option, Some, None, unwrap_or}
 use Rattle.jc_firewall.specs.declared.access.Verdict.{Verdict}
 use Rattle.jc_firewall.specs.declared.access.Verdict.TheVariants.{Allowed, AllowedSwitch, Denied}
 use Rattle.jc_names.specs.declared.owner.Owner.{Owner}
 use Rattle.jc_store.specs.Heap.{Object, object_at}
 use Rattle.jc_machine.specs.Guarded.{frame_answer}
-use Rattle.jc_machine.specs.Machine.{Callback, Calls, Ends, Frame, Machine, Next, Outcome, Stepped, Stuck, Surroundings}
-use Rattle.jc_machine.specs.Machine.{Throws, Touch, UsedUp}
+use Rattle.jc_machine.specs.Machine.{Callback, Calls, Ends, Frame, Machine, MethodPlace, Next, Outcome, Stuck}
+use Rattle.jc_machine.specs.Machine.{Surroundings, Throws, Touch, UsedUp}
+use Rattle.jc_machine.specs.Natives.{shareable_member}
 use Rattle.jc_machine.specs.Step.{defensive_step}
 use Rattle.jc_words.specs.Values.{TaggedValue}
 
--- the owner that is active in a frame, and the one before it
-pub record Whose : Type 0 where
-  pub active : Owner
-  pub previous : Option Owner
+-- ---- frames
 
-abbrev pub whose : Frame → Whose
-whose f = record { active = f.active; previous = f.previous }
+-- a frame of the same call: its method and its owners are what they were
+pub record IsOfCall (before after : Frame) : Type 0 where
+  pub method : after.method ≡ before.method
+  pub active : after.active ≡ before.active
+  pub previous : after.previous ≡ before.previous
 
--- those of all frames, the innermost first
-abbrev pub all_whose : {C : Type 0} → Machine C → List Whose
-all_whose m = map whose (m.top ∷ m.waiting)
+-- the frame waits at its call: no more has changed than that operands are taken off
+pub record Waits (before after : Frame) : Type 0 where
+  pub call : IsOfCall before after
+  pub pc : after.pc ≡ before.pc
+  pub locals : after.locals ≡ before.locals
+  pub taken : ℕ
+  pub operands : after.operands ≡ drop taken before.operands
 
--- the owner that becomes active by a verdict, and by the access of a call, if it has one
+-- the frame that waited goes on, behind its call or at a handler, with its locals
+pub record GoesOn (before after : Frame) : Type 0 where
+  pub call : IsOfCall before after
+  pub locals : after.locals ≡ before.locals
+
+-- ---- owners of a called frame
+
+-- the owner to which the access of a call switches, if it has one and switches
 abbrev pub switch_of : Verdict → Option Owner
 switch_of Allowed = None
 switch_of (AllowedSwitch owner) = Some owner
@@ -33,32 +47,47 @@ abbrev pub switch_in : List Touch → Option Owner
 switch_in [] = None
 switch_in (t ∷ touches) = switch_of t.verdict
 
--- the owner before the one that is active in a frame that is called
+-- a called frame has its caller's owners, or this one is active and the caller's is the one before
 abbrev pub previous_by : Frame → Option Owner → Option Owner
 previous_by f None = f.previous
 previous_by f (Some owner) = Some f.active
 
--- the owners of frames behind a step: as they were; with those of a frame more, which are the caller's, or by the
--- verdict on the call; with those of one that a native member has called of an object; or without the innermost
-pub data OwnersGo {C : Type 0} (s : Surroundings C) (m : Machine C) (touches : List Touch) : List Whose → Type 0 where
-  within : OwnersGo s m touches (all_whose m)
-  called : OwnersGo s m touches (record {
-    active = unwrap_or (switch_in touches) m.top.active;
-    previous = previous_by m.top (switch_in touches);
-  } ∷ all_whose m)
-  called_back : (member : ℕ) (arguments : List TaggedValue) (callback : Callback) (object : Object TaggedValue)
-      → (frame_answer s m member arguments).ends ≡ Calls callback
-      → object_at m.heap callback.object ≡ Some object
-      → OwnersGo s m touches (record { active = object.owner; previous = Some m.top.active } ∷ all_whose m)
-  back : (k : ℕ) → OwnersGo s m touches (drop k (all_whose m))
+pub record IsCalledBy (caller called : Frame) (switch : Option Owner) : Type 0 where
+  pub active : called.active ≡ unwrap_or switch caller.active
+  pub previous : called.previous ≡ previous_by caller switch
 
--- a step's machine has such owners, and what throws has those of before
-abbrev pub AreOwned : {C : Type 0} → Surroundings C → Machine C → List Touch → Outcome C → Type 0
-AreOwned s m touches (Next after) = OwnersGo s m touches (all_whose after)
-AreOwned s m touches (Throws after object) = all_whose after ≡ all_whose m
-AreOwned s m touches (Ends after value) = ⊤
-AreOwned s m touches (UsedUp after) = ⊤
-AreOwned s m touches Stuck = ⊤
+-- ---- a step
+
+-- a native member that the frame may call asks an object for a shareable object
+pub record AsksFor {C : Type 0} (s : Surroundings C) (m : Machine C) (owner : Owner) : Type 0 where
+  pub member : ℕ
+  pub arguments : List TaggedValue
+  pub callback : Callback
+  pub ends : (frame_answer s m member arguments).ends ≡ Calls callback
+  pub asks : callback.member ≡ shareable_member
+  pub object : Object TaggedValue
+  pub there : object_at m.heap callback.object ≡ Some object
+  pub whose : object.owner ≡ owner
+
+-- the frames behind a step, the innermost first: the one that runs goes on, and those that wait are what they were;
+-- or it waits, and one more is called, by the verdict on the first access or as the owner of an object that is asked;
+-- or those within one that waits are gone, by a return or a catch
+pub data FramesGo {C : Type 0} (s : Surroundings C) (m : Machine C) (touches : List Touch) : List Frame → Type 0 where
+  runs : (top : Frame) → IsOfCall m.top top → FramesGo s m touches (top ∷ m.waiting)
+  called : (top caller : Frame) → Waits m.top caller → IsCalledBy m.top top (switch_in touches)
+      → FramesGo s m touches (top ∷ caller ∷ m.waiting)
+  called_back : (top caller : Frame) (owner : Owner) → Waits m.top caller → AsksFor s m owner
+      → IsCalledBy m.top top (Some owner) → FramesGo s m touches (top ∷ caller ∷ m.waiting)
+  back : (k : ℕ) (f top : Frame) (waiting : List Frame) → drop k (m.top ∷ m.waiting) ≡ f ∷ waiting → GoesOn f top
+      → FramesGo s m touches (top ∷ waiting)
+
+-- frames go so behind a step that goes on; what is thrown leaves them as they were
+abbrev pub OwnersGo : {C : Type 0} → Surroundings C → Machine C → List Touch → Outcome C → Type 0
+OwnersGo s m touches (Next after) = FramesGo s m touches (after.top ∷ after.waiting)
+OwnersGo s m touches (Throws after object) = (after.top ∷ after.waiting) ≡ (m.top ∷ m.waiting)
+OwnersGo s m touches (Ends after value) = ⊤
+OwnersGo s m touches (UsedUp after) = ⊤
+OwnersGo s m touches Stuck = ⊤
 
 abbrev pub StepsOwned : {C : Type 0} → Surroundings C → Machine C → Type 0
-StepsOwned s m = AreOwned s m (defensive_step s m).touches (defensive_step s m).outcome
+StepsOwned s m = OwnersGo s m (defensive_step s m).touches (defensive_step s m).outcome

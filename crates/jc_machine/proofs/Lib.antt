@@ -27,7 +27,7 @@ mod Staying
 mod StayingApart
 mod Switching
 mod TypingWords
-mod UnseeingHeaps
+pub mod AlikeLaws
 mod Unseeing
 mod UnseeingRules
 mod UnseeingCalls

@@ -33,8 +33,8 @@ use Rattle.jc_machine.specs.Unseen.{AreAlike, IsAlike, IsSeen, StepsAlike, is_hi
 use Rattle.jc_words.specs.Values.{Null, Ref, TaggedValue, Unset, Word, is_tagged_reference}
 use Rattle.jc_machine.proofs.Guarding.{verdict_in}
 use Rattle.jc_machine.proofs.GuardingWrites.{IsOwn, IsWritten, own_object, own_thrown}
-use Rattle.jc_machine.proofs.UnseeingHeaps.{AlikeAt, as_cells, at_alike, cell_both, is_seen_in, own_seen, stored_mark}
-use Rattle.jc_machine.proofs.UnseeingHeaps.{with_both, with_cells}
+use Rattle.jc_machine.proofs.AlikeLaws.{AlikeAt, as_cells, at_alike, cell_both, is_seen_in, own_seen, stored_mark}
+use Rattle.jc_machine.proofs.AlikeLaws.{with_both, with_cells}
 
 -- ---- tests that look at no object
 

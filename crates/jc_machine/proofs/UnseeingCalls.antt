@@ -85,7 +85,8 @@ use Rattle.jc_machine.proofs.Unseeing.{at_require, at_same, at_some, at_target, 
 use Rattle.jc_machine.proofs.Unseeing.{both_stuck, branches_both, gives_both, goes_both, leaves_both, throws_both}
 use Rattle.jc_machine.proofs.Unseeing.{throws_own}
 use Rattle.jc_machine.proofs.Staying.{they_stay}
-use Rattle.jc_machine.proofs.UnseeingHeaps.{AlikeAt, as_cells, at_alike, given_both, leads_both, types_both, with_cells}
+use Rattle.jc_machine.proofs.AlikeLaws.{AlikeAt, as_cells, at_alike, begins_both, given_both, leads_both, native_begins_both}
+use Rattle.jc_machine.proofs.AlikeLaws.{types_both, with_cells}
 use Rattle.jc_machine.proofs.UnseeingRules.{creates_both, field_both, length_both, load_both, store_both, throw_both}
 
 module _ {C : Type 0} (context : ℕ) (h : Here C) (H K : Heap TaggedValue) (alike : AreAlike context H K)
@@ -256,42 +257,6 @@ module _ {C : Type 0} (context : ℕ) (h : Here C) (H K : Heap TaggedValue) (ali
   abbrev second : Here C
   second = at_heap h K
 
-  object_of_both : (world : List Shape) (c : ClassName) (v : TaggedValue)
-      → is_object_of world H c v ≡ is_object_of world K c v
-  object_of_both world c (Word n) = refl
-  object_of_both world c (Ref n) = leads_both context H K alike (is_of_class world c) (Ref n)
-  object_of_both world c Null = refl
-  object_of_both world c Unset = refl
-
-  begins_both : (world : List Shape) (d : DeclaredMethod) (values : List TaggedValue)
-      → may_begin_with world H d values ≡ may_begin_with world K d values
-  begins_both world d values = by_signature (declared_type_of world d)
-    where
-      of_instance : (c : ClassName) (types : List (DeclaredType ClassName)) (vs : List TaggedValue)
-          → are_of_instance world H c types vs ≡ are_of_instance world K c types vs
-      of_instance c types [] = refl
-      of_instance c types (v ∷ vs) =
-          ap (λ (b : Bool). b && are_of_types world H types vs) (object_of_both world c v)
-          ∙ ap (λ (b : Bool). is_object_of world K c v && b) (types_both context H K alike world types vs)
-
-      by_static : (b : Bool) (signature : Signature ClassName)
-          → cond b (are_of_types world H signature.parameters values)
-          (are_of_instance world H d.class signature.parameters values)
-          ≡ cond b (are_of_types world K signature.parameters values)
-          (are_of_instance world K d.class signature.parameters values)
-      by_static true signature = types_both context H K alike world signature.parameters values
-      by_static false signature = of_instance d.class signature.parameters values
-
-      by_signature : (o : Option (Signature ClassName))
-          → option_map_or (λ (signature : Signature ClassName). cond d.method.is_static
-          (are_of_types world H signature.parameters values)
-          (are_of_instance world H d.class signature.parameters values)) o false
-          ≡ option_map_or (λ (signature : Signature ClassName). cond d.method.is_static
-          (are_of_types world K signature.parameters values)
-          (are_of_instance world K d.class signature.parameters values)) o false
-      by_signature None = refl
-      by_signature (Some signature) = by_static d.method.is_static signature
-
   accepts_both : (place : MethodPlace) (values : List TaggedValue) → accepts first place values ≡ accepts second place values
   accepts_both place values = by_method (declared_at h.around.world place)
     where
@@ -299,7 +264,7 @@ module _ {C : Type 0} (context : ℕ) (h : Here C) (H K : Heap TaggedValue) (ali
           → option_map_or (λ d. may_begin_with h.around.world.shapes H d values) o false
           ≡ option_map_or (λ d. may_begin_with h.around.world.shapes K d values) o false
       by_method None = refl
-      by_method (Some d) = begins_both h.around.world.shapes d values
+      by_method (Some d) = begins_both context H K alike h.around.world.shapes d values
 
   entered_both : (f : Frame) (max_stack : ℕ) (operands : List TaggedValue)
       → StepsAlike context (entered first f max_stack operands) (entered second f max_stack operands)
@@ -327,17 +292,6 @@ module _ {C : Type 0} (context : ℕ) (h : Here C) (H K : Heap TaggedValue) (ali
       at_same (takes header arguments && accepts first place arguments) (takes header arguments && accepts second place arguments) _ _
       (ap (λ (b : Bool). takes header arguments && b) (accepts_both place arguments))
       (entered_both _ header.max_stack operands))
-
-  native_begins_both : (member : ℕ) (values : List TaggedValue)
-      → native_may_begin h.around.world.shapes H member values ≡ native_may_begin h.around.world.shapes K member values
-  native_begins_both member values =
-      ap (λ (b : Bool). is_concrete h.around.world.shapes (Api member) && b) (by_method (method_at h.around.world.shapes (Api member)))
-    where
-      by_method : (o : Option DeclaredMethod)
-          → option_map_or (λ d. may_begin_with h.around.world.shapes H d values) o false
-          ≡ option_map_or (λ d. may_begin_with h.around.world.shapes K d values) o false
-      by_method None = refl
-      by_method (Some d) = begins_both h.around.world.shapes d values
 
 -- ---- native members
 
@@ -386,7 +340,7 @@ native_both context h H K alike own guarded active previous member arguments go 
     let b = native_answer (at_heap h K) active previous member arguments in
     at_same (native_may_begin h.around.world.shapes H member arguments)
     (native_may_begin h.around.world.shapes K member arguments) _ _
-    (native_begins_both context h H K alike member arguments)
+    (native_begins_both context H K alike h.around.world.shapes member arguments)
     (at_some (native_type h.around.world.shapes member) _ _ (λ signature.
     touches_both a.touches b.touches _ _ same.touches
     (after_both context h H K a b same (λ x e. go x signature e)

@@ -39,8 +39,8 @@ use Rattle.jc_machine.proofs.Unseeing.{at_accessed, at_check, at_heap, at_known,
 use Rattle.jc_machine.proofs.Unseeing.{at_reference_local, at_require, at_same, at_same_require, at_some, at_stored}
 use Rattle.jc_machine.proofs.Unseeing.{at_target, at_thrown, at_top, at_word, behind, both_stuck, gives_both, leaves_both}
 use Rattle.jc_machine.proofs.Unseeing.{loads_both, stored_both, throws_both, throws_own}
-use Rattle.jc_machine.proofs.UnseeingHeaps.{as_large, as_long, leads_both, new_both, type_both, with_cells, with_both}
-use Rattle.jc_machine.proofs.UnseeingHeaps.{cell_both, own_seen, seen_still}
+use Rattle.jc_machine.proofs.AlikeLaws.{as_large, as_long, leads_both, new_both, type_both, with_cells, with_both}
+use Rattle.jc_machine.proofs.AlikeLaws.{cell_both, own_seen, seen_still}
 
 module _ {C : Type 0} (context : ℕ) (h : Here C) (H K : Heap TaggedValue) (alike : AreAlike context H K)
     (own : HasRuntimeObjects H) (applet : h.machine.top.active.context ≡ runtime_context → ⊥)

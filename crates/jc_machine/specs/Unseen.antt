@@ -14,7 +14,7 @@ use Rattle.jc_machine.specs.Machine.{Surroundings, Throws, ThrowsObject, UsedUp}
 use Rattle.jc_machine.specs.Natives.{shareable_member}
 use Rattle.jc_machine.specs.Reading.{Pointwise}
 use Rattle.jc_machine.specs.Runtime.{HasRuntimeObjects}
-use Rattle.jc_machine.specs.Step.{CallEnd, Called, Gave, RanOut, Threw, WasStuck}
+use Rattle.jc_machine.specs.Step.{CallEnd, Called, Gave, RanOut, Start, Threw, WasStuck}
 use Rattle.jc_machine.specs.declared.stop.Budget.{Budget}
 use Rattle.jc_machine.specs.declared.stop.CodePoint.{CodePoint}
 use Rattle.jc_words.specs.Values.{TaggedValue}
@@ -90,6 +90,10 @@ pub record AreNativesBlind {C : Type 0} (natives : Natives C) : Type 0 where
       → IsBlindAnswer context (natives.answer w call) (natives.answer w (with_objects call heap))
 
 -- ---- a call
+
+-- one that begins with other objects
+abbrev pub from_objects : {C : Type 0} → Start C → Heap TaggedValue → Start C
+from_objects start heap = record start { heap = heap }
 
 -- none of the contexts that ran is this one
 abbrev pub stays_out : ℕ → List ℕ → Bool

@@ -19,10 +19,10 @@ ghost use Rattle.jc_machine.specs.Lookup.{body_at, code_at, instruction_at};
 ghost use Rattle.jc_machine.specs.Machine.{Machine, MethodPlace, StaticValue, Surroundings};
 ghost use Rattle.jc_machine.specs.Natives.{AreNativesGuarded, KeepsObjects};
 ghost use Rattle.jc_machine.specs.Runtime.{HasRuntimeObjects};
-ghost use Rattle.jc_machine.specs.Step.{Start, defensive_step, runtime_call, steps_of};
+ghost use Rattle.jc_machine.specs.Step.{Start, defensive_step, no_frame, runtime_call, standing};
 ghost use Rattle.jc_machine.specs.Going.{with_heap};
 ghost use Rattle.jc_machine.specs.Owning.{StepsOwned};
-ghost use Rattle.jc_machine.specs.Unseen.{AreAlike, AreNativesBlind, CallsAlike, StepsAlike, stays_out};
+ghost use Rattle.jc_machine.specs.Unseen.{AreAlike, AreNativesBlind, CallsAlike, StepsAlike, from_objects, stays_out};
 ghost use Rattle.jc_machine.specs.Storable.{FieldsHoldStorable, HoldStorable, may_be_held};
 ghost use Rattle.jc_machine.specs.TypedWords.{KeepWordsTyped};
 ghost use Rattle.jc_machine.specs.Uncounted.{HaveCells, IsInstructionAt};
@@ -108,19 +108,20 @@ pub fn owners_go_by_calls<N: Natives>(_natives: &N)
     ensures { (s : Surroundings N.Kept) → AreNativesGuarded s.natives → (m : Machine N.Kept) → StepsOwned s m }
 {}
 
-/// No step of a frame in another context, and no call without one in it, sees the components of a context's plain
-/// objects: on objects that differ there alone it makes the same accesses, and comes to the same but for these. It does
-/// nothing.
+/// No step of a frame in another context, and no call of the runtime's of whose steps none runs in that context, sees
+/// the components of a context's plain objects. On objects that differ there alone it makes the same accesses, and comes
+/// to the same but for these. It does nothing.
 pub fn contents_are_unseen<N: Natives>(_natives: &N)
     ensures steps { (context : ℕ) (s : Surroundings N.Kept) → AreNativesGuarded s.natives → AreNativesBlind s.natives
         → (m : Machine N.Kept) → HasRuntimeObjects m.heap → is_applets m.top.active ≡ true
         → m.top.active.context ≢ context → (heap : Heap TaggedValue) → AreAlike context m.heap heap
         → StepsAlike context (defensive_step s m) (defensive_step s (with_heap m heap)) }
     ensures calls { (context : ℕ) (s : Surroundings N.Kept) → AreNativesGuarded s.natives → AreNativesBlind s.natives
-        → (keeps : N.Kept → Bool) → AreNativesApart keeps s.natives → HaveApiMembers s.world.shapes → (steps : ℕ)
-        → (m : Machine N.Kept) → IsApart keeps m → stays_out context (steps_of s steps m).ran ≡ true → (heap : Heap TaggedValue)
-        → AreAlike context m.heap heap
-        → CallsAlike context (steps_of s steps m) (steps_of s steps (with_heap m heap)) }
+        → (keeps : N.Kept → Bool) → AreNativesApart keeps s.natives → HaveApiMembers s.world.shapes
+        → (start : Start N.Kept) → IsApart keeps (standing start (no_frame start.owner)) → (heap : Heap TaggedValue)
+        → AreAlike context start.heap heap → (steps : ℕ)
+        → stays_out context (runtime_call s steps start).ran ≡ true
+        → CallsAlike context (runtime_call s steps start) (runtime_call s steps (from_objects start heap)) }
 {}
 
 /// A test that native members keep, and that holds of what the runtime keeps, holds of it behind each call of the

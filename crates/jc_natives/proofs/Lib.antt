@@ -36,8 +36,9 @@ mod Unstuck
 mod Same
 mod Counting
 mod AtOnce
-mod UnseenHeaps
+pub mod AlikeLaws
 mod UnseenReads
 mod UnseenTests
 mod UnseenMembers
+mod UnseenThrown
 mod UnseenAnswers

@@ -23,8 +23,9 @@ use Rattle.jc_machine.specs.Unseen.{AreAlike, AreNativesBlind, IsAlike, IsBlindA
 use Rattle.jc_names.specs.declared.name.ClassName.{ClassName}
 use Rattle.jc_names.specs.declared.name.MethodName.TheVariants.{Api}
 use Rattle.std.proofs.lemmas.Bool.{eq-eqb}
-use Rattle.jc_natives.proofs.UnseenHeaps.{AlikeAt, as_cells, as_large, as_long, at_alike, cell_both, leads_both, new_both}
-use Rattle.jc_natives.proofs.UnseenHeaps.{types_both, with_both, with_cells}
+use Rattle.jc_machine.proofs.AlikeLaws.{as_large, as_long, new_both}
+use Rattle.jc_machine.proofs.AlikeLaws.{native_begins_both as begins_native}
+use Rattle.jc_natives.proofs.AlikeLaws.{written_both}
 use Rattle.jc_natives.proofs.UnseenMembers.{does_both}
 use Rattle.jc_natives.proofs.UnseenReads.{aid_same, uses_read}
 use Rattle.jc_natives.proofs.UnseenTests.{TestsRead, any_objects, followed_same, tested_same, uses_same}
@@ -54,33 +55,6 @@ use Rattle.jc_natives.specs.declared.row.Way.TheVariants.{Calls, Stores}
 use Rattle.jc_store.specs.Heap.{Heap, Object, cells_in, next_number, object_at, with_cell, with_new, with_object}
 use Rattle.jc_words.specs.Values.{Null, Ref, TaggedValue, Unset, Word}
 
--- ---- what is written
-
-put_both : (context : ℕ) (os ps : Heap TaggedValue) → AreAlike context os ps → (n i : ℕ) (v : TaggedValue)
-    → AreAlike context (put os n i v) (put ps n i v)
-put_both context os ps a n i v = by_objects (object_at os n) (object_at ps n) (at_alike context os ps a n)
-  where
-    by_objects : (x y : Option (Object TaggedValue)) → AlikeAt context x y
-        → AreAlike context (option_map_or (λ (o : Object TaggedValue). with_object os n (with_cell o i v)) x os)
-        (option_map_or (λ (o : Object TaggedValue). with_object ps n (with_cell o i v)) y ps)
-    by_objects None None b = a
-    by_objects (Some o) (Some p) b = with_both context os ps a n (with_cell o i v) (with_cell p i v) (cell_both context o p b i v)
-    by_objects None (Some p) b = absurd b
-    by_objects (Some o) None b = absurd b
-
-put_all_both : (context : ℕ) (os ps : Heap TaggedValue) → AreAlike context os ps → (n from : ℕ) (vs : List TaggedValue)
-    → AreAlike context (put_all os n from vs) (put_all ps n from vs)
-put_all_both context os ps a n from [] = a
-put_all_both context os ps a n from (v ∷ vs) =
-    put_all_both context (put os n from v) (put ps n from v) (put_both context os ps a n from v) n (from + 1) vs
-
-written_both : (context : ℕ) (os ps : Heap TaggedValue) → AreAlike context os ps → (writes : List Write)
-    → AreAlike context (written Word os writes) (written Word ps writes)
-written_both context os ps a [] = a
-written_both context os ps a (x ∷ writes) =
-    written_both context (put_all os x.object x.from (map Word x.words)) (put_all ps x.object x.from (map Word x.words))
-    (put_all_both context os ps a x.object x.from (map Word x.words)) writes
-
 -- ---- which tests read an AID's length
 
 is_without_aid : Length → Bool
@@ -105,57 +79,18 @@ module _ (context : ℕ) (w : World) (call : NativeCall Kept) (K : Heap TaggedVa
 
   -- ---- whether it begins
 
-  object_of_both : (world : List Shape) (c : ClassName) (v : TaggedValue)
-      → is_object_of world H c v ≡ is_object_of world K c v
-  object_of_both world c (Word n) = refl
-  object_of_both world c (Ref n) = leads_both context H K alike (is_of_class world c) (Ref n)
-  object_of_both world c Null = refl
-  object_of_both world c Unset = refl
-
-  begins_both : (world : List Shape) (d : DeclaredMethod) (values : List TaggedValue)
-      → may_begin_with world H d values ≡ may_begin_with world K d values
-  begins_both world d values = by_signature (declared_type_of world d)
-    where
-      of_instance : (c : ClassName) (types : List (DeclaredType ClassName)) (vs : List TaggedValue)
-          → are_of_instance world H c types vs ≡ are_of_instance world K c types vs
-      of_instance c types [] = refl
-      of_instance c types (v ∷ vs) =
-          ap (λ (b : Bool). b && are_of_types world H types vs) (object_of_both world c v)
-          ∙ ap (λ (b : Bool). is_object_of world K c v && b) (types_both context H K alike world types vs)
-
-      by_static : (b : Bool) (signature : Signature ClassName)
-          → cond b (are_of_types world H signature.parameters values)
-          (are_of_instance world H d.class signature.parameters values)
-          ≡ cond b (are_of_types world K signature.parameters values)
-          (are_of_instance world K d.class signature.parameters values)
-      by_static true signature = types_both context H K alike world signature.parameters values
-      by_static false signature = of_instance d.class signature.parameters values
-
-      by_signature : (o : Option (Signature ClassName))
-          → option_map_or (λ (signature : Signature ClassName). cond d.method.is_static
-          (are_of_types world H signature.parameters values)
-          (are_of_instance world H d.class signature.parameters values)) o false
-          ≡ option_map_or (λ (signature : Signature ClassName). cond d.method.is_static
-          (are_of_types world K signature.parameters values)
-          (are_of_instance world K d.class signature.parameters values)) o false
-      by_signature None = refl
-      by_signature (Some signature) = by_static d.method.is_static signature
-
   native_begins_both : native_may_begin w.shapes H call.member call.arguments
       ≡ native_may_begin w.shapes K call.member call.arguments
-  native_begins_both =
-      ap (λ (b : Bool). is_concrete w.shapes (Api call.member) && b) (by_method (method_at w.shapes (Api call.member)))
-    where
-      by_method : (o : Option DeclaredMethod)
-          → option_map_or (λ d. may_begin_with w.shapes H d call.arguments) o false
-          ≡ option_map_or (λ d. may_begin_with w.shapes K d call.arguments) o false
-      by_method None = refl
-      by_method (Some d) = begins_both w.shapes d call.arguments
+  native_begins_both = begins_native context H K alike w.shapes call.member call.arguments
 
   -- ---- what is done
 
-  abbrev Blind : NativeAnswer Kept → NativeAnswer Kept → Type 0
-  Blind a b = IsBlindAnswer context a b
+  -- the same, whatever is thrown
+  record Blind (a b : NativeAnswer Kept) : Type 0 where
+    touches : a.touches ≡ b.touches
+    heap : AreAlike context a.heap b.heap
+    runtime : a.runtime ≡ b.runtime
+    ends : a.ends ≡ b.ends
 
   touch_both : (by : By) (n : ℕ) → touch_by by H n ≡ touch_by by K n
   touch_both ByCode n = refl

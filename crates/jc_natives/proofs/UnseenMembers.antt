@@ -10,7 +10,7 @@ use Rattle.jc_machine.specs.Machine.{NativeCall}
 use Rattle.jc_machine.specs.Runtime.{HasRuntimeObjects, apdu_buffer, null_pointer_exception}
 use Rattle.jc_machine.specs.Unseen.{AreAlike, with_objects}
 use Rattle.jc_names.specs.declared.owner.Owner.{Owner}
-use Rattle.jc_natives.proofs.UnseenHeaps.{with_cells}
+use Rattle.jc_machine.proofs.AlikeLaws.{with_cells}
 use Rattle.jc_natives.proofs.UnseenReads.{Reads, SameAt, aid_same, and_then_both, buffer_same, bytes_same, uses_read}
 use Rattle.jc_natives.proofs.UnseenReads.{word_same, words_same}
 use Rattle.jc_natives.proofs.UnseenTests.{LengthReads, TestsRead, aids_same, any_objects, followed_passed, length_both}

@@ -15,7 +15,7 @@ use Rattle.jc_machine.specs.Unseen.{AreAlike, IsAlike, is_hidden, is_plain, with
 use Rattle.jc_natives.proofs.Bare.{both}
 use Rattle.jc_natives.proofs.Facts.{own_object}
 use Rattle.jc_natives.proofs.Guarding.{own_use}
-use Rattle.jc_natives.proofs.UnseenHeaps.{AlikeAt, as_cells, at_alike, with_cells}
+use Rattle.jc_machine.proofs.AlikeLaws.{AlikeAt, as_cells, at_alike, with_cells}
 use Rattle.jc_natives.specs.Checks.{Check, Checked, Passed, Refused, TestEnd, Unfit, access_of, are_aids, by_verdict}
 use Rattle.jc_natives.specs.Checks.{calls_other, followed, goes_on, in_range, is_aid_at, is_aid_object, is_aid_value}
 use Rattle.jc_natives.specs.Checks.{is_in_range, is_range_in, judged, passed, refused, test, tested, unfit, uses, uses_value}

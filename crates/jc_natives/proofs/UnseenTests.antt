@@ -8,7 +8,7 @@ use Rattle.jc_link.specs.Linked.{World}
 use Rattle.jc_machine.specs.Machine.{NativeCall, Touch}
 use Rattle.jc_machine.specs.Runtime.{null_pointer_exception}
 use Rattle.jc_machine.specs.Unseen.{AreAlike, IsAlike, with_objects}
-use Rattle.jc_natives.proofs.UnseenHeaps.{AlikeAt, as_cells, at_alike, with_cells}
+use Rattle.jc_machine.proofs.AlikeLaws.{AlikeAt, as_cells, at_alike, with_cells}
 use Rattle.jc_natives.proofs.UnseenReads.{and_then_both}
 use Rattle.jc_natives.specs.Checks.{CallsOtherAid, Check, Checked, HasRange, Passed, Refused, TestEnd, Unfit, Uses}
 use Rattle.jc_natives.specs.Checks.{UsesUnlessNull, are_aids, calls_other, followed, goes_on, in_range, is_aid_at}

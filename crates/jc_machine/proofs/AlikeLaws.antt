@@ -1,5 +1,6 @@
--- Objects that are alike: what is read of them beside components of a hidden one is the same.
-use Rattle.std.proofs.Common.{◌≡◌, ℕ, zero, suc, ◌+◌, ◌==◌, ◌&&◌, ◌||◌, Bool, true, false, not, List, [], ◌∷◌, length}
+-- Laws of objects that are alike, for this crate and those above: what is read of them beside components of a hidden one
+-- is the same.
+use Rattle.std.proofs.Common.{cond, ◌≡◌, ℕ, zero, suc, ◌+◌, ◌==◌, ◌&&◌, ◌||◌, Bool, true, false, not, List, [], ◌∷◌, length}
 use Rattle.std.proofs.Common.{Option, Some, None, refl, sym, ap, ◌∙◌, subst, arith, eqb-true, slice_get, set, length-set}
 use Rattle.std.proofs.lemmas.Option.{same_Some}
 use Rattle.std.proofs.lemmas.Bool.{and_parts}
@@ -8,14 +9,21 @@ use Rattle.std.specs.Prelude.{⊤}
 use Rattle.std.specs.Option.{option_map, option_map_or, option_and_then}
 use Rattle.jc_base.specs.declared.declared_type.DeclaredType.{DeclaredType}
 use Rattle.jc_base.specs.declared.declared_type.ReturnType.{ReturnType}
+use Rattle.jc_base.specs.Signature.{Signature}
 use Rattle.jc_cap_desc.specs.Shape.{Shape}
+use Rattle.jc_classes.specs.Members.{DeclaredMethod, method_at}
+use Rattle.jc_link.specs.MemberType.{declared_type_of}
+use Rattle.jc_link.specs.Named.{is_concrete}
+use Rattle.jc_machine.specs.Calls.{native_may_begin}
+use Rattle.jc_names.specs.declared.name.MethodName.TheVariants.{Api}
 use Rattle.jc_names.specs.declared.name.ClassName.{ClassName}
 use Rattle.jc_names.specs.declared.owner.Owner.{Owner}
 use Rattle.jc_store.specs.Heap.{Heap, Object, cells_in, object_at, with_cell, with_new, with_object}
 use Rattle.jc_store.specs.declared.kind.Kind.{Kind}
 use Rattle.jc_store.specs.declared.kind.Mark.{Mark}
 use Rattle.jc_store.specs.declared.kind.ObjectType.{ObjectType}
-use Rattle.jc_machine.specs.Lookup.{are_of_types, is_given, is_of_type, leads_to, mark_of}
+use Rattle.jc_machine.specs.Lookup.{are_of_instance, are_of_types, is_given, is_object_of, is_of_class, is_of_type, leads_to}
+use Rattle.jc_machine.specs.Lookup.{mark_of, may_begin_with}
 use Rattle.jc_machine.specs.Reading.{Pointwise}
 use Rattle.jc_machine.specs.Runtime.{HasRuntimeObject, HasRuntimeObjects, RuntimeObject, runtime_objects}
 use Rattle.jc_machine.specs.Unseen.{AreAlike, IsAlike, IsSeen, is_hidden, is_plain}
@@ -150,6 +158,55 @@ module _ (context : ℕ) (H K : Heap TaggedValue) (a : AreAlike context H K) whe
   pub stored_mark : (v : Option TaggedValue) → option_and_then (mark_of H) v ≡ option_and_then (mark_of K) v
   stored_mark None = refl
   stored_mark (Some v) = mark_both v
+
+  -- ---- whether a method may begin
+
+  object_of_both : (world : List Shape) (c : ClassName) (v : TaggedValue)
+      → is_object_of world H c v ≡ is_object_of world K c v
+  object_of_both world c (Word n) = refl
+  object_of_both world c (Ref n) = leads_both (is_of_class world c) (Ref n)
+  object_of_both world c Null = refl
+  object_of_both world c Unset = refl
+
+  pub begins_both : (world : List Shape) (d : DeclaredMethod) (values : List TaggedValue)
+      → may_begin_with world H d values ≡ may_begin_with world K d values
+  begins_both world d values = by_signature (declared_type_of world d)
+    where
+      of_instance : (c : ClassName) (types : List (DeclaredType ClassName)) (vs : List TaggedValue)
+          → are_of_instance world H c types vs ≡ are_of_instance world K c types vs
+      of_instance c types [] = refl
+      of_instance c types (v ∷ vs) =
+          ap (λ (b : Bool). b && are_of_types world H types vs) (object_of_both world c v)
+          ∙ ap (λ (b : Bool). is_object_of world K c v && b) (types_both world types vs)
+
+      by_static : (b : Bool) (signature : Signature ClassName)
+          → cond b (are_of_types world H signature.parameters values)
+          (are_of_instance world H d.class signature.parameters values)
+          ≡ cond b (are_of_types world K signature.parameters values)
+          (are_of_instance world K d.class signature.parameters values)
+      by_static true signature = types_both world signature.parameters values
+      by_static false signature = of_instance d.class signature.parameters values
+
+      by_signature : (o : Option (Signature ClassName))
+          → option_map_or (λ (signature : Signature ClassName). cond d.method.is_static
+          (are_of_types world H signature.parameters values)
+          (are_of_instance world H d.class signature.parameters values)) o false
+          ≡ option_map_or (λ (signature : Signature ClassName). cond d.method.is_static
+          (are_of_types world K signature.parameters values)
+          (are_of_instance world K d.class signature.parameters values)) o false
+      by_signature None = refl
+      by_signature (Some signature) = by_static d.method.is_static signature
+
+  pub native_begins_both : (world : List Shape) (member : ℕ) (values : List TaggedValue)
+      → native_may_begin world H member values ≡ native_may_begin world K member values
+  native_begins_both world member values =
+      ap (λ (b : Bool). is_concrete world (Api member) && b) (by_method (method_at world (Api member)))
+    where
+      by_method : (o : Option DeclaredMethod)
+          → option_map_or (λ d. may_begin_with world H d values) o false
+          ≡ option_map_or (λ d. may_begin_with world K d values) o false
+      by_method None = refl
+      by_method (Some d) = begins_both world d values
 
 -- ---- the runtime's own objects aren't hidden
 

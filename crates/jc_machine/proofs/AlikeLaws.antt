@@ -1,9 +1,9 @@
 -- Laws of objects that are alike, for this crate and those above: what is read of them beside components of a hidden one
 -- is the same.
-use Rattle.std.proofs.Common.{cond, ◌≡◌, ℕ, zero, suc, ◌+◌, ◌==◌, ◌&&◌, ◌||◌, Bool, true, false, not, List, [], ◌∷◌, length}
+use Rattle.std.proofs.Common.{cond, eq-eqb, ◌≡◌, ◌≢◌, ◌<◌, nat_lt, ℕ, zero, suc, ◌+◌, ◌==◌, ◌&&◌, ◌||◌, Bool, true, false, not, List, [], ◌∷◌, length}
 use Rattle.std.proofs.Common.{Option, Some, None, refl, sym, ap, ◌∙◌, subst, arith, eqb-true, slice_get, set, length-set}
 use Rattle.std.proofs.lemmas.Option.{same_Some}
-use Rattle.std.proofs.lemmas.Bool.{and_parts}
+use Rattle.std.proofs.lemmas.Bool.{and_parts, both_ways, ltb-true}
 use Rattle.std.specs.List.{AllByRecursion}
 use Rattle.std.specs.Prelude.{⊤}
 use Rattle.std.specs.Option.{option_map, option_map_or, option_and_then}
@@ -25,7 +25,10 @@ use Rattle.jc_store.specs.declared.kind.ObjectType.{ObjectType}
 use Rattle.jc_machine.specs.Lookup.{are_of_instance, are_of_types, is_given, is_object_of, is_of_class, is_of_type, leads_to}
 use Rattle.jc_machine.specs.Lookup.{mark_of, may_begin_with}
 use Rattle.jc_machine.specs.Reading.{Pointwise}
-use Rattle.jc_machine.specs.Runtime.{HasRuntimeObject, HasRuntimeObjects, RuntimeObject, runtime_objects}
+use Rattle.jc_machine.specs.Natives.{KeepsObjects}
+use Rattle.jc_machine.specs.Runtime.{HasRuntimeObject, HasRuntimeObjects, RuntimeObject, first_aid_object}
+use Rattle.jc_machine.specs.Runtime.{runtime_objects}
+use Rattle.jc_machine.proofs.Staying.{they_stay}
 use Rattle.jc_machine.specs.Unseen.{AreAlike, IsAlike, IsSeen, is_hidden, is_plain}
 use Rattle.jc_words.specs.Values.{Null, Ref, TaggedValue, Unset, Word}
 
@@ -241,6 +244,31 @@ module _ (context : ℕ) (heap : Heap TaggedValue) where
           → (is_seen_in xs n ≡ true → IsSeen context heap n) → IsSeen context heap n
       by_first true f g later = one_seen x n has.0 f
       by_first false f g later = later g
+
+-- ---- numbers below the first AID object's are those of objects that aren't hidden
+
+abbrev all_below : (ℕ → Bool) → ℕ → Bool
+all_below p zero = true
+all_below p (suc k) = p k && all_below p k
+
+is_below : (p : ℕ → Bool) (k n : ℕ) → n < k → all_below p k ≡ true → p n ≡ true
+is_below p zero n low all = absurd (omega (arith, low))
+is_below p (suc k) n low all =
+    let parts = and_parts (p k) (all_below p k) all in
+    by_last (n == k) refl parts.0 (λ less. is_below p k n less parts.1)
+  where
+    by_last : (b : Bool) → (n == k) ≡ b → p k ≡ true → (n < k → p n ≡ true) → p n ≡ true
+    by_last true e last less = ap p (eqb-true n k e) ∙ last
+    by_last false e last less =
+        let apart : n ≢ k = λ f. both_ways (n == k) e (eq-eqb n k f) in less (omega (arith, low, apart))
+
+pub thrown_seen : (context : ℕ) (before after : Heap TaggedValue) → KeepsObjects before after → HasRuntimeObjects before
+    → (n : ℕ) → nat_lt n first_aid_object ≡ true → IsSeen context after n
+thrown_seen context before after kept own zero e = λ o found. absurd cc
+thrown_seen context before after kept own (suc n) e =
+    let low = ltb-true (suc n) first_aid_object e in
+    own_seen context after runtime_objects (suc n) (they_stay before after kept own)
+    (is_below (λ m. is_seen_in runtime_objects (suc m)) 13 n (omega (arith, low)) refl)
 
 set_one : (os : Heap TaggedValue) (n : ℕ) (p q : Object TaggedValue) → slice_get (set os n p) n ≡ Some q → p ≡ q
 set_one [] n p q e = absurd cc

@@ -23,13 +23,15 @@ use Rattle.jc_machine.specs.Unseen.{AreAlike, AreNativesBlind, IsAlike, IsBlindA
 use Rattle.jc_names.specs.declared.name.ClassName.{ClassName}
 use Rattle.jc_names.specs.declared.name.MethodName.TheVariants.{Api}
 use Rattle.std.proofs.lemmas.Bool.{eq-eqb}
-use Rattle.jc_machine.proofs.AlikeLaws.{as_large, as_long, new_both}
+use Rattle.jc_machine.proofs.AlikeLaws.{as_large, as_long, new_both, thrown_seen}
 use Rattle.jc_machine.proofs.AlikeLaws.{native_begins_both as begins_native}
 use Rattle.jc_natives.proofs.AlikeLaws.{written_both}
+use Rattle.jc_natives.proofs.Answering.{answers_guarded}
 use Rattle.jc_natives.proofs.UnseenMembers.{does_both}
 use Rattle.jc_natives.proofs.UnseenReads.{aid_same, uses_read}
 use Rattle.jc_natives.proofs.UnseenTests.{TestsRead, any_objects, followed_same, tested_same, uses_same}
 use Rattle.jc_natives.specs.Cells.{Write, has_room, put, put_all, written}
+use Rattle.jc_natives.proofs.UnseenThrown.{answers_throw_own}
 use Rattle.jc_natives.specs.Checks.{Check, CallsOtherAid, Checked, HasRange, Passed, Refused, TestEnd, Unfit, Uses}
 use Rattle.jc_natives.specs.Checks.{UsesUnlessNull, passed, followed, test, tested, refused}
 use Rattle.jc_machine.specs.Runtime.{null_pointer_exception}
@@ -54,6 +56,13 @@ use Rattle.jc_natives.specs.declared.row.Length.TheVariants as lengths
 use Rattle.jc_natives.specs.declared.row.Way.TheVariants.{Calls, Stores}
 use Rattle.jc_store.specs.Heap.{Heap, Object, cells_in, next_number, object_at, with_cell, with_new, with_object}
 use Rattle.jc_words.specs.Values.{Null, Ref, TaggedValue, Unset, Word}
+
+-- the same, whatever is thrown
+pub record IsSameTo (context : ℕ) (a b : NativeAnswer Kept) : Type 0 where
+  pub touches : a.touches ≡ b.touches
+  pub heap : AreAlike context a.heap b.heap
+  pub runtime : a.runtime ≡ b.runtime
+  pub ends : a.ends ≡ b.ends
 
 -- ---- which tests read an AID's length
 
@@ -85,12 +94,8 @@ module _ (context : ℕ) (w : World) (call : NativeCall Kept) (K : Heap TaggedVa
 
   -- ---- what is done
 
-  -- the same, whatever is thrown
-  record Blind (a b : NativeAnswer Kept) : Type 0 where
-    touches : a.touches ≡ b.touches
-    heap : AreAlike context a.heap b.heap
-    runtime : a.runtime ≡ b.runtime
-    ends : a.ends ≡ b.ends
+  abbrev pub Blind : NativeAnswer Kept → NativeAnswer Kept → Type 0
+  Blind a b = IsSameTo context a b
 
   touch_both : (by : By) (n : ℕ) → touch_by by H n ≡ touch_by by K n
   touch_both ByCode n = refl
@@ -241,10 +246,25 @@ module _ (context : ℕ) (w : World) (call : NativeCall Kept) (K : Heap TaggedVa
 pub members_blind : AreNativesBlind meaning
 members_blind = record {
   members = λ context w call heap own applet other alike.
-      answers_both context w call heap alike own (applet_isnt call applet) other;
-  modest = λ context w call heap is alike. modest_both context w call heap alike is;
+      seen_too context w call heap own (answers_both context w call heap alike own (applet_isnt call applet) other);
+  modest = λ context w call heap own is alike.
+      seen_too context w call heap own (modest_both context w call heap alike is);
 }
   where
+    seen_too : (context : ℕ) (w : World) (call : NativeCall Kept) (heap : Heap TaggedValue)
+        → HasRuntimeObjects call.heap
+        → IsSameTo context (answer_of w call) (answer_of w (with_objects call heap))
+        → IsBlindAnswer context (answer_of w call) (answer_of w (with_objects call heap))
+    seen_too context w call heap own same = record {
+      touches = same.touches;
+      heap = same.heap;
+      runtime = same.runtime;
+      ends = same.ends;
+      thrown = λ number e.
+          thrown_seen context call.heap (answer_of w call).heap (answers_guarded w call).kept own number
+          (answers_throw_own w call number e);
+    }
+
     unequal : false ≡ true → ⊥
     unequal g = cc
 

@@ -72,9 +72,9 @@ module _ (laws : CallLaws) (k : CardWords) (c : CardState) (h : Holds k c) (sele
           → Holds after (left_by c m)
       holds m b t = grind (arith, typed, left_typed)
 
-      by_end : (touches : List Touch) (e : CallEnd Kept) → EndsAs s k.program now end e → EndsTyped s e
-          → IsDone after (ReadsEnded end) (ended_call c touches e)
-      by_end touches e h1 h2 = grind (arith, holds, reads)
+      by_end : (called : Called Kept) (e : CallEnd Kept) → EndsAs s k.program now end e → EndsTyped s e
+          → IsDone after (ReadsEnded end) (ended_call c called e)
+      by_end called e h1 h2 = grind (arith, holds, reads)
 
       pub method_called : IsDone after (ReadsEnded end) (call_method c selected owner method arguments)
       method_called = grind (arith, by_end, ends, ends_typed, typed)

@@ -1,5 +1,5 @@
 -- Parts of commands, one behind the other.
-use Rattle.std.proofs.Common.{List, Option, arith}
+use Rattle.std.proofs.Common.{ℕ, List, Option, arith}
 use Rattle.std.specs.Option.{option_map}
 use Rattle.jc_machine.specs.Machine.{Touch}
 use Rattle.jc_card.specs.Card.{CardState}
@@ -11,9 +11,9 @@ pub left_card : {A : Type 0} (after : CardWords) (reads : A → Type 0) (o : Opt
     → IsCard after
 left_card after reads o h1 = grind arith
 
-behind_done : {A : Type 0} (after : CardWords) (reads : A → Type 0) (touches : List Touch) (o : Option (Left A))
-    → IsDone after reads o → IsDone after reads (option_map (behind touches) o)
-behind_done after reads touches o h1 = grind arith
+behind_done : {A : Type 0} (after : CardWords) (reads : A → Type 0) (touches : List Touch) (ran : List ℕ)
+    (o : Option (Left A)) → IsDone after reads o → IsDone after reads (option_map (behind touches ran) o)
+behind_done after reads touches ran o h1 = grind arith
 
 -- a part, and then the next
 pub then_done : {A B : Type 0} (between after : CardWords) (reads : A → Type 0) (reads_next : B → Type 0)

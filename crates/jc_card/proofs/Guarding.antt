@@ -49,7 +49,7 @@ abbrev with_others : CardState → Kept → Option Owner → CardState
 with_others c kept selected = record c { kept = kept; selected = selected }
 
 -- whatever a part comes to on this card
-abbrev Fine : {A : Type 0} → Order → CardState → Option (Left A) → Type 0
+abbrev pub Fine : {A : Type 0} → Order → CardState → Option (Left A) → Type 0
 Fine order c done = IfSome done (IsPart order c)
 
 module _ (order : Order) where
@@ -61,7 +61,7 @@ module _ (order : Order) where
   }
 
   joined : {A B : Type 0} (c : CardState) (l : Left A) (next : Option (Left B)) → IsPart order c l
-      → Fine order l.card next → Fine order c (option_map (behind l.touches) next)
+      → Fine order l.card next → Fine order c (option_map (behind l.touches l.ran) next)
   joined c l None first h = tt
   joined c l (Some m) first h = record {
     accesses = onward order c l.card m.card l.touches m.touches first.accesses h.accesses;
@@ -136,7 +136,7 @@ module _ (laws : StepsGuarded) where
     applet_part i is =
         if_some order c (object_at c.heap i.object) (call_on c i call) (λ object there. on_part i object is there)
 
-    selected_part : Fine order c (call_selected c call)
+    pub selected_part : Fine order c (call_selected c call)
     selected_part =
         or_else order c (selected_instance c) (λ i. call_applet c i call) (gives c (Normally None))
         (λ i is. applet_part i is) (λ none. gives_part order c (Normally None))
@@ -152,7 +152,7 @@ module _ (laws : StepsGuarded) where
       (λ claims clearing. by_unselecting order c owner _ _ deselects is clearing) (λ names. names))
       (λ none. gives_part order c tt)
 
-  deselect_part : (order : Order) → calls_member order calls.Deselect ≡ true → (c : CardState)
+  pub deselect_part : (order : Order) → calls_member order calls.Deselect ≡ true → (c : CardState)
       → Fine order c (commands.deselect c)
   deselect_part order deselects c = grind (arith, then_part, selected_part, unselect_part)
 
@@ -294,7 +294,8 @@ module _ (laws : StepsGuarded) where
         (installs.call_install c place owner (length parameters))
         (λ (c : CardState) (ended : Ended). installs.settle c owner ended) in
         moved installing c kept c.selected
-        (λ claims. by_beginning applet place owner c none is_next)
+        (λ claims. by_beginning applet place owner c none
+        (ap (λ (o : Owner). o.context) is_next) (ap (λ (o : Owner). o.instance) is_next))
         (λ names. laws.begun c.kept names owner applet whose numbered)
         (and_then (write install_array words d) next)
         (then_known installing d (write install_array words d) next IsInstalling

@@ -68,7 +68,12 @@ module _ (laws : StepsGuarded) (c : CardState) (owner : Owner) where
 
   lawful : (m : Machine Kept) → IsLawfulStep s m
   lawful m =
-      record { guarded = laws.steps s laws.members m; kept = λ after e. laws.kept s laws.members m after e }
+      record {
+        guarded = laws.steps s laws.members m;
+        accesses = laws.accesses s laws.members m;
+        frames = laws.owned s laws.members m;
+        kept = λ after e. laws.kept s laws.members m after e;
+      }
 
   stays_apart : (m : Machine Kept) → IsFit m → StaysApart names_applets s m
   stays_apart m p = laws.apart_steps s laws.members laws.apart_members (laws.api w.shapes p.built) m p.apart
@@ -279,11 +284,12 @@ module _ (laws : StepsGuarded) (c : CardState) (owner : Owner) where
       fit_start : IsApartCard c → IsFitStart
       fit_start p = grind arith
 
-      left_apart : (touches : List Touch) (m : Machine Kept) (ends : Ended)
-          → IsCallLed arguments method touches m
-          → IsPart order c (record { touches = touches; card = left_by c m; value = ends })
-      left_apart touches m ends h = record {
-        accesses = by_call order c owner method arguments touches m called h.runs;
+      left_apart : (ended : Called Kept) (m : Machine Kept) (ends : Ended)
+          → IsCallLed arguments method ended.touches m
+          → IsPart order c
+          (record { touches = ended.touches; ran = ended.ran; card = left_by c m; value = ends })
+      left_apart ended m ends h = record {
+        accesses = by_call order c owner method arguments ended.touches m called h.runs;
         packages = refl;
         apart = λ p. record {
           card = record {
@@ -292,16 +298,16 @@ module _ (laws : StepsGuarded) (c : CardState) (owner : Owner) where
             statics = (h.fit (fit_start p)).apart.statics;
             instances = (h.fit (fit_start p)).apart.kept;
           };
-          plain = by_call order c owner method arguments touches m called (h.plain (fit_start p));
+          plain = by_call order c owner method arguments ended.touches m called (h.plain (fit_start p));
         };
       }
 
-      ended_part : (touches : List Touch) (ends : CallEnd Kept) → call_end arguments method touches ends
-          → IfSome (ended_call c touches ends) (IsPart order c)
-      ended_part touches (Gave m value) h = left_apart touches m (Normally value) h
-      ended_part touches (Threw m object at) h = left_apart touches m (Uncaught object at) h
-      ended_part touches (RanOut m lack at) h = left_apart touches m (OutOfBudget lack at) h
-      ended_part touches WasStuck h = tt
+      ended_part : (ended : Called Kept) (ends : CallEnd Kept) → call_end arguments method ended.touches ends
+          → IfSome (ended_call c ended ends) (IsPart order c)
+      ended_part ended (Gave m value) h = left_apart ended m (Normally value) h
+      ended_part ended (Threw m object at) h = left_apart ended m (Uncaught object at) h
+      ended_part ended (RanOut m lack at) h = left_apart ended m (OutOfBudget lack at) h
+      ended_part ended WasStuck h = tt
 
       pub call_part : IfSome (ended c (runtime_call s c.steps start)) (IsPart order c)
       call_part = grind (arith, ended_part, call_leads)

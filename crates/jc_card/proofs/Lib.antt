@@ -7,6 +7,8 @@ mod Doing
 mod Clearing
 mod Selecting
 mod SetApart
+mod UnseenParts
+mod UnseenCommands
 mod Sparing
 mod Thrown
 mod Making

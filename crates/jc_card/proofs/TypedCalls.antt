@@ -53,11 +53,11 @@ start_on c owner method arguments = record {
   arguments = arguments;
 }
 
-ended_typed : (c : CardState) → IsTypedCard c → (selected : Option ℕ) (touches : List Touch) (e : CallEnd Kept)
-    → EndsTyped (around c selected) e → GivesTyped (ended_call c touches e)
-ended_typed c t selected touches (Gave m value) e = left_typed c t selected m e.beside
-ended_typed c t selected touches (Threw m object at) e = left_typed c t selected m e
-ended_typed c t selected touches (RanOut m spent at) e = left_typed c t selected m e
+ended_typed : (c : CardState) → IsTypedCard c → (selected : Option ℕ) (called : Called Kept)
+    (e : CallEnd Kept) → EndsTyped (around c selected) e → GivesTyped (ended_call c called e)
+ended_typed c t selected called (Gave m value) e = left_typed c t selected m e.beside
+ended_typed c t selected called (Threw m object at) e = left_typed c t selected m e
+ended_typed c t selected called (RanOut m spent at) e = left_typed c t selected m e
 ended_typed c t selected touches WasStuck e = absurd e
 
 module _ (laws : CallLaws) (c : CardState) (t : IsTypedCard c) (selected : ℕ) (owner : Owner) (method : MethodName)
@@ -85,7 +85,7 @@ module _ (laws : CallLaws) (c : CardState) (t : IsTypedCard c) (selected : ℕ) 
     ends_typed = laws.calls call_around may_run c.steps call_start typed_start
 
     pub method_typed : GivesTyped (call_method c selected owner method arguments)
-    method_typed = ended_typed c t (Some selected) ran.touches ran.ends ends_typed
+    method_typed = ended_typed c t (Some selected) ran ran.ends ends_typed
 
 -- ---- the object of an instance that fits
 

@@ -37,9 +37,9 @@ use Rattle.jc_card.specs.declared.places.AppletPlace.{AppletPlace}
 
 -- ---- one part after the other
 
-behind_typed : {A : Type 0} (touches : List Touch) (o : Option (Left A)) → GivesTyped o
-    → GivesTyped (option_map (behind touches) o)
-behind_typed touches o h1 = grind arith
+behind_typed : {A : Type 0} (touches : List Touch) (ran : List ℕ) (o : Option (Left A)) → GivesTyped o
+    → GivesTyped (option_map (behind touches ran) o)
+behind_typed touches ran o h1 = grind arith
 
 then_typed : {A B : Type 0} (done : Option (Left A)) (next : CardState → A → Option (Left B)) → GivesTyped done
     → ((d : CardState) (value : A) → IsTypedCard d → GivesTyped (next d value)) → GivesTyped (and_then done next)

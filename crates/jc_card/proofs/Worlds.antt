@@ -1,9 +1,9 @@
 -- What a part of a command leaves as it was: the packages, and how many instance numbers were given out.
-use Rattle.std.proofs.Common.{◌≡◌, List, ◌∷◌, Option, Some, None, arith}
+use Rattle.std.proofs.Common.{◌≡◌, ℕ, List, ◌∷◌, Option, Some, None, arith}
 use Rattle.std.specs.Prelude.{⊤}
 use Rattle.std.specs.Option.{option_and_then, option_map}
 use Rattle.jc_machine.specs.Machine.{Touch}
-use Rattle.jc_machine.specs.Step.{CallEnd}
+use Rattle.jc_machine.specs.Step.{CallEnd, Called}
 use Rattle.jc_names.specs.declared.name.MethodName.{MethodName}
 use Rattle.jc_natives.specs.Counted.{LeavesNumbers}
 use Rattle.jc_natives.specs.Kept.{Kept}
@@ -25,18 +25,18 @@ abbrev pub StaysIn : {A : Type 0} → CardState → Option (Left A) → Type 0
 StaysIn c None = ⊤
 StaysIn c (Some l) = Stays c l.card
 
-stays_behind : {A : Type 0} (c d : CardState) (touches : List Touch) (o : Option (Left A)) → Stays c d → StaysIn d o
-    → StaysIn c (option_map (behind touches) o)
-stays_behind c d touches o h1 h2 = grind arith
+stays_behind : {A : Type 0} (c d : CardState) (touches : List Touch) (ran : List ℕ) (o : Option (Left A))
+    → Stays c d → StaysIn d o → StaysIn c (option_map (behind touches ran) o)
+stays_behind c d touches ran o h1 h2 = grind arith
 
 stays_then : {A B : Type 0} (c : CardState) (o : Option (Left A)) (next : CardState → A → Option (Left B))
     → StaysIn c o → ((d : CardState) (value : A) → StaysIn d (next d value)) → StaysIn c (and_then o next)
 stays_then c o next h1 h2 = grind (arith, stays_behind)
 
 module _ (keep : KeepNumbers) where
-  call_stays : (c : CardState) (touches : List Touch) (e : CallEnd Kept) → LeavesNumbers c.kept.numbers e
-      → StaysIn c (ended_call c touches e)
-  call_stays c touches e h1 = grind arith
+  call_stays : (c : CardState) (called : Called Kept) (e : CallEnd Kept) → LeavesNumbers c.kept.numbers e
+      → StaysIn c (ended_call c called e)
+  call_stays c called e h1 = grind arith
 
   method_stays : (c : CardState) (i : Instance) (call : AppletCall) (o : Option MethodName)
       → StaysIn c (option_and_then (λ method. call_method c i.owner.context i.owner method (Ref i.object

@@ -8,6 +8,8 @@ use Rattle.jc_machine.specs.Apart.{IsSetApart}
 use Rattle.jc_machine.specs.Guarded.{IsGuarded, KeepsPlain, is_allowed, machine_of, may_change}
 use Rattle.jc_machine.specs.Machine.{Machine, Surroundings, Touch}
 use Rattle.jc_machine.specs.Natives.{IsGuardedAnswer, KeepsObjects}
+use Rattle.jc_machine.specs.Accessing.{AccessesAreOwn}
+use Rattle.jc_machine.specs.Owning.{StepsOwned}
 use Rattle.jc_machine.specs.Step.{defensive_step}
 use Rattle.jc_machine.specs.Storable.{FieldsHoldStorable}
 use Rattle.jc_natives.specs.Apart.{names_applets}
@@ -40,9 +42,12 @@ pub record ChangesBy (touches : List Touch) (before after : Heap TaggedValue) : 
   pub components : (number : ℕ) (o p : Object TaggedValue) → object_at before number ≡ Some o
       → object_at after number ≡ Some p → (p.cells ≡ o.cells) ⊎ IsAccessed touches number o
 
--- a step keeps the law of accesses, and the objects that were there
+-- a step keeps the law of accesses, makes those of its instruction, keeps the owners of frames but by calls, returns
+-- and catches, and keeps the objects that were there
 pub record IsLawfulStep (s : Surroundings Kept) (m : Machine Kept) : Type 0 where
   pub guarded : IsGuarded s m
+  pub accesses : AccessesAreOwn s m
+  pub frames : StepsOwned s m
   pub kept : (after : Machine Kept) → machine_of (defensive_step s m).outcome ≡ Some after
       → KeepsObjects m.heap after.heap
 

@@ -6,6 +6,7 @@ pub mod Commands
 pub mod Install
 pub mod Order
 pub mod Accesses
+pub mod Unseen
 pub mod PrivateGuarded
 pub mod PrivateTyped
 pub mod Typed

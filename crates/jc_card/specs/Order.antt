@@ -202,7 +202,7 @@ pub record IsClearing (c : CardState) (event : ClearingEvent) (context : Option 
 -- after the other. Whatever is asked for may call methods (IsCallOf). What may call deselect may leave nobody selected,
 -- once the arrays of that context which are cleared on deselect are. A command writes words into the APDU buffer, it is
 -- kept what it brought and what it was answered, and it selects the instance that it names, where none is selected. An
--- installation begins where none is, with the next number; it writes words into the array of an install; and it
+-- installation begins where none is, in the context of the applet's package and with the next number; it writes words into the array of an install; and it
 -- settles, with the arrays of its own context cleared. Behind a reset all arrays are, and none is selected. What is
 -- refused at once has no part
 pub data Leads (claims : Claims) : Order → CardState → List Touch → CardState → Type 0 where
@@ -228,7 +228,8 @@ pub data Leads (claims : Claims) : Order → CardState → List Touch → CardSt
       → IsClearing c events.Deselect (Some owner.context) touches heap
       → Leads claims order c touches (with_heap (with_selected c None) heap)
   by_beginning : (applet : List ℕ) (place : AppletPlace) (owner : Owner) (c : CardState) → c.selected ≡ None
-      → owner ≡ next_owner c place → Leads claims (Installs applet place owner) c []
+      → owner.context ≡ place.number → owner.instance ≡ suc c.kept.numbers
+      → Leads claims (Installs applet place owner) c []
       (with_kept c (with_install c.kept owner applet))
   by_parameters : (applet : List ℕ) (place : AppletPlace) (owner : Owner) (c : CardState) (heap : Heap TaggedValue)
       → IsOwnWrite claims c install_array heap → Leads claims (Installs applet place owner) c

@@ -2,7 +2,7 @@
 -- (Java Card Runtime Environment Specification, Applet Lifetime, Transient Objects).
 use Rattle.std.specs.Prelude.{ℕ, suc, List, [], ◌∷◌, ◌++◌, Option, Some, None, map, if◌then◌else◌}
 use Rattle.std.specs.Option.{option_and_then, option_map, option_map_or}
-use Rattle.jc_machine.specs.Machine.{Touch}
+use Rattle.jc_machine.specs.Machine.{Machine, Touch}
 use Rattle.jc_machine.specs.Runtime.{apdu_object}
 use Rattle.jc_machine.specs.Step.{Called, CallEnd, Gave, RanOut, Threw, WasStuck, runtime_call}
 use Rattle.jc_machine.specs.declared.stop.Budget.{Budget}
@@ -24,24 +24,27 @@ use Rattle.jc_card.specs.declared.calls.AppletCall.TheVariants.{Select, Deselect
 
 -- ---- one part after the other
 
--- the accesses of a part in their order, the card behind it, and what it gives
+-- the accesses of a part and the contexts in which its steps ran, both in their order; the card behind it; and what it
+-- gives
 pub record Left (A : Type 0) : Type 0 where
   pub touches : List Touch
+  pub ran : List ℕ
   pub card : CardState
   pub value : A
 
 -- a part that makes no access
 abbrev pub gives : {A : Type 0} → CardState → A → Option (Left A)
-gives c value = Some (record { touches = []; card = c; value = value })
+gives c value = Some (record { touches = []; ran = []; card = c; value = value })
 
--- behind accesses
-abbrev pub behind : {A : Type 0} → List Touch → Left A → Left A
-behind touches l = record { touches = touches ++ l.touches; card = l.card; value = l.value }
+-- behind the accesses and the steps of another one
+abbrev pub behind : {A : Type 0} → List Touch → List ℕ → Left A → Left A
+behind touches ran l =
+    record { touches = touches ++ l.touches; ran = ran ++ l.ran; card = l.card; value = l.value }
 
 -- a part, and then the next; where a call is stuck there is nothing
 abbrev pub and_then : {A B : Type 0} → Option (Left A) → (CardState → A → Option (Left B)) → Option (Left B)
 and_then None next = None
-and_then (Some l) next = option_map (behind l.touches) (next l.card l.value)
+and_then (Some l) next = option_map (behind l.touches l.ran) (next l.card l.value)
 
 -- ---- calls
 
@@ -52,16 +55,18 @@ pub data Ended : Type 0 where
   Uncaught : (object : ℕ) (at : Option CodePoint) → Ended
   OutOfBudget : (spent : Budget) (at : Option CodePoint) → Ended
 
-abbrev pub ended_call : CardState → List Touch → CallEnd Kept → Option (Left Ended)
-ended_call c touches (Gave m value) = Some (record { touches = touches; card = left_by c m; value = Normally value })
-ended_call c touches (Threw m object at) =
-    Some (record { touches = touches; card = left_by c m; value = Uncaught object at })
-ended_call c touches (RanOut m spent at) =
-    Some (record { touches = touches; card = left_by c m; value = OutOfBudget spent at })
-ended_call c touches WasStuck = None
+abbrev pub left_so : CardState → Called Kept → Machine Kept → Ended → Option (Left Ended)
+left_so c called m value =
+    Some (record { touches = called.touches; ran = called.ran; card = left_by c m; value = value })
+
+abbrev pub ended_call : CardState → Called Kept → CallEnd Kept → Option (Left Ended)
+ended_call c called (Gave m value) = left_so c called m (Normally value)
+ended_call c called (Threw m object at) = left_so c called m (Uncaught object at)
+ended_call c called (RanOut m spent at) = left_so c called m (OutOfBudget spent at)
+ended_call c called WasStuck = None
 
 abbrev pub ended : CardState → Called Kept → Option (Left Ended)
-ended c called = ended_call c called.touches called.ends
+ended c called = ended_call c called called.ends
 
 -- a method is called as an instance, with no owner before it, while a context counts as the selected one
 abbrev pub call_method : CardState → ℕ → Owner → MethodName → List TaggedValue → Option (Left Ended)
@@ -109,6 +114,7 @@ runtime_touch heap number = option_map_or (λ object. own_touch number object �
 abbrev pub write : ℕ → List ℕ → CardState → Option (Left (Unit {0}))
 write number words c = Some (record {
   touches = runtime_touch c.heap number;
+  ran = [];
   card = with_heap c (put_all c.heap number 0 (map Word words));
   value = tt;
 })
@@ -126,6 +132,7 @@ clearing_touches event context number (object ∷ heap) =
 abbrev pub clear : ClearingEvent → Option ℕ → CardState → Option (Left (Unit {0}))
 clear event context c = Some (record {
   touches = clearing_touches event context 1 c.heap;
+  ran = [];
   card = with_heap c (zeroed_where (is_cleared_by event context) c.heap);
   value = tt;
 })

@@ -6,7 +6,10 @@ use Rattle.jc_machine.specs.Apart.{AreNativesApart, HaveApiMembers, IsApart, IsS
 use Rattle.jc_machine.specs.Guarded.{AddsFor, IsGuarded, machine_of}
 use Rattle.jc_machine.specs.Machine.{Machine, StaticValue, Surroundings}
 use Rattle.jc_machine.specs.Natives.{AreNativesGuarded, KeepsObjects}
-use Rattle.jc_machine.specs.Step.{defensive_step}
+use Rattle.jc_machine.specs.Accessing.{AccessesAreOwn}
+use Rattle.jc_machine.specs.Owning.{StepsOwned}
+use Rattle.jc_machine.specs.Step.{Start, defensive_step, no_frame, runtime_call, standing}
+use Rattle.jc_machine.specs.Unseen.{AreAlike, AreNativesBlind, CallsAlike, from_objects, stays_out}
 use Rattle.jc_machine.specs.Storable.{FieldsHoldStorable, HoldStorable, may_be_held}
 use Rattle.jc_names.specs.declared.owner.Owner.{Owner}
 use Rattle.jc_natives.specs.Apart.{names_applets}
@@ -21,6 +24,15 @@ use Rattle.jc_card.specs.PrivateTyped.{KeepNumbers}
 pub record StepsGuarded : Type 0 where
   pub members : AreNativesGuarded meaning
   pub steps : (s : Surroundings Kept) → AreNativesGuarded s.natives → (m : Machine Kept) → IsGuarded s m
+  pub owned : (s : Surroundings Kept) → AreNativesGuarded s.natives → (m : Machine Kept) → StepsOwned s m
+  pub accesses : (s : Surroundings Kept) → AreNativesGuarded s.natives → (m : Machine Kept) → AccessesAreOwn s m
+  pub blind : AreNativesBlind meaning
+  pub alike : (context : ℕ) (s : Surroundings Kept) → AreNativesGuarded s.natives → AreNativesBlind s.natives
+      → AreNativesApart names_applets s.natives → HaveApiMembers s.world.shapes → (start : Start Kept)
+      → IsApart names_applets (standing start (no_frame start.owner)) → (heap : Heap TaggedValue)
+      → AreAlike context start.heap heap → (steps : ℕ)
+      → stays_out context (runtime_call s steps start).ran ≡ true
+      → CallsAlike context (runtime_call s steps start) (runtime_call s steps (from_objects start heap))
   pub kept : (s : Surroundings Kept) → AreNativesGuarded s.natives → (m after : Machine Kept)
       → machine_of (defensive_step s m).outcome ≡ Some after → KeepsObjects m.heap after.heap
   pub apart_members : AreNativesApart names_applets meaning

@@ -14,17 +14,20 @@ ghost use Rattle.jc_card.specs.Load.{IsLoad};
 ghost use Rattle.jc_card.specs.New.{new_card};
 ghost use Rattle.jc_card.specs.Order.{Resets, apdu_order, install_order};
 ghost use Rattle.jc_card.specs.PrivateGuarded.{StepsGuarded};
+ghost use Rattle.jc_card.specs.Unseen.{IsLoadedAlike, SeesNothing};
 ghost use Rattle.jc_card.specs.declared.limits.Limits.{Limits};
 ghost use Rattle.jc_machine.specs.Machine.{Touch};
+ghost use Rattle.jc_machine.specs.Unseen.{AreAlike};
 ghost use Rattle.jc_store.specs.Heap.{Heap};
 ghost use Rattle.jc_words.specs.Values.{TaggedValue};
 
 use jc_machine::{
-    accesses_are_guarded, held_values_stay, new_machines_are_typed, runtime_objects_stay,
-    steps_stay_apart,
+    accesses_are_guarded, accesses_are_the_instructions, contents_are_unseen, held_values_stay,
+    new_machines_are_typed, owners_go_by_calls, runtime_objects_stay, steps_stay_apart,
 };
 use jc_natives::{
-    Runtime, calls_keep_numbers, members_are_guarded, members_stay_apart, written_words_are_held,
+    Runtime, calls_keep_numbers, members_are_guarded, members_see_no_contents, members_stay_apart,
+    written_words_are_held,
 };
 use jc_safety::api_runs_its_own_code;
 
@@ -34,10 +37,14 @@ fn steps_are_guarded()
 {
     members_are_guarded();
     members_stay_apart();
+    members_see_no_contents();
     held_values_stay();
     written_words_are_held();
     calls_keep_numbers();
     accesses_are_guarded(&Runtime::new());
+    accesses_are_the_instructions(&Runtime::new());
+    owners_go_by_calls(&Runtime::new());
+    contents_are_unseen(&Runtime::new());
     steps_stay_apart(&Runtime::new());
     api_runs_its_own_code();
 }
@@ -46,7 +53,8 @@ fn steps_are_guarded()
 /// the instance that is selected or installed, whose context counts as the selected one; by words that the runtime
 /// writes into the APDU buffer or the array of an install; and by clearing exactly the transient arrays that an event
 /// and a context name. A call is at most so many steps, each from the machine that the one before it left, from the
-/// frame at the start of its method, and each keeps the law of accesses of a step. The packages and the objects stay.
+/// frame at the start of its method. Each keeps the law of accesses of a step, and the owners of frames but by calls,
+/// returns and catches. The packages and the objects stay.
 /// Components change only of objects of which an allowed access is listed. Behind a reset each transient array is zero
 /// or null. A load makes no access, and leaves each object as it was. It does nothing.
 pub fn commands_are_guarded()
@@ -82,6 +90,21 @@ pub fn commands_stay_apart()
     held_values_stay();
     runtime_objects_stay();
     new_machines_are_typed();
+}
+
+/// A command sees nothing of what the plain objects of a context hold, as long as none of its steps runs in that
+/// context. On a card that differs in their components alone it makes the same accesses, runs in the same contexts and is
+/// answered the same, and the card behind it differs there alone. So does a load, which runs nothing. It does nothing.
+pub fn commands_see_no_contents()
+    ensures apdu { (c : CardState) → IsApartCard c → (bytes : List ℕ) → SeesNothing c (λ c. apdu_command c bytes) }
+    ensures install { (c : CardState) → IsApartCard c → (applet instance incoming : List ℕ)
+        → SeesNothing c (λ c. install_command c applet instance incoming) }
+    ensures reset { (c : CardState) → SeesNothing c reset_command }
+    ensures load { (c after : CardState) (image certificate : List ℕ) (result : Result ℕ LoadFault)
+        → IsLoad c image certificate result after → (context : ℕ) (heap : Heap TaggedValue)
+        → AreAlike context c.heap heap → IsLoadedAlike context c image certificate result after heap }
+{
+    steps_are_guarded();
 }
 
 /// What accesses change, and others behind them; and that nothing changes where each object is left as it was. It does

@@ -33,3 +33,4 @@ mod UnseeingRules
 mod UnseeingCalls
 mod UnseeingSteps
 mod OwningSteps
+mod AccessingSteps

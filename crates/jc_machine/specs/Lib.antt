@@ -27,3 +27,4 @@ pub mod Examples
 pub mod TypedExamples
 pub mod Unseen
 pub mod Owning
+pub mod Accessing

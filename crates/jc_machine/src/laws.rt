@@ -11,6 +11,7 @@ ghost use Rattle.jc_code.specs.Listing.{IsListing, PlacedInstr, placed_at};
 ghost use Rattle.jc_code.specs.declared.instr.Instr.{Instr};
 ghost use Rattle.jc_link.specs.Built.{IsBuilt};
 ghost use Rattle.jc_machine.specs.Accepted.{HaveByteTokens, HaveCode, IsAccepted, api_alone, linked_as};
+ghost use Rattle.jc_machine.specs.Accessing.{AccessesAreOwn};
 ghost use Rattle.jc_machine.specs.Apart.{AreNativesApart, HaveApiMembers, IsApart, IsSetApart, StaysApart};
 ghost use Rattle.jc_machine.specs.Apart.{is_applets};
 ghost use Rattle.jc_machine.specs.Guarded.{AddsFor, IsGuarded, IsRefused, are_allowed, machine_of};
@@ -101,11 +102,21 @@ pub fn steps_stay_apart<N: Natives>(_natives: &N)
         → is_applets owner ≡ true → AddsFor owner before after → HoldStorable after → IsSetApart after }
 {}
 
-/// As whom frames run: behind each step their owners are as they were; or there is a frame more, with its caller's
-/// owners, or with the owner active to which the verdict on the call's access switches, or with that of an object of
-/// which a native member has a member called; or the innermost are gone. It does nothing.
+/// As whom frames run: behind each step the frame that runs goes on with its owners, and those that wait are what they
+/// were; or it waits, and one more is called, with its owners, with the owner active to which the verdict on the call's
+/// access switches, or with that of an object that is asked for a shareable object; or those within one that waited are
+/// gone. It does nothing.
 pub fn owners_go_by_calls<N: Natives>(_natives: &N)
     ensures { (s : Surroundings N.Kept) → AreNativesGuarded s.natives → (m : Machine N.Kept) → StepsOwned s m }
+{}
+
+/// The accesses of each step are its instruction's. A table gives an instruction an access, and the place of the
+/// reference to the object that it accesses: the step's first access is this one, to that object, and stores and names
+/// what the table says. It is missing where the instruction has no row, where the reference is null, and where the
+/// machine gets stuck. Further ones are those of a native member that a call has called, and of the one that this
+/// calls back, or the runtime's own where an object can't be made. It does nothing.
+pub fn accesses_are_the_instructions<N: Natives>(_natives: &N)
+    ensures { (s : Surroundings N.Kept) → AreNativesGuarded s.natives → (m : Machine N.Kept) → AccessesAreOwn s m }
 {}
 
 /// No step of a frame in another context, and no call of the runtime's of whose steps none runs in that context, sees

@@ -15,9 +15,9 @@ pub use examples::{
 pub use idle::IdleNatives;
 pub use laws::{
     accepted_methods_are_typed, accepted_worlds_grow, accesses_are_guarded,
-    calls_keep_what_members_keep, cells_follow_superclasses, contents_are_unseen, held_values_stay,
-    instructions_begin_in_turn, methods_have_code, operations_on_words_keep_types,
-    owners_go_by_calls, runtime_objects_stay, steps_stay_apart,
+    accesses_are_the_instructions, calls_keep_what_members_keep, cells_follow_superclasses,
+    contents_are_unseen, held_values_stay, instructions_begin_in_turn, methods_have_code,
+    operations_on_words_keep_types, owners_go_by_calls, runtime_objects_stay, steps_stay_apart,
 };
 pub use natives::{AtOnce, MOST_ARGUMENTS, Natives, WordCall, WordCallback, WordOutcome};
 pub use stop::{Budget, CodePoint};

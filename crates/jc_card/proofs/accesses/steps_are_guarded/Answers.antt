@@ -5,6 +5,10 @@ pub returns : goal.returns
 returns c = record {
   members = c.members_are_guarded.ensures;
   steps = c.accesses_are_guarded.ensures.guarded;
+  owned = c.owners_go_by_calls.ensures;
+  accesses = c.accesses_are_the_instructions.ensures;
+  blind = c.members_see_no_contents.ensures;
+  alike = λ context s guarded blind. c.contents_are_unseen.ensures.calls context s guarded blind names_applets;
   kept = c.accesses_are_guarded.ensures.kept;
   apart_members = c.members_stay_apart.ensures.members;
   apart_steps = c.steps_stay_apart.ensures.steps names_applets;

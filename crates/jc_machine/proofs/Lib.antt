@@ -34,3 +34,4 @@ mod UnseeingCalls
 mod UnseeingSteps
 mod OwningSteps
 mod AccessingSteps
+mod CatchingThrows

@@ -478,12 +478,12 @@ module _ {C : Type 0} (h : Here C) (before : List Touch) (heap : Heap TaggedValu
       by_room (has_room h.around (h.machine.top ∷ h.machine.waiting) (length f.locals + max_stack))
     where
       by_room : (b : Bool) → Owned h before (cond b (plain (Next (record {
-            heap = heap;
-            statics = h.machine.statics;
-            runtime = runtime;
-            top = f;
-            waiting = moved h.machine.top h.machine.top.pc h.machine.top.locals vs ∷ h.machine.waiting;
-          }))) (plain (UsedUp (beside h heap runtime).machine)))
+        heap = heap;
+        statics = h.machine.statics;
+        runtime = runtime;
+        top = f;
+        waiting = moved h.machine.top h.machine.top.pc h.machine.top.locals vs ∷ h.machine.waiting;
+      }))) (plain (UsedUp (beside h heap runtime).machine)))
       by_room true = record {
         owned = subst (λ (xs : List Touch). FramesGo h.around h.machine xs
             (f ∷ moved h.machine.top h.machine.top.pc h.machine.top.locals vs ∷ h.machine.waiting))

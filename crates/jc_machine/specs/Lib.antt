@@ -28,3 +28,4 @@ pub mod TypedExamples
 pub mod Unseen
 pub mod Owning
 pub mod Accessing
+pub mod Catching

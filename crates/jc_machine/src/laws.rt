@@ -14,13 +14,14 @@ ghost use Rattle.jc_machine.specs.Accepted.{HaveByteTokens, HaveCode, IsAccepted
 ghost use Rattle.jc_machine.specs.Accessing.{AccessesAreOwn};
 ghost use Rattle.jc_machine.specs.Apart.{AreNativesApart, HaveApiMembers, IsApart, IsSetApart, StaysApart};
 ghost use Rattle.jc_machine.specs.Apart.{is_applets};
+ghost use Rattle.jc_machine.specs.Catching.{UnwindsTo};
 ghost use Rattle.jc_machine.specs.Guarded.{AddsFor, IsGuarded, IsRefused, are_allowed, machine_of};
 ghost use Rattle.jc_machine.specs.Keeping.{LeavesKept, MembersKeep};
-ghost use Rattle.jc_machine.specs.Lookup.{body_at, code_at, instruction_at};
-ghost use Rattle.jc_machine.specs.Machine.{Machine, MethodPlace, StaticValue, Surroundings};
+ghost use Rattle.jc_machine.specs.Lookup.{body_at, class_of, code_at, instruction_at};
+ghost use Rattle.jc_machine.specs.Machine.{Machine, MethodPlace, StaticValue, Surroundings, Throws};
 ghost use Rattle.jc_machine.specs.Natives.{AreNativesGuarded, KeepsObjects};
 ghost use Rattle.jc_machine.specs.Runtime.{HasRuntimeObjects};
-ghost use Rattle.jc_machine.specs.Step.{Start, defensive_step, no_frame, runtime_call, standing};
+ghost use Rattle.jc_machine.specs.Step.{Start, defensive_step, no_frame, runtime_call, settled, standing};
 ghost use Rattle.jc_machine.specs.Going.{with_heap};
 ghost use Rattle.jc_machine.specs.Owning.{StepsOwned};
 ghost use Rattle.jc_machine.specs.Unseen.{AreAlike, AreNativesBlind, CallsAlike, StepsAlike, from_objects, stays_out};
@@ -29,7 +30,7 @@ ghost use Rattle.jc_machine.specs.TypedWords.{KeepWordsTyped};
 ghost use Rattle.jc_machine.specs.Uncounted.{HaveCells, IsInstructionAt};
 ghost use Rattle.jc_link.specs.Linked.{IsBoundTo, IsLast, IsWorld, Linked, LinkedBody, World, with_linked};
 ghost use Rattle.jc_names.specs.declared.owner.Owner.{Owner};
-ghost use Rattle.jc_store.specs.Heap.{Heap};
+ghost use Rattle.jc_store.specs.Heap.{Heap, Object, object_at};
 ghost use Rattle.jc_words.specs.Values.{TaggedValue};
 
 use crate::natives::Natives;
@@ -117,6 +118,16 @@ pub fn owners_go_by_calls<N: Natives>(_natives: &N)
 /// calls back, or the runtime's own where an object can't be made. It does nothing.
 pub fn accesses_are_the_instructions<N: Natives>(_natives: &N)
     ensures { (s : Surroundings N.Kept) → AreNativesGuarded s.natives → (m : Machine N.Kept) → AccessesAreOwn s m }
+{}
+
+/// An object that is thrown is caught in the innermost frame with a handler that covers where the frame stands and
+/// catches objects of its class, by the first such handler: there the frame goes on, with the object as its one
+/// operand. The frames within it are dropped, and nothing else changes. Where no frame has one the object is thrown out
+/// of the call. A machine that isn't well typed may be stuck instead. It does nothing.
+pub fn throws_are_caught<N: Natives>(_natives: &N)
+    ensures { (s : Surroundings N.Kept) → (m : Machine N.Kept) → (object : ℕ) → (o : Object TaggedValue)
+        → object_at m.heap object ≡ Some o
+        → UnwindsTo s m object (class_of o.kind.object) (settled s (Throws m object)) }
 {}
 
 /// No step of a frame in another context, and no call of the runtime's of whose steps none runs in that context, sees

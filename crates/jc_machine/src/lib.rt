@@ -18,6 +18,7 @@ pub use laws::{
     accesses_are_the_instructions, calls_keep_what_members_keep, cells_follow_superclasses,
     contents_are_unseen, held_values_stay, instructions_begin_in_turn, methods_have_code,
     operations_on_words_keep_types, owners_go_by_calls, runtime_objects_stay, steps_stay_apart,
+    throws_are_caught,
 };
 pub use natives::{AtOnce, MOST_ARGUMENTS, Natives, WordCall, WordCallback, WordOutcome};
 pub use stop::{Budget, CodePoint};

@@ -157,13 +157,6 @@ module _ (context : ℕ) where
       by_objects None (Some o) a = absurd a
 
   module _ (event : ClearingEvent) (who : Option ℕ) where
-    abbrev behind_event : Object TaggedValue → Object TaggedValue
-    behind_event o = if_cleared (is_cleared_by event who o) o
-      where
-        if_cleared : Bool → Object TaggedValue → Object TaggedValue
-        if_cleared true o = zeroed o
-        if_cleared false o = o
-
     one_alike : (o p : Object TaggedValue) → IsAlike context o p
         → IsAlike context (cond (is_cleared_by event who o) (zeroed o) o) (cond (is_cleared_by event who p) (zeroed p) p)
     one_alike o p a =
@@ -176,7 +169,7 @@ module _ (context : ℕ) where
         by_test true = record {
           kind = refl;
           owner = refl;
-          size = length-map zero_or_null o.cells ∙ a.size ∙ sym (length-map zero_or_null p.cells);
+          size = length-map o.cells zero_or_null ∙ a.size ∙ sym (length-map p.cells zero_or_null);
           seen = λ e. ap (map zero_or_null) (a.seen e);
         }
         by_test false = record { kind = refl; owner = refl; size = a.size; seen = a.seen }
@@ -217,6 +210,16 @@ module _ (context : ℕ) where
     abbrev d : CardState
     d = with_heap c heap
 
+    abbrev left_of : List Touch → List ℕ → CardState → Ended → Left Ended
+    left_of touches ran card value = record { touches = touches; ran = ran; card = card; value = value }
+
+    left_both : (called other : Called Kept) → called.touches ≡ other.touches → called.ran ≡ other.ran
+        → (card : CardState) (value : Ended)
+        → Some (left_of other.touches other.ran card value) ≡ Some (left_of called.touches called.ran card value)
+    left_both called other same ran card value =
+        ap (λ (ts : List Touch). Some (left_of ts other.ran card value)) (sym same)
+        ∙ ap (λ (ns : List ℕ). Some (left_of called.touches ns card value)) (sym ran)
+
     ends_unseen : (called other : Called Kept) (e f : CallEnd Kept) → EndsAlike context e f
         → called.touches ≡ other.touches → called.ran ≡ other.ran
         → Unseen Thrown (ended_call c called e) (ended_call d other f)
@@ -230,14 +233,6 @@ module _ (context : ℕ) where
         known_unseen Thrown _ _ heap2 a
         (left_both called other same ran (with_heap (left_by c m) heap2) (OutOfBudget spent at)) tt
     ends_unseen called other e f unseen.were_stuck same ran = stuck_unseen Thrown None
-
-    left_both : (called other : Called Kept) → called.touches ≡ other.touches → called.ran ≡ other.ran
-        → (card : CardState) (value : Ended)
-        → Some (record { touches = other.touches; ran = other.ran; card = card; value = value })
-        ≡ Some (record { touches = called.touches; ran = called.ran; card = card; value = value })
-    left_both called other same ran card value =
-        ap (λ (ts : List Touch). Some (record { touches = ts; ran = other.ran; card = card; value = value })) (sym same)
-        ∙ ap (λ (ns : List ℕ). Some (record { touches = called.touches; ran = ns; card = card; value = value })) (sym ran)
 
     ran_of : (called : Called Kept) (ends : CallEnd Kept) (l : Left Ended) → ended_call c called ends ≡ Some l
         → called.ran ≡ l.ran

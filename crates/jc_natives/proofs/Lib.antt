@@ -42,3 +42,4 @@ mod UnseenTests
 mod UnseenMembers
 mod UnseenThrown
 mod UnseenAnswers
+mod RememberingMembers

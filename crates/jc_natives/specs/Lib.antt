@@ -22,3 +22,4 @@ pub mod PrivateUtilities
 pub mod PrivateMeaning
 pub mod PrivateWords
 pub mod PrivateAtOnce
+pub mod Remembered

@@ -18,6 +18,7 @@ ghost use Rattle.jc_natives.specs.MemberTypes.{declared_signature};
 ghost use Rattle.jc_natives.specs.Kept.{Kept, after_install, are_bytes, is_aid, is_instance_number, nothing_kept};
 ghost use Rattle.jc_natives.specs.Kept.{with_command, with_install, without_command};
 ghost use Rattle.jc_natives.specs.Meaning.{meaning};
+ghost use Rattle.jc_natives.specs.Remembered.{IsRemembered};
 ghost use Rattle.jc_store.specs.Heap.{Heap};
 ghost use Rattle.jc_machine.specs.Storable.{HoldStorable};
 ghost use Rattle.jc_natives.specs.Cells.{put_all};
@@ -112,6 +113,18 @@ pub fn loads_keep_fitting()
 pub fn members_are_declared()
     ensures { (world : List Shape) → IsBuilt world → (number : ℕ) (member : ApiMember)
         → member_of number ≡ Some member → type_of_member world number ≡ Some (declared_signature member) }
+{
+    built_worlds_stand_on_the_api();
+}
+
+/// What a native member may change of what the runtime keeps, and whose AIDs it tells. Register alone registers an
+/// instance, of the applet that it is called on, in the name of the instance that is being installed. Members of APDU
+/// alone change where the exchange of a command and its answer stands. getAID and a request for a shareable object tell
+/// the AID of the active owner, and getPreviousContextAID that of the owner before it. And a call by an applet leaves
+/// the AID objects as they are, but where register is called for that of the instance that is being installed and
+/// hasn't registered. It does nothing.
+pub fn members_keep_what_is_kept()
+    ensures { (w : World) (call : NativeCall Kept) → IsRemembered w call (meaning.answer w call) }
 {
     built_worlds_stand_on_the_api();
 }

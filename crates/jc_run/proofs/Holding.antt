@@ -15,7 +15,7 @@ use Rattle.jc_run.specs.Play.{BadLimits, IsAnswered, NoMemory, ScriptEnd, answer
 use Rattle.jc_run.specs.PrivatePlay.{IsLinePlayed}
 use Rattle.jc_run.specs.PrivateSession.{Converses, ConversesFrom}
 use Rattle.jc_run.specs.PrivateSession.Converses.{line as line_held, over, refused as line_refused, unread, unwritten}
-use Rattle.jc_run.specs.Runs.{accesses_of, answer_lines}
+use Rattle.jc_run.specs.Runs.{accesses_of, answer_lines, contexts_of}
 use Rattle.jc_run.specs.Runs.IsCardRun.{command, nothing}
 use Rattle.jc_run.specs.Session.{ConversesOn, HasHeld, IsHeld, IsSessionSimulated, MayRefuse, SessionEndsWith}
 use Rattle.jc_run.specs.Session.{SessionRunsTo}
@@ -38,6 +38,7 @@ module _ (images certificates : List ℕ → List ℕ → Type 0) where
     in_order = none_answered lines;
     answers = [];
     touches = [];
+    ran = [];
     card = c;
     run = nothing c;
     part = part;
@@ -55,8 +56,9 @@ module _ (images certificates : List ℕ → List ℕ → Type 0) where
     in_order = one_answered first lines d.left asked d.done is d.in_order;
     answers = answer ∷ d.answers;
     touches = accesses_of c asked ++ d.touches;
+    ran = contexts_of c asked ++ d.ran;
     card = d.card;
-    run = command asked d.done c between d.card answer d.answers d.touches answered d.run;
+    run = command asked d.done c between d.card answer d.answers d.touches d.ran answered d.run;
     part = d.part;
     written_is =
         ap (λ (bytes : List ℕ). answer_line answer ++ bytes) d.written_is
@@ -72,6 +74,7 @@ module _ (images certificates : List ℕ → List ℕ → Type 0) where
     in_order = one_passed first lines d.left d.done is d.in_order;
     answers = d.answers;
     touches = d.touches;
+    ran = d.ran;
     card = d.card;
     run = d.run;
     part = d.part;
@@ -87,6 +90,7 @@ module _ (images certificates : List ℕ → List ℕ → Type 0) where
     in_order = one_left_out first lines d.left d.done may d.in_order;
     answers = d.answers;
     touches = d.touches;
+    ran = d.ran;
     card = d.card;
     run = d.run;
     part = d.part;

@@ -20,7 +20,7 @@ use Rattle.jc_run.specs.PrivatePlay.{EndsAt, IsLinePlayed, Plays, PlaysFrom}
 use Rattle.jc_run.specs.PrivatePlay.EndsAt.{bad, memory, source, unwritten}
 use Rattle.jc_run.specs.PrivatePlay.Plays.{ended, line, over, unread}
 use Rattle.jc_run.specs.Runs.{AreGuarded, EndsWith, IsCardRun, IsGuarded, IsKeptApart, IsPlayed, accesses_in}
-use Rattle.jc_run.specs.Runs.{accesses_of, answer_lines, commands_of}
+use Rattle.jc_run.specs.Runs.{accesses_of, answer_lines, commands_of, contexts_of}
 use Rattle.jc_run.specs.Runs.EndsWith.{bad_line, memory as memory_left, over as over_left, source as source_left}
 use Rattle.jc_run.specs.Runs.EndsWith.{unread as unread_left, unwritten as unwritten_left}
 use Rattle.jc_run.specs.Runs.IsCardRun.{command, nothing}
@@ -41,6 +41,7 @@ module _ (images certificates : List ℕ → List ℕ → Type 0) (failed_at : A
     in_order = refl;
     answers = [];
     touches = [];
+    ran = [];
     card = c;
     run = nothing c;
     part = part;
@@ -61,8 +62,9 @@ module _ (images certificates : List ℕ → List ℕ → Type 0) (failed_at : A
         in_order = ap (λ (more : List Numbered). asked ∷ more) d.in_order;
         answers = answer ∷ d.answers;
         touches = accesses_of c first ++ d.touches;
+        ran = contexts_of c first ++ d.ran;
         card = d.card;
-        run = command first (commands_of d.done) c between d.card answer d.answers d.touches answered d.run;
+        run = command first (commands_of d.done) c between d.card answer d.answers d.touches d.ran answered d.run;
         part = d.part;
         lines =
             ap (λ (bytes : List ℕ). answer_line answer ++ bytes) d.lines
@@ -167,10 +169,10 @@ module _ (laws : Laws) (images certificates : List ℕ → List ℕ → Type 0) 
   changes c (Steps steps) answer after h = rw h.1 (laws.none c.heap c.heap (λ number o e. e))
 
   run_changes : {commands : List ScriptCommand} {c : CardState} {answers : List Answered} {touches : List Touch}
-      {after : CardState} → IsCardRun images certificates commands c answers touches after
+      {ran : List ℕ} {after : CardState} → IsCardRun images certificates commands c answers touches ran after
       → ChangesBy touches c.heap after.heap
   run_changes (nothing c) = laws.none c.heap c.heap (λ number o e. e)
-  run_changes (command first more c between after answer answers touches answered rest) =
+  run_changes (command first more c between after answer answers touches ran answered rest) =
       laws.more c.heap between.heap after.heap (accesses_of c first) touches
       (changes c first answer between answered) (run_changes rest)
 
@@ -192,7 +194,7 @@ module _ (laws : Laws) (images certificates : List ℕ → List ℕ → Type 0) 
   kept_apart c Objects answer after p h = h.1
   kept_apart c (Steps steps) answer after p h = h.1
 
-  stays_apart : (c : CardState) (command : ScriptCommand) (answer : Answered) (after : CardState) → IsApartCard c
+  pub stays_apart : (c : CardState) (command : ScriptCommand) (answer : Answered) (after : CardState) → IsApartCard c
       → IsAnswered images certificates c command answer after → IsApartCard after
   stays_apart c (Load folder certificate) answer after p h = laws.apart_load c after h.image h.bytes h.result p h.load
   stays_apart c (Install applet instance incoming) answer after p h = search (arith, given_apart)
@@ -208,10 +210,11 @@ module _ (laws : Laws) (images certificates : List ℕ → List ℕ → Type 0) 
   })
 
   run_apart : {commands : List ScriptCommand} {c : CardState} {answers : List Answered} {touches : List Touch}
-      {after : CardState} → IsApartCard c → IsCardRun images certificates commands c answers touches after
+      {ran : List ℕ} {after : CardState} → IsApartCard c
+      → IsCardRun images certificates commands c answers touches ran after
       → IsApartCard after
   run_apart p (nothing c) = p
-  run_apart p (command first more c between after answer answers touches answered rest) =
+  run_apart p (command first more c between after answer answers touches ran answered rest) =
       run_apart (stays_apart c first answer between p answered) rest
 
   pub all_guarded : AreGuarded images certificates

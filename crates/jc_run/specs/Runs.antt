@@ -36,15 +36,31 @@ accesses_of c Cells = []
 accesses_of c Objects = []
 accesses_of c (Steps steps) = []
 
+-- the contexts in which its steps run, in their order
+abbrev pub contexts_in : {A : Type 0} → Option (Left A) → List ℕ
+contexts_in done = option_map_or (λ l. l.ran) done []
+
+abbrev pub contexts_of : CardState → ScriptCommand → List ℕ
+contexts_of c (Load folder certificate) = []
+contexts_of c (Install applet instance incoming) = contexts_in (install_command c applet instance incoming)
+contexts_of c (Apdu bytes) = contexts_in (apdu_command c bytes)
+contexts_of c Reset = contexts_in (reset_command c)
+contexts_of c Cells = []
+contexts_of c Objects = []
+contexts_of c (Steps steps) = []
+
 -- commands one behind the other, each on the card that the one before it left: what they are answered, their accesses
--- in their order, and the card behind them. No call of a command that is answered is stuck
+-- and the contexts in which their steps run, in their order, and the card behind them. No call of a command that is
+-- answered is stuck
 pub data IsCardRun (images certificates : List ℕ → List ℕ → Type 0)
-    : List ScriptCommand → CardState → List Answered → List Touch → CardState → Type 0 where
-  nothing : (c : CardState) → IsCardRun images certificates [] c [] [] c
+    : List ScriptCommand → CardState → List Answered → List Touch → List ℕ → CardState → Type 0 where
+  nothing : (c : CardState) → IsCardRun images certificates [] c [] [] [] c
   command : (first : ScriptCommand) (commands : List ScriptCommand) (c between after : CardState) (answer : Answered)
-      (answers : List Answered) (touches : List Touch) → IsAnswered images certificates c first answer between
-      → IsCardRun images certificates commands between answers touches after
-      → IsCardRun images certificates (first ∷ commands) c (answer ∷ answers) (accesses_of c first ++ touches) after
+      (answers : List Answered) (touches : List Touch) (ran : List ℕ)
+      → IsAnswered images certificates c first answer between
+      → IsCardRun images certificates commands between answers touches ran after
+      → IsCardRun images certificates (first ∷ commands) c (answer ∷ answers) (accesses_of c first ++ touches)
+      (contexts_of c first ++ ran) after
 
 -- ---- the law of its accesses
 
@@ -78,12 +94,13 @@ pub record AreGuarded (images certificates : List ℕ → List ℕ → Type 0) :
   pub commands : (c : CardState) (command : ScriptCommand) (answer : Answered) (after : CardState)
       → IsAnswered images certificates c command answer after → IsGuarded c command after
   pub runs : (commands : List ScriptCommand) (c : CardState) (answers : List Answered) (touches : List Touch)
-      (after : CardState) → IsCardRun images certificates commands c answers touches after
+      (ran : List ℕ) (after : CardState) → IsCardRun images certificates commands c answers touches ran after
       → ChangesBy touches c.heap after.heap
   pub apart : (c : CardState) (command : ScriptCommand) (answer : Answered) (after : CardState) → IsApartCard c
       → IsAnswered images certificates c command answer after → IsKeptApart c command after
   pub stays : (commands : List ScriptCommand) (c : CardState) (answers : List Answered) (touches : List Touch)
-      (after : CardState) → IsApartCard c → IsCardRun images certificates commands c answers touches after
+      (ran : List ℕ) (after : CardState) → IsApartCard c
+      → IsCardRun images certificates commands c answers touches ran after
       → IsApartCard after
 
 -- ---- a script
@@ -125,8 +142,9 @@ pub record IsPlayed (images certificates : List ℕ → List ℕ → Type 0) (fa
   pub in_order : script.commands ≡ done ++ left
   pub answers : List Answered
   pub touches : List Touch
+  pub ran : List ℕ
   pub card : CardState
-  pub run : IsCardRun images certificates (commands_of done) c answers touches card
+  pub run : IsCardRun images certificates (commands_of done) c answers touches ran card
   pub part : List ℕ
   pub lines : written ≡ answer_lines answers ++ part
   pub ends : EndsWith images certificates failed_at card script.bad left part end
@@ -141,11 +159,12 @@ pub data RunsTo (images certificates : List ℕ → List ℕ → Type 0) (failed
       → RunsTo images certificates failed_at limits binding script written end
 
 -- the theorem: the responses are those of the defensive machine on a new card; each access is one that the firewall
--- allows, or is denied, throws and changes nothing; on that card the runtime's name is its own; and no list of commands
--- is stuck there
+-- allows, or is denied, throws and changes nothing; what a context keeps is isolated, on each card on which the
+-- runtime's name is its own; the new card is one; and no list of commands is stuck there
 pub record IsSimulated (images certificates : List ℕ → List ℕ → Type 0) (failed_at : Asked → Type 0) (limits : Limits)
     (binding : Bound) (script written : List ℕ) (end : ScriptEnd) : Type 0 where
   pub responses : RunsTo images certificates failed_at limits binding script written end
   pub accesses : AreGuarded images certificates
+  pub isolated : AreIsolated images certificates
   pub apart : IsApartCard (new_card limits binding)
   pub never_stuck : IsNeverStuck images certificates (new_card limits binding)

@@ -59,8 +59,9 @@ pub record IsHeld (images certificates : List ℕ → List ℕ → Type 0) (line
   pub in_order : AreAnswered lines done left
   pub answers : List Answered
   pub touches : List Touch
+  pub ran : List ℕ
   pub card : CardState
-  pub run : IsCardRun images certificates done c answers touches card
+  pub run : IsCardRun images certificates done c answers touches ran card
   pub part : List ℕ
   pub written_is : written ≡ answer_lines answers ++ part
   pub ends : SessionEndsWith images certificates card left part end
@@ -75,12 +76,13 @@ pub data SessionRunsTo (images certificates : List ℕ → List ℕ → Type 0) 
       → SessionRunsTo images certificates limits binding input written end
 
 -- the theorem: the responses are those of the defensive machine on a new card, with the lines left out that were
--- refused; each access is one that the firewall allows, or is denied, throws and changes nothing; on that card the
--- runtime's name is its own; and no list of commands is stuck there
+-- refused; each access is one that the firewall allows, or is denied, throws and changes nothing; what a context keeps is
+-- isolated; on that card the runtime's name is its own; and no list of commands is stuck there
 pub record IsSessionSimulated (images certificates : List ℕ → List ℕ → Type 0) (limits : Limits) (binding : Bound)
     (input written : List ℕ) (end : ScriptEnd) : Type 0 where
   pub responses : SessionRunsTo images certificates limits binding input written end
   pub accesses : AreGuarded images certificates
+  pub isolated : AreIsolated images certificates
   pub apart : IsApartCard (new_card limits binding)
   pub never_stuck : IsNeverStuck images certificates (new_card limits binding)
 

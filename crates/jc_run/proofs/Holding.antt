@@ -15,8 +15,9 @@ use Rattle.jc_run.specs.Play.{BadLimits, IsAnswered, NoMemory, ScriptEnd, answer
 use Rattle.jc_run.specs.PrivatePlay.{IsLinePlayed}
 use Rattle.jc_run.specs.PrivateSession.{Converses, ConversesFrom}
 use Rattle.jc_run.specs.PrivateSession.Converses.{line as line_held, over, refused as line_refused, unread, unwritten}
-use Rattle.jc_run.specs.Runs.{accesses_of, answer_lines, contexts_of}
-use Rattle.jc_run.specs.Runs.IsCardRun.{command, nothing}
+use Rattle.jc_run.specs.CardRun.{accesses_of, contexts_of}
+use Rattle.jc_run.specs.CardRun.IsCardRun.{command, nothing}
+use Rattle.jc_run.specs.Runs.{answer_lines}
 use Rattle.jc_run.specs.Session.{ConversesOn, HasHeld, IsHeld, IsSessionSimulated, MayRefuse, SessionEndsWith}
 use Rattle.jc_run.specs.Session.{SessionRunsTo}
 use Rattle.jc_run.specs.Session.AreAnswered.{answered as one_answered, none as none_answered}

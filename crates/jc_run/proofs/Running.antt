@@ -19,11 +19,11 @@ use Rattle.jc_run.specs.Play.{IsAnswered, IsGiven, ScriptEnd, answer_line}
 use Rattle.jc_run.specs.PrivatePlay.{EndsAt, IsLinePlayed, Plays, PlaysFrom}
 use Rattle.jc_run.specs.PrivatePlay.EndsAt.{bad, memory, source, unwritten}
 use Rattle.jc_run.specs.PrivatePlay.Plays.{ended, line, over, unread}
-use Rattle.jc_run.specs.Runs.{AreGuarded, EndsWith, IsCardRun, IsGuarded, IsKeptApart, IsPlayed, accesses_in}
-use Rattle.jc_run.specs.Runs.{accesses_of, answer_lines, commands_of, contexts_of}
+use Rattle.jc_run.specs.CardRun.{IsCardRun, accesses_in, accesses_of, contexts_of}
+use Rattle.jc_run.specs.Runs.{AreGuarded, EndsWith, IsGuarded, IsKeptApart, IsPlayed, answer_lines, commands_of}
 use Rattle.jc_run.specs.Runs.EndsWith.{bad_line, memory as memory_left, over as over_left, source as source_left}
 use Rattle.jc_run.specs.Runs.EndsWith.{unread as unread_left, unwritten as unwritten_left}
-use Rattle.jc_run.specs.Runs.IsCardRun.{command, nothing}
+use Rattle.jc_run.specs.CardRun.IsCardRun.{command, nothing}
 use Rattle.jc_script.specs.Script.{Apdu, Asks, Bad, Cells, Install, Load, Numbered, Objects, Reset, Script, Steps}
 use Rattle.jc_script.specs.Script.{ScriptCommand, ScriptLine, Skipped, line_at, script_from, with_line}
 

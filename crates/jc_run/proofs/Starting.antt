@@ -8,6 +8,7 @@ use Rattle.jc_card.specs.declared.fault.CardFault.TheVariants as cards
 use Rattle.jc_card.specs.declared.limits.Limits.{Limits}
 use Rattle.jc_source.specs.Source.{Asked}
 use Rattle.jc_run.proofs.Ending.{none_more}
+use Rattle.jc_run.specs.Isolation.{AreIsolated}
 use Rattle.jc_run.specs.NeverStuck.{IsNeverStuck}
 use Rattle.jc_run.specs.End.{card_fault, end_of_fault}
 use Rattle.jc_run.specs.Performs.{HasRun, PlaysOn}
@@ -18,6 +19,7 @@ use Rattle.jc_run.specs.Runs.RunsTo.{no_card, played, unfit}
 -- what is known of all commands, and of a new card
 pub record AreLawful (images certificates : List ℕ → List ℕ → Type 0) (limits : Limits) (binding : Bound) : Type 0 where
   pub accesses : AreGuarded images certificates
+  pub isolated : AreIsolated images certificates
   pub apart : IsApartCard (new_card limits binding)
   pub never_stuck : IsNeverStuck images certificates (new_card limits binding)
 

@@ -1,6 +1,8 @@
 pub mod Answer
 pub mod Play
 pub mod NeverStuck
+pub mod CardRun
+pub mod Isolation
 pub mod Runs
 pub mod End
 pub mod Performs

@@ -11,7 +11,9 @@ use Rattle.jc_run.specs.Answer.{Answered}
 use Rattle.jc_run.specs.NeverStuck.{IsNeverStuck}
 use Rattle.jc_run.specs.Play.{BadLimits, IsAnswered, IsPart, NoMemory, NotRead, NotWritten, Over, ScriptEnd}
 use Rattle.jc_run.specs.Play.{answer_line}
-use Rattle.jc_run.specs.Runs.{AreGuarded, IsCardRun, answer_lines}
+use Rattle.jc_run.specs.CardRun.{IsCardRun}
+use Rattle.jc_run.specs.Isolation.{AreIsolated}
+use Rattle.jc_run.specs.Runs.{AreGuarded, answer_lines}
 use Rattle.jc_script.specs.Script.{Apdu, Asks, Bad, Cells, Install, Load, Objects, Reset, ScriptCommand, ScriptLine}
 use Rattle.jc_script.specs.Script.{Skipped, Steps, lines_of, session_line}
 

@@ -1,4 +1,5 @@
 use Rattle.jc_card.specs.New.{new_card}
+use Rattle.jc_run.proofs.Isolating.{all_isolated}
 use Rattle.jc_run.proofs.NeverStuck.{never_stuck}
 use Rattle.jc_run.proofs.Running.{all_guarded}
 use Rattle.jc_run.proofs.laws.commands_are_lawful.Goals as goal
@@ -16,6 +17,15 @@ returns-clause-guarded g c = all_guarded (record {
   none = c.accesses_add_up.ensures.none;
   more = c.accesses_add_up.ensures.more;
 }) _ _
+
+pub returns-clause-isolated : goal.returns-clause-isolated
+returns-clause-isolated g c = all_isolated (record {
+  apdu = c.commands_see_no_contents.ensures.apdu;
+  install = c.commands_see_no_contents.ensures.install;
+  reset = c.commands_see_no_contents.ensures.reset;
+  load = c.commands_see_no_contents.ensures.load;
+  members = c.members_keep_what_is_kept.ensures;
+}) _ _ (returns-clause-guarded g c)
 
 pub returns-clause-never_stuck : goal.returns-clause-never_stuck
 returns-clause-never_stuck g c = λ limits binding few clear commands fit.

@@ -10,6 +10,7 @@ returns-clause-held g c = λ bytes before is known.
     let card = new_card c.args.limits c.args.binding.now in
     made_holds _ _ c.args.limits c.args.binding.now (record {
       accesses = c.commands_are_lawful.ensures.guarded;
+      isolated = c.commands_are_lawful.ensures.isolated;
       apart = c.commands_are_lawful.ensures.apart c.args.limits c.args.binding.now c.has_no_clash.ensures;
       never_stuck = c.commands_are_lawful.ensures.never_stuck c.args.limits c.args.binding.now (search rules)
           c.has_no_clash.ensures;
@@ -21,6 +22,7 @@ returns-in_err-card-clause-held g c = λ bytes before is known.
     handed_end _ _ (HasHeld _ _ c.args.limits c.args.binding.now bytes before _) c.from_residual.ensures.1
     (not_made _ _ c.args.limits c.args.binding.now (record {
       accesses = c.commands_are_lawful.ensures.guarded;
+      isolated = c.commands_are_lawful.ensures.isolated;
       apart = c.commands_are_lawful.ensures.apart c.args.limits c.args.binding.now c.has_no_clash.ensures;
       never_stuck = c.commands_are_lawful.ensures.never_stuck c.args.limits c.args.binding.now (search rules)
           c.has_no_clash.ensures;

@@ -1,0 +1,38 @@
+-- Isolation. What the applets of a context keep in their own objects has no influence on a run as long as none of its
+-- steps runs in that context: on no access, no answer and no other object. It stays as it is meanwhile (Java Card
+-- Runtime Environment Specification, Applet Isolation and Object Sharing). That a context's code runs only by a call is
+-- said of each step (jc_machine Owning) and of each part of a command (jc_card Order).
+use Rattle.std.specs.Prelude.{◌≡◌, ℕ, true, List}
+use Rattle.jc_card.specs.Accesses.{IsApartCard}
+use Rattle.jc_card.specs.Card.{CardState, with_heap}
+use Rattle.jc_link.specs.Linked.{World}
+use Rattle.jc_machine.specs.Machine.{NativeCall, Touch}
+use Rattle.jc_machine.specs.Unseen.{AreAlike, stays_out}
+use Rattle.jc_natives.specs.Kept.{Kept}
+use Rattle.jc_natives.specs.Meaning.{meaning}
+use Rattle.jc_natives.specs.Remembered.{IsRemembered}
+use Rattle.jc_store.specs.Heap.{Heap}
+use Rattle.jc_words.specs.Values.{TaggedValue}
+use Rattle.jc_run.specs.Answer.{Answered}
+use Rattle.jc_run.specs.CardRun.{IsCardRun}
+use Rattle.jc_script.specs.Script.{ScriptCommand}
+
+-- the same commands are answered the same, with the same accesses and steps in the same contexts, on a card with other
+-- objects; and the card behind them differs in components of the context's plain objects alone
+pub record RunsAlike (images certificates : List ℕ → List ℕ → Type 0) (context : ℕ) (commands : List ScriptCommand)
+    (c : CardState) (heap : Heap TaggedValue) (answers : List Answered) (touches : List Touch) (ran : List ℕ)
+    (after : CardState) : Type 0 where
+  pub heap_behind : Heap TaggedValue
+  pub alike : AreAlike context after.heap heap_behind
+  pub run : IsCardRun images certificates commands (with_heap c heap) answers touches ran (with_heap after heap_behind)
+
+-- of each context, and of each run none of whose steps runs in it, from a card on which the runtime's name is its own:
+-- on each card that differs in components of the context's plain objects alone it runs alike. And native members change
+-- of what the runtime keeps, and tell of AIDs, what is theirs to
+pub record AreIsolated (images certificates : List ℕ → List ℕ → Type 0) : Type 0 where
+  pub unseen : (context : ℕ) (commands : List ScriptCommand) (c : CardState) (answers : List Answered)
+      (touches : List Touch) (ran : List ℕ) (after : CardState) → IsApartCard c
+      → IsCardRun images certificates commands c answers touches ran after → stays_out context ran ≡ true
+      → (heap : Heap TaggedValue) → AreAlike context c.heap heap
+      → RunsAlike images certificates context commands c heap answers touches ran after
+  pub members : (w : World) (call : NativeCall Kept) → IsRemembered w call (meaning.answer w call)

@@ -72,6 +72,7 @@ module _ (laws : StepsGuarded) (c : CardState) (owner : Owner) where
         guarded = laws.steps s laws.members m;
         accesses = laws.accesses s laws.members m;
         frames = laws.owned s laws.members m;
+        thrown = laws.thrown s m;
         kept = λ after e. laws.kept s laws.members m after e;
       }
 

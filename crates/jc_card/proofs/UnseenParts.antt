@@ -4,6 +4,7 @@ use Rattle.std.proofs.Common.{◌≡◌, ℕ, suc, ◌==◌, ◌&&◌, Bool, tru
 use Rattle.std.proofs.Common.{Option, Some, None, refl, sym, ap, ◌∙◌, subst, arith}
 use Rattle.std.proofs.lemmas.Bool.{and_parts}
 use Rattle.std.proofs.lemmas.List.{length-map}
+use Rattle.std.proofs.lemmas.List.Folds.{list_all-append}
 use Rattle.std.proofs.lemmas.Option.{same_Some}
 use Rattle.std.specs.Option.{option_and_then, option_map, option_map_or}
 use Rattle.jc_machine.proofs.AlikeLaws.{AlikeAt, as_cells, at_alike, with_cells}
@@ -37,11 +38,9 @@ use Rattle.jc_card.specs.declared.calls.AppletCall.{AppletCall}
 
 both_out : (context : ℕ) (xs ys : List ℕ) → stays_out context (xs ++ ys) ≡ true
     → (stays_out context xs ≡ true) × (stays_out context ys ≡ true)
-both_out context [] ys e = (refl, e)
-both_out context (x ∷ xs) ys e =
-    let first = and_parts (not (x == context)) (stays_out context (xs ++ ys)) e in
-    let rest = both_out context xs ys first.1 in
-    (ap (λ (b : Bool). b && stays_out context xs) first.0 ∙ rest.0, rest.1)
+both_out context xs ys e =
+    and_parts (stays_out context xs) (stays_out context ys)
+    (sym (list_all-append (λ (n : ℕ). not (n == context)) xs ys) ∙ e)
 
 -- the object with a number is the same where it isn't hidden
 pub same_seen : (context : ℕ) (H K : Heap TaggedValue) → AreAlike context H K → (n : ℕ) → IsSeen context H n

@@ -6,11 +6,13 @@ use Rattle.jc_firewall.specs.Verdict.{runtime_context}
 use Rattle.jc_link.specs.Built.{IsBuilt}
 use Rattle.jc_machine.specs.Apart.{IsSetApart}
 use Rattle.jc_machine.specs.Guarded.{IsGuarded, KeepsPlain, is_allowed, machine_of, may_change}
-use Rattle.jc_machine.specs.Machine.{Machine, Surroundings, Touch}
+use Rattle.jc_machine.specs.Lookup.{class_of}
+use Rattle.jc_machine.specs.Machine.{Machine, Surroundings, Throws, Touch}
 use Rattle.jc_machine.specs.Natives.{IsGuardedAnswer, KeepsObjects}
 use Rattle.jc_machine.specs.Accessing.{AccessesAreOwn}
+use Rattle.jc_machine.specs.Catching.{UnwindsTo}
 use Rattle.jc_machine.specs.Owning.{StepsOwned}
-use Rattle.jc_machine.specs.Step.{defensive_step}
+use Rattle.jc_machine.specs.Step.{defensive_step, settled}
 use Rattle.jc_machine.specs.Storable.{FieldsHoldStorable}
 use Rattle.jc_natives.specs.Apart.{names_applets}
 use Rattle.jc_natives.specs.Kept.{Kept}
@@ -42,12 +44,15 @@ pub record ChangesBy (touches : List Touch) (before after : Heap TaggedValue) : 
   pub components : (number : ℕ) (o p : Object TaggedValue) → object_at before number ≡ Some o
       → object_at after number ≡ Some p → (p.cells ≡ o.cells) ⊎ IsAccessed touches number o
 
--- a step keeps the law of accesses, makes those of its instruction, keeps the owners of frames but by calls, returns
--- and catches, and keeps the objects that were there
+-- a step keeps the law of accesses, and makes those of its instruction; it keeps frames and their owners but by calls,
+-- returns and catches; what is thrown from it is caught by the nearest handler that catches it; and the objects that
+-- were there stay
 pub record IsLawfulStep (s : Surroundings Kept) (m : Machine Kept) : Type 0 where
   pub guarded : IsGuarded s m
   pub accesses : AccessesAreOwn s m
   pub frames : StepsOwned s m
+  pub thrown : (number : ℕ) (o : Object TaggedValue) → object_at m.heap number ≡ Some o
+      → UnwindsTo s m number (class_of o.kind.object) (settled s (Throws m number))
   pub kept : (after : Machine Kept) → machine_of (defensive_step s m).outcome ≡ Some after
       → KeepsObjects m.heap after.heap
 

@@ -4,11 +4,13 @@ use Rattle.jc_cap_desc.specs.Shape.{Shape}
 use Rattle.jc_link.specs.Built.{IsBuilt}
 use Rattle.jc_machine.specs.Apart.{AreNativesApart, HaveApiMembers, IsApart, IsSetApart, StaysApart, is_applets}
 use Rattle.jc_machine.specs.Guarded.{AddsFor, IsGuarded, machine_of}
-use Rattle.jc_machine.specs.Machine.{Machine, StaticValue, Surroundings}
+use Rattle.jc_machine.specs.Machine.{Machine, StaticValue, Surroundings, Throws}
 use Rattle.jc_machine.specs.Natives.{AreNativesGuarded, KeepsObjects}
 use Rattle.jc_machine.specs.Accessing.{AccessesAreOwn}
+use Rattle.jc_machine.specs.Catching.{UnwindsTo}
+use Rattle.jc_machine.specs.Lookup.{class_of}
 use Rattle.jc_machine.specs.Owning.{StepsOwned}
-use Rattle.jc_machine.specs.Step.{Start, defensive_step, no_frame, runtime_call, standing}
+use Rattle.jc_machine.specs.Step.{Start, defensive_step, no_frame, runtime_call, settled, standing}
 use Rattle.jc_machine.specs.Unseen.{AreAlike, AreNativesBlind, CallsAlike, from_objects, stays_out}
 use Rattle.jc_machine.specs.Storable.{FieldsHoldStorable, HoldStorable, may_be_held}
 use Rattle.jc_names.specs.declared.owner.Owner.{Owner}
@@ -16,7 +18,7 @@ use Rattle.jc_natives.specs.Apart.{names_applets}
 use Rattle.jc_natives.specs.Cells.{put_all}
 use Rattle.jc_natives.specs.Kept.{Kept, after_install, is_instance_number, with_command, with_install, without_command}
 use Rattle.jc_natives.specs.Meaning.{meaning}
-use Rattle.jc_store.specs.Heap.{Heap}
+use Rattle.jc_store.specs.Heap.{Heap, Object, object_at}
 use Rattle.jc_words.specs.Values.{TaggedValue, Word}
 use Rattle.jc_card.specs.PrivateTyped.{KeepNumbers}
 
@@ -26,6 +28,8 @@ pub record StepsGuarded : Type 0 where
   pub steps : (s : Surroundings Kept) → AreNativesGuarded s.natives → (m : Machine Kept) → IsGuarded s m
   pub owned : (s : Surroundings Kept) → AreNativesGuarded s.natives → (m : Machine Kept) → StepsOwned s m
   pub accesses : (s : Surroundings Kept) → AreNativesGuarded s.natives → (m : Machine Kept) → AccessesAreOwn s m
+  pub thrown : (s : Surroundings Kept) (m : Machine Kept) (number : ℕ) (o : Object TaggedValue)
+      → object_at m.heap number ≡ Some o → UnwindsTo s m number (class_of o.kind.object) (settled s (Throws m number))
   pub blind : AreNativesBlind meaning
   pub alike : (context : ℕ) (s : Surroundings Kept) → AreNativesGuarded s.natives → AreNativesBlind s.natives
       → AreNativesApart names_applets s.natives → HaveApiMembers s.world.shapes → (start : Start Kept)

@@ -24,6 +24,7 @@ ghost use Rattle.jc_words.specs.Values.{TaggedValue};
 use jc_machine::{
     accesses_are_guarded, accesses_are_the_instructions, contents_are_unseen, held_values_stay,
     new_machines_are_typed, owners_go_by_calls, runtime_objects_stay, steps_stay_apart,
+    throws_are_caught,
 };
 use jc_natives::{
     Runtime, calls_keep_numbers, members_are_guarded, members_see_no_contents, members_stay_apart,
@@ -44,6 +45,7 @@ fn steps_are_guarded()
     accesses_are_guarded(&Runtime::new());
     accesses_are_the_instructions(&Runtime::new());
     owners_go_by_calls(&Runtime::new());
+    throws_are_caught(&Runtime::new());
     contents_are_unseen(&Runtime::new());
     steps_stay_apart(&Runtime::new());
     api_runs_its_own_code();
@@ -53,8 +55,9 @@ fn steps_are_guarded()
 /// the instance that is selected or installed, whose context counts as the selected one; by words that the runtime
 /// writes into the APDU buffer or the array of an install; and by clearing exactly the transient arrays that an event
 /// and a context name. A call is at most so many steps, each from the machine that the one before it left, from the
-/// frame at the start of its method. Each keeps the law of accesses of a step, and the owners of frames but by calls,
-/// returns and catches. The packages and the objects stay.
+/// frame at the start of its method. Each keeps the law of accesses of a step, makes the accesses of its instruction,
+/// and keeps frames and their owners but by calls, returns and catches; what is thrown is caught by the nearest handler
+/// that catches it. The packages and the objects stay.
 /// Components change only of objects of which an allowed access is listed. Behind a reset each transient array is zero
 /// or null. A load makes no access, and leaves each object as it was. It does nothing.
 pub fn commands_are_guarded()

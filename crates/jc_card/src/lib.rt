@@ -26,7 +26,9 @@ mod status;
 mod typed;
 mod writing;
 
-pub use accesses::{accesses_add_up, commands_are_guarded, commands_stay_apart};
+pub use accesses::{
+    accesses_add_up, commands_are_guarded, commands_see_no_contents, commands_stay_apart,
+};
 pub use answer::{Answer, MOST_SENT};
 pub use card::Card;
 pub use cause::Cause;

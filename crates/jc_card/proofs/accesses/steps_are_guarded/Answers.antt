@@ -7,6 +7,7 @@ returns c = record {
   steps = c.accesses_are_guarded.ensures.guarded;
   owned = c.owners_go_by_calls.ensures;
   accesses = c.accesses_are_the_instructions.ensures;
+  thrown = c.throws_are_caught.ensures;
   blind = c.members_see_no_contents.ensures;
   alike = λ context s guarded blind. c.contents_are_unseen.ensures.calls context s guarded blind names_applets;
   kept = c.accesses_are_guarded.ensures.kept;

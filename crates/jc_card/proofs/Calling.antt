@@ -8,7 +8,7 @@ use Rattle.jc_interp.specs.declared.ends.RunEnd.{RunEnd}
 use Rattle.jc_link.specs.Linked.{World}
 use Rattle.jc_program.specs.Called.{called_of}
 use Rattle.jc_program.specs.Program.{IsProgramOf}
-use Rattle.jc_machine.specs.Machine.{Machine, Surroundings, Touch}
+use Rattle.jc_machine.specs.Machine.{Machine, Surroundings}
 use Rattle.jc_machine.specs.Reading.{Pointwise, Reads}
 use Rattle.jc_machine.specs.Step.{CallEnd, Called, Start, runtime_call}
 use Rattle.jc_machine.specs.Typed.{IsTypedBeside}

@@ -216,7 +216,8 @@ module _ (laws : StepsGuarded) (c : CardState) (owner : Owner) where
     gave_leads called touches m value b h1 = grind arith
 
     threw_leads : (called : MethodName) (touches : List Touch) (m : Machine Kept) (object : ℕ) (b : Bool)
-        → IsCallLed arguments called touches m → call_end arguments called touches (cond b (Threw m object None) WasStuck)
+        → IsCallLed arguments called touches m
+        → call_end arguments called touches (cond b (Threw m object None) WasStuck)
     threw_leads called touches m object b h1 = grind arith
 
     native_ended_leads : (touches : List Touch) (m : Machine Kept) (member : ℕ) (ends : NativeEnd)

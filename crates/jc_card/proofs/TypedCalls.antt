@@ -13,7 +13,7 @@ use Rattle.jc_base.specs.declared.declared_type.DeclaredType.TheVariants.{Refere
 use Rattle.jc_cap_desc.specs.Shape.{Shape}
 use Rattle.jc_classes.specs.Subtype.{is_class_below}
 use Rattle.jc_machine.specs.Lookup.{are_of_types, is_of_class, is_of_type}
-use Rattle.jc_machine.specs.Machine.{Surroundings, Touch}
+use Rattle.jc_machine.specs.Machine.{Surroundings}
 use Rattle.jc_machine.specs.Running.{MayRun}
 use Rattle.jc_machine.specs.Runtime.{HasRuntimeObject, apdu_object, temporary}
 use Rattle.jc_machine.specs.Step.{CallEnd, Called, Gave, RanOut, Start, Threw, WasStuck, no_frame, runtime_call}

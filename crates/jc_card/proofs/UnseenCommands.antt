@@ -1,7 +1,6 @@
 -- A command sees nothing of what a context keeps in which none of its steps runs.
-use Rattle.std.proofs.Common.{◌≡◌, ◌⊎◌, inl, inr, ℕ, suc, ◌==◌, ◌&&◌, Bool, true, false, cond, not, List, [], ◌∷◌, ◌++◌, length, nat_le}
+use Rattle.std.proofs.Common.{◌≡◌, ◌⊎◌, inl, inr, ℕ, suc, ◌==◌, ◌&&◌, Bool, true, false, not, List, [], ◌∷◌, ◌++◌, length, nat_le}
 use Rattle.std.proofs.Common.{Option, Some, None, IfSome, is_some, refl, sym, ap, ◌∙◌, subst, Result, Ok, Err, nat_lt}
-use Rattle.std.proofs.Common.{arith, length-append}
 use Rattle.std.specs.Option.{option_map, option_map_or}
 use Rattle.jc_base.specs.declared.fault.LoadFault.{LoadFault}
 use Rattle.jc_link.specs.Linked.{Linked, most_in_world}
@@ -11,10 +10,10 @@ use Rattle.jc_machine.specs.Runtime.{apdu_buffer, install_array, most_instances}
 use Rattle.jc_machine.specs.Unseen.{AreAlike}
 use Rattle.jc_names.specs.declared.name.MethodName.TheVariants.{Loaded}
 use Rattle.jc_names.specs.declared.owner.Owner.{Owner}
-use Rattle.jc_natives.specs.Kept.{Kept, after_install, with_command, with_install, without_command}
+use Rattle.jc_natives.specs.Kept.{after_install, with_command, with_install, without_command}
 use Rattle.jc_natives.specs.declared.kept.Instance.{Instance}
-use Rattle.jc_safety.specs.Loading.{has_room_for, heap_behind, loaded_arrays, loaded_statics, next_package, statics_behind}
-use Rattle.jc_store.specs.Heap.{Heap, Object, cells_in, object_at}
+use Rattle.jc_safety.specs.Loading.{heap_behind, loaded_arrays, loaded_statics, next_package}
+use Rattle.jc_store.specs.Heap.{Heap, Object, cells_in}
 use Rattle.jc_store.specs.declared.kind.ClearingEvent.TheVariants as events
 use Rattle.jc_words.specs.Values.{Ref, TaggedValue, Word}
 use Rattle.jc_card.proofs.Guarding.{Fine, deselect_part, selected_part}
@@ -22,8 +21,8 @@ use Rattle.jc_card.proofs.Leading.{IsPart}
 use Rattle.jc_card.proofs.LeadingWrites.{write_part}
 use Rattle.jc_card.proofs.Owners.{buffer_is_global, install_is_global, next_number_fits, not_refused_few}
 use Rattle.jc_card.proofs.Owners.{place_has_number}
-use Rattle.jc_card.proofs.UnseenParts.{Any, Like, Thrown, Unseen, call_unseen, clear_unseen, gives_unseen, if_unseen}
-use Rattle.jc_card.proofs.UnseenParts.{known_unseen, same_seen, selected_unseen, stuck_unseen, then_unseen, write_unseen}
+use Rattle.jc_card.proofs.UnseenParts.{Any, Thrown, Unseen, call_unseen, clear_unseen, gives_unseen, if_unseen}
+use Rattle.jc_card.proofs.UnseenParts.{known_unseen, same_seen, selected_unseen, then_unseen, write_unseen}
 use Rattle.jc_card.proofs.Worlds.{StaysIn, deselect_stays}
 use Rattle.jc_card.specs.Accesses.{IsApartCard}
 use Rattle.jc_card.specs.Card.{CardState, selected_instance, with_heap, with_kept, with_selected}
@@ -32,7 +31,7 @@ use Rattle.jc_card.specs.Command.{Command, buffer_of, command_of, not_selected, 
 use Rattle.jc_card.specs.Commands as commands
 use Rattle.jc_card.specs.Install as installs
 use Rattle.jc_card.specs.Load.{IsLoad, IsOutOfMemory, IsUnfit, IsWithoutRoom, has_room, with_package}
-use Rattle.jc_card.specs.Order.{Installs, Leads, Order, Performs}
+use Rattle.jc_card.specs.Order.{Installs, Order, Performs}
 use Rattle.jc_card.specs.Order.Leads.{by_buffer, by_parameters}
 use Rattle.jc_card.specs.Parts.{Ended, Left, Normally, OutOfBudget, Uncaught, and_then, call_selected, clear, gives, write}
 use Rattle.jc_card.specs.PrivateGuarded.{StepsGuarded}
@@ -85,11 +84,13 @@ module _ (context : ℕ) where
     where
       by_owner : (o : Option Owner)
           → Unseen context (Any context)
-          (option_map_or (λ (owner : Owner). clear events.Deselect (Some owner.context) (with_selected c None)) o (gives c tt))
+          (option_map_or (λ (owner : Owner). clear events.Deselect (Some owner.context) (with_selected c None)) o
+          (gives c tt))
           (option_map_or (λ (owner : Owner). clear events.Deselect (Some owner.context)
           (with_selected (with_heap c heap) None)) o (gives (with_heap c heap) tt))
       by_owner None = gives_unseen context (Any context) c heap alike tt tt
-      by_owner (Some owner) = clear_unseen context events.Deselect (Some owner.context) (with_selected c None) heap alike
+      by_owner (Some owner) =
+          clear_unseen context events.Deselect (Some owner.context) (with_selected c None) heap alike
 
   module _ (laws : StepsGuarded) where
     deselect_unseen : (c : CardState) (heap : Heap TaggedValue) → AreAlike context c.heap heap → IsApartCard c
@@ -234,7 +235,8 @@ module _ (context : ℕ) where
     module _ (applet : List ℕ) (place : AppletPlace) (owner : Owner) (whose : is_applets owner ≡ true) where
       settle_unseen : (c : CardState) (heap : Heap TaggedValue) → AreAlike context c.heap heap → (ended : Ended)
           → Thrown context c ended
-          → Unseen context (Any context) (installs.settle c owner ended) (installs.settle (with_heap c heap) owner ended)
+          → Unseen context (Any context) (installs.settle c owner ended)
+          (installs.settle (with_heap c heap) owner ended)
       settle_unseen c heap alike ended known =
           let kept = after_install c.kept (installs.succeeds c ended) in
           subst (λ (v : installs.Installed). Unseen context (Any context) (installs.settle c owner ended)
@@ -373,7 +375,8 @@ module _ (context : ℕ) where
       where
         room_of : Linked → ℕ → ℕ → Bool
         room_of l objects cells =
-            nat_lt (length c.world.shapes) most_in_world && (nat_le objects c.limits.objects && nat_le cells c.limits.cells)
+            nat_lt (length c.world.shapes) most_in_world
+            && (nat_le objects c.limits.objects && nat_le cells c.limits.cells)
 
     why_same : (certificate image : List ℕ) (fault : LoadFault)
         → IsOutOfMemory image fault ⊎ IsUnfit c.world.shapes image certificate fault
@@ -412,5 +415,8 @@ module _ (context : ℕ) where
     load_unseen image certificate (Err fault) after is = record {
       heap_behind = heap;
       alike = subst (λ (d : CardState). AreAlike context d.heap heap) (sym is.kept) alike;
-      load = record { kept = ap (λ (d : CardState). with_heap d heap) is.kept; why = why_same certificate image fault is.why };
+      load = record {
+        kept = ap (λ (d : CardState). with_heap d heap) is.kept;
+        why = why_same certificate image fault is.why;
+      };
     }

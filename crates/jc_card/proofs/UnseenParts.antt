@@ -1,7 +1,7 @@
 -- A part of a command sees nothing of what a context keeps in which none of its steps runs.
 use Rattle.std.specs.Prelude.{⊤}
-use Rattle.std.proofs.Common.{◌≡◌, ℕ, suc, ◌==◌, ◌&&◌, Bool, true, false, cond, not, List, [], ◌∷◌, ◌++◌, length, map}
-use Rattle.std.proofs.Common.{Option, Some, None, refl, sym, ap, ◌∙◌, subst, arith}
+use Rattle.std.proofs.Common.{◌≡◌, ℕ, suc, ◌==◌, ◌&&◌, Bool, true, false, cond, not, List, [], ◌∷◌, ◌++◌, map}
+use Rattle.std.proofs.Common.{Option, Some, None, refl, sym, ap, ◌∙◌, subst}
 use Rattle.std.proofs.lemmas.Bool.{and_parts}
 use Rattle.std.proofs.lemmas.List.{length-map}
 use Rattle.std.proofs.lemmas.List.Folds.{list_all-append}
@@ -9,11 +9,10 @@ use Rattle.std.proofs.lemmas.Option.{same_Some}
 use Rattle.std.specs.Option.{option_and_then, option_map, option_map_or}
 use Rattle.jc_machine.proofs.AlikeLaws.{AlikeAt, as_cells, at_alike, with_cells}
 use Rattle.jc_machine.specs.Apart.{is_applets}
-use Rattle.jc_machine.specs.Going.{with_heap as with_machine_heap}
-use Rattle.jc_machine.specs.Machine.{Machine, Touch}
+use Rattle.jc_machine.specs.Machine.{Touch}
 use Rattle.jc_machine.specs.Step.{CallEnd, Called, Gave, RanOut, Start, Threw, WasStuck, runtime_call}
 use Rattle.jc_machine.specs.Unseen as unseen
-use Rattle.jc_machine.specs.Unseen.{AreAlike, CallsAlike, EndsAlike, IsAlike, IsSeen, from_objects, is_hidden, stays_out}
+use Rattle.jc_machine.specs.Unseen.{AreAlike, CallsAlike, EndsAlike, IsAlike, IsSeen, from_objects, stays_out}
 use Rattle.jc_names.specs.declared.name.MethodName.{MethodName}
 use Rattle.jc_names.specs.declared.owner.Owner.{Owner}
 use Rattle.jc_natives.proofs.AlikeLaws.{put_all_both}
@@ -30,8 +29,8 @@ use Rattle.jc_card.proofs.Owners.{selected_owner}
 use Rattle.jc_card.specs.Accesses.{IsApartCard}
 use Rattle.jc_card.specs.Card.{CardState, around, left_by, selected_instance, with_heap}
 use Rattle.jc_card.specs.Parts.{Ended, Left, Normally, OutOfBudget, Uncaught, and_then, arguments_of, behind, call_applet}
-use Rattle.jc_card.specs.Parts.{call_method, call_on, call_selected, clear, clearing_touches, ended_call, gives, left_so}
-use Rattle.jc_card.specs.Parts.{member_called, runtime_touch, write}
+use Rattle.jc_card.specs.Parts.{call_method, call_on, call_selected, clear, clearing_touches, ended_call, gives}
+use Rattle.jc_card.specs.Parts.{member_called, write}
 use Rattle.jc_card.specs.PrivateGuarded.{StepsGuarded}
 use Rattle.jc_card.specs.Unseen.{with_objects}
 use Rattle.jc_card.specs.declared.calls.AppletCall.{AppletCall}
@@ -128,7 +127,8 @@ module _ (context : ℕ) where
       by_next None f = stuck_unseen Knows (and_then other next)
       by_next (Some y) f = λ l e out.
           subst (λ (z : Left B). Like Knows z (and_then other next)) (same_Some (behind x.touches x.ran y) l e)
-          (joined y f (sym (ap (λ (z : Left B). stays_out context z.ran) (sym (same_Some (behind x.touches x.ran y) l e)))
+          (joined y f
+          (sym (ap (λ (z : Left B). stays_out context z.ran) (sym (same_Some (behind x.touches x.ran y) l e)))
           ∙ out))
 
   -- ---- what the runtime does in its own name
@@ -157,7 +157,8 @@ module _ (context : ℕ) where
 
   module _ (event : ClearingEvent) (who : Option ℕ) where
     one_alike : (o p : Object TaggedValue) → IsAlike context o p
-        → IsAlike context (cond (is_cleared_by event who o) (zeroed o) o) (cond (is_cleared_by event who p) (zeroed p) p)
+        → IsAlike context (cond (is_cleared_by event who o) (zeroed o) o)
+        (cond (is_cleared_by event who p) (zeroed p) p)
     one_alike o p a =
         subst (λ (q : Object TaggedValue). IsAlike context (cond (is_cleared_by event who o) (zeroed o) o)
         (cond (is_cleared_by event who q) (zeroed q) q)) (sym (as_cells context o p a))
@@ -273,8 +274,10 @@ module _ (context : ℕ) where
       where
         by_method : (m : Option MethodName)
             → Unseen Thrown
-            (option_and_then (λ method. call_method c i.owner.context i.owner method (Ref i.object ∷ arguments_of call)) m)
-            (option_and_then (λ method. call_method d i.owner.context i.owner method (Ref i.object ∷ arguments_of call)) m)
+            (option_and_then (λ method.
+            call_method c i.owner.context i.owner method (Ref i.object ∷ arguments_of call)) m)
+            (option_and_then (λ method.
+            call_method d i.owner.context i.owner method (Ref i.object ∷ arguments_of call)) m)
         by_method None = stuck_unseen Thrown None
         by_method (Some method) = call_unseen i.owner whose method (Ref i.object ∷ arguments_of call)
 

@@ -202,9 +202,9 @@ pub record IsClearing (c : CardState) (event : ClearingEvent) (context : Option 
 -- after the other. Whatever is asked for may call methods (IsCallOf). What may call deselect may leave nobody selected,
 -- once the arrays of that context which are cleared on deselect are. A command writes words into the APDU buffer, it is
 -- kept what it brought and what it was answered, and it selects the instance that it names, where none is selected. An
--- installation begins where none is, in the context of the applet's package and with the next number; it writes words into the array of an install; and it
--- settles, with the arrays of its own context cleared. Behind a reset all arrays are, and none is selected. What is
--- refused at once has no part
+-- installation begins where none is, in the context of the applet's package and with the next number; it writes words
+-- into the array of an install; and it settles, with the arrays of its own context cleared. Behind a reset all arrays
+-- are, and none is selected. What is refused at once has no part
 pub data Leads (claims : Claims) : Order → CardState → List Touch → CardState → Type 0 where
   nowhere : (order : Order) (c : CardState) → Leads claims order c [] c
   onward : (order : Order) (c between after : CardState) (touches more : List Touch)

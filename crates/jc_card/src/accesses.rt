@@ -96,8 +96,9 @@ pub fn commands_stay_apart()
 }
 
 /// A command sees nothing of what the plain objects of a context hold, as long as none of its steps runs in that
-/// context. On a card that differs in their components alone it makes the same accesses, runs in the same contexts and is
-/// answered the same, and the card behind it differs there alone. So does a load, which runs nothing. It does nothing.
+/// context. On a card that differs in their components alone it makes the same accesses, runs in the same contexts and
+/// is answered the same, and the card behind it differs there alone. So does a load, which runs nothing. It does
+/// nothing.
 pub fn commands_see_no_contents()
     ensures apdu { (c : CardState) → IsApartCard c → (bytes : List ℕ) → SeesNothing c (λ c. apdu_command c bytes) }
     ensures install { (c : CardState) → IsApartCard c → (applet instance incoming : List ℕ)

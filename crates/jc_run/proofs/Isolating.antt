@@ -1,9 +1,8 @@
 -- A run sees nothing of what a context keeps in which none of its steps runs.
-use Rattle.std.proofs.Common.{◌≡◌, ℕ, ◌&&◌, true, List, [], ◌∷◌, ◌++◌, Option, Some, refl, sym, ap, ◌∙◌}
+use Rattle.std.proofs.Common.{◌≡◌, ℕ, true, List, [], ◌∷◌, ◌++◌, Option, Some, refl, sym, ap, ◌∙◌}
 use Rattle.std.proofs.Common.{subst, not, ◌==◌, Result}
 use Rattle.std.proofs.lemmas.Bool.{and_parts}
 use Rattle.std.proofs.lemmas.List.Folds.{list_all-append}
-use Rattle.std.specs.Option.{option_map_or}
 use Rattle.jc_base.specs.declared.fault.LoadFault.{LoadFault}
 use Rattle.jc_card.specs.Accesses.{IsApartCard}
 use Rattle.jc_card.specs.Card.{CardState, with_heap, with_steps}
@@ -19,7 +18,7 @@ use Rattle.jc_machine.specs.Unseen.{AreAlike, stays_out}
 use Rattle.jc_natives.specs.Kept.{Kept}
 use Rattle.jc_natives.specs.Meaning.{meaning}
 use Rattle.jc_natives.specs.Remembered.{IsRemembered}
-use Rattle.jc_store.specs.Heap.{Heap, cells_in}
+use Rattle.jc_store.specs.Heap.{Heap}
 use Rattle.jc_words.specs.Values.{TaggedValue}
 use Rattle.jc_run.specs.Answer as answers
 use Rattle.jc_run.specs.Answer.{Answered}
@@ -129,8 +128,8 @@ module _ (laws : Laws) (images certificates : List ℕ → List ℕ → Type 0)
             ran = refl;
           }
       answered_alike (Install applet instance incoming) answer after h out =
-          let k = given_alike (install_command c applet instance incoming) (install_command d applet instance incoming) _
-          answer after h out (λ l e o. laws.install c p applet instance incoming context l e o heap alike) in record {
+          let k = given_alike (install_command c applet instance incoming)
+          (install_command d applet instance incoming) _ answer after h out (λ l e o. laws.install c p applet instance incoming context l e o heap alike) in record {
             heap_behind = k.heap_behind;
             alike = k.alike;
             answered = k.given;
@@ -186,7 +185,8 @@ module _ (laws : Laws) (images certificates : List ℕ → List ℕ → Type 0)
         let parts = and_parts (stays_out context (contexts_of c first)) (stays_out context ran)
         (sym (list_all-append (λ (n : ℕ). not (n == context)) (contexts_of c first) ran) ∙ out) in
         let k = answered_alike c p heap alike first answer between answered parts.0 in
-        let r = runs_alike rest (stays_apart c first answer between p answered) parts.1 k.heap_behind k.alike in record {
+        let q = stays_apart c first answer between p answered in
+        let r = runs_alike rest q parts.1 k.heap_behind k.alike in record {
           heap_behind = r.heap_behind;
           alike = r.alike;
           run =

@@ -78,8 +78,8 @@ pub data SessionRunsTo (images certificates : List ℕ → List ℕ → Type 0) 
       → SessionRunsTo images certificates limits binding input written end
 
 -- the theorem: the responses are those of the defensive machine on a new card, with the lines left out that were
--- refused; each access is one that the firewall allows, or is denied, throws and changes nothing; what a context keeps is
--- isolated; on that card the runtime's name is its own; and no list of commands is stuck there
+-- refused; each access is one that the firewall allows, or is denied, throws and changes nothing; what a context keeps
+-- is isolated; on that card the runtime's name is its own; and no list of commands is stuck there
 pub record IsSessionSimulated (images certificates : List ℕ → List ℕ → Type 0) (limits : Limits) (binding : Bound)
     (input written : List ℕ) (end : ScriptEnd) : Type 0 where
   pub responses : SessionRunsTo images certificates limits binding input written end

@@ -19,7 +19,8 @@ use jc_natives::members_keep_what_is_kept;
 use jc_source::PackageSource;
 
 /// The accesses of each command on each card are guarded, what a context keeps is isolated, and each run leaves a card
-/// apart that was; a new card is one, and no list of commands is stuck there. What a source holds says what loads come to. It does nothing.
+/// apart that was; a new card is one, and no list of commands is stuck there. What a source holds says what loads come
+/// to. It does nothing.
 pub(crate) fn commands_are_lawful<S: PackageSource>(source: &S)
     ensures guarded { AreGuarded (S.holds_image source.now) (S.holds_certificate source.now) }
     ensures isolated { AreIsolated (S.holds_image source.now) (S.holds_certificate source.now) }

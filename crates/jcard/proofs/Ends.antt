@@ -45,6 +45,7 @@ module _ (images certificates : List ℕ → List ℕ → Type 0) (failed_at tol
     in_order = p.in_order;
     answers = p.answers;
     touches = p.touches;
+    ran = p.ran;
     card = p.card;
     run = p.run;
     part = p.part;
@@ -68,6 +69,7 @@ module _ (images certificates : List ℕ → List ℕ → Type 0) (failed_at tol
     simulated = record {
       responses = runs_as told r.simulated.responses;
       accesses = r.simulated.accesses;
+      isolated = r.simulated.isolated;
       apart = r.simulated.apart;
       never_stuck = r.simulated.never_stuck;
     };

@@ -32,7 +32,8 @@ placed (z ∷ xs) y x zero e = inl (e, omega arith)
 placed (z ∷ xs) y x (suc n) e = grind (arith, placed xs y x n e)
 
 module _ (w : World) (l : Linked) (accepted : IsAccepted w) (bound : IsBoundTo w l) (world : IsWorld (with_linked w l))
-    (small : IsSmall l.world) (tokens : HaveByteTokens l.body.kept.pool) (carried : IsPackageCarried l) (typed : IsPackageTyped l) where
+    (small : IsSmall l.world) (tokens : HaveByteTokens l.body.kept.pool) (carried : IsPackageCarried l)
+    (typed : IsPackageTyped l) where
   -- a package is known as it was linked
   as_linked : (n : ℕ) (body : LinkedBody) (linked : Linked) → linked_as (with_linked w l) (suc n) body ≡ linked
       → HaveByteTokens body.kept.pool → IsPackageCarried linked → IsPackageTyped linked

@@ -1,7 +1,9 @@
--- Laws of objects that are alike, for this crate and those above: what is read of them beside components of a hidden one
--- is the same.
-use Rattle.std.proofs.Common.{cond, eq-eqb, ◌≡◌, ◌≢◌, ◌<◌, nat_lt, ℕ, zero, suc, ◌+◌, ◌==◌, ◌&&◌, ◌||◌, Bool, true, false, not, List, [], ◌∷◌, length}
-use Rattle.std.proofs.Common.{Option, Some, None, refl, sym, ap, ◌∙◌, subst, arith, eqb-true, slice_get, set, length-set}
+-- Laws of objects that are alike, for this crate and those above: what is read of them beside components of a hidden
+-- one is the same.
+use Rattle.std.proofs.Common.{cond, eq-eqb, ◌≡◌, ◌≢◌, ◌<◌, nat_lt, ℕ, zero, suc, ◌==◌, ◌&&◌, ◌||◌, Bool, true, false}
+use Rattle.std.proofs.Common.{not, List, [], ◌∷◌, length}
+use Rattle.std.proofs.Common.{Option, Some, None, refl, sym, ap, ◌∙◌, subst, arith, eqb-true, slice_get, set}
+use Rattle.std.proofs.Common.{length-set}
 use Rattle.std.proofs.lemmas.Option.{same_Some}
 use Rattle.std.proofs.lemmas.Bool.{and_parts, both_ways, ltb-true}
 use Rattle.std.specs.List.{AllByRecursion}
@@ -20,11 +22,10 @@ use Rattle.jc_names.specs.declared.name.ClassName.{ClassName}
 use Rattle.jc_names.specs.declared.owner.Owner.{Owner}
 use Rattle.jc_store.specs.Heap.{Heap, Object, cells_in, object_at, with_cell, with_new, with_object}
 use Rattle.jc_store.specs.declared.kind.Kind.{Kind}
-use Rattle.jc_store.specs.declared.kind.Mark.{Mark}
 use Rattle.jc_store.specs.declared.kind.ObjectType.{ObjectType}
-use Rattle.jc_machine.specs.Lookup.{are_of_instance, are_of_types, is_given, is_object_of, is_of_class, is_of_type, leads_to}
+use Rattle.jc_machine.specs.Lookup.{are_of_instance, are_of_types, is_given, is_object_of, is_of_class, is_of_type}
+use Rattle.jc_machine.specs.Lookup.{leads_to}
 use Rattle.jc_machine.specs.Lookup.{mark_of, may_begin_with}
-use Rattle.jc_machine.specs.Reading.{Pointwise}
 use Rattle.jc_machine.specs.Natives.{KeepsObjects}
 use Rattle.jc_machine.specs.Runtime.{HasRuntimeObject, HasRuntimeObjects, RuntimeObject, first_aid_object}
 use Rattle.jc_machine.specs.Runtime.{runtime_objects}

@@ -86,7 +86,8 @@ put_static_keeps h form place declared names =
 
 static_keeps : {C : Type 0} (h : Here C) (access : FieldAccess) (place : StaticPlace)
     (declared : DeclaredType ClassName) (action : FieldAction) (holder : Holder) → access.action ≡ action
-    → access.holder ≡ holder → (access.action ≡ Put → access.holder ≡ Holders.Class → PutsStatic h.around h.machine place)
+    → access.holder ≡ holder → (access.action ≡ Put → access.holder ≡ Holders.Class → PutsStatic h.around h.machine
+    place)
     → KeepsLaw h.around h.machine [] (act_static h access place declared action holder)
 static_keeps h access place declared Get Holders.Class puts holds names = get_static_keeps h access.form place
 static_keeps h access place declared Put Holders.Class puts holds names =
@@ -118,7 +119,8 @@ put_held h form field value h1 h2 number o h3 = grind (arith, asked_held, top_is
 
 puts_keeps : {C : Type 0} (h : Here C) (form : Form) (field : InstanceField) (v value : TaggedValue)
     (vs : List TaggedValue) → is_form_of form field.declared ≡ true
-    → is_of_type h.around.world.shapes h.machine.heap field.declared value ≡ true → KeepsLaw h.around h.machine [] (puts h form field v value vs)
+    → is_of_type h.around.world.shapes h.machine.heap field.declared value ≡ true
+    → KeepsLaw h.around h.machine [] (puts h form field v value vs)
 puts_keeps h form field v value vs of_form typed =
     at_object h v _ (λ number o there. at_check (is_of_class h.around.world.shapes field.class o.kind.object) _
     (at_stored h (putting form) number o there value _ (λ fine.
@@ -150,7 +152,8 @@ named_target : {C : Type 0} (h : Here C) (access : FieldAccess) (index : ℕ) (p
     → access.action ≡ Put → access.holder ≡ Holders.Class
     → option_and_then field_target (target_at h.around.world h.machine.top.method.number index)
     ≡ Some (of_class place declared) → PutsStatic h.around h.machine place
-named_target h access index place declared at puts holds e = by_option (target_at h.around.world h.machine.top.method.number index) refl e
+named_target h access index place declared at puts holds e = by_option
+    (target_at h.around.world h.machine.top.method.number index) refl e
   where
     by_target : (t : PoolTarget) → target_at h.around.world h.machine.top.method.number index ≡ Some t
         → field_target t ≡ Some (of_class place declared) → PutsStatic h.around h.machine place

@@ -23,7 +23,7 @@ use Rattle.jc_store.specs.declared.kind.ObjectType.TheVariants.{Instance, Refere
 use Rattle.jc_words.specs.Values.{Null, Ref, TaggedValue, Unset, Word}
 use Rattle.jc_machine.specs.Apart.{SparesPlain}
 use Rattle.jc_machine.specs.Going.{Here, gives, no_resource, runtime_touch, stored_in, throws, throws_system}
-use Rattle.jc_machine.specs.Guarded.{IsAccessed, StandsAt}
+use Rattle.jc_machine.specs.Guarded.{IsAccessed, StandsAt, is_blank}
 use Rattle.jc_machine.specs.Machine.{Machine, Stepped, Surroundings, Throws, Touch}
 use Rattle.jc_machine.specs.Natives.{AreNativesGuarded}
 use Rattle.jc_machine.specs.Objects.{Test, act_branch, act_check_cast, act_create, act_instance_of, act_object}
@@ -40,8 +40,7 @@ use Rattle.jc_machine.proofs.GuardingCalls.{call_keeps}
 use Rattle.jc_machine.proofs.GuardingFields.{field_keeps}
 use Rattle.jc_machine.proofs.GuardingReturns.{at_returns}
 use Rattle.jc_machine.proofs.GuardingWrites.{more_changes, new_apart, one_changes, stored_apart}
-use Rattle.jc_machine.proofs.Storing.{all_replicate, cells_held}
-use Rattle.jc_machine.specs.Storable.{may_be_held}
+use Rattle.jc_machine.proofs.Storing.{all_replicate, blanks_held, cells_blank}
 use Rattle.std.specs.List.{AllByRecursion}
 
 -- ---- new objects
@@ -83,40 +82,41 @@ system_keeps h reason =
     (leaves (Throws (stored_in h system_exception object 0 (Word reason)).machine system_exception)
     (stored_in h system_exception object 0 (Word reason)).machine refl
     (one_changes h.machine.top.active (reason_touch ∷ []) h.machine.heap object 0 (Word reason) system_exception
-    (reason_accessed h.machine.top.active.context object) there) (stored_apart h system_exception object 0 (Word reason) there
+    (reason_accessed h.machine.top.active.context object) there) (stored_apart h system_exception object 0 (Word reason)
+    there
     (λ keeps p. refl))))
 
--- cells that hold what may be held, whatever the objects
-abbrev AreHeld : List TaggedValue → Type 0
-AreHeld cells = (heap : Heap TaggedValue) → AllByRecursion (λ (v : TaggedValue). may_be_held heap v ≡ true) cells
+-- components that are zero or null
+abbrev AreBlank : List TaggedValue → Type 0
+AreBlank cells = AllByRecursion (λ (v : TaggedValue). is_blank v ≡ true) cells
 
-made_keeps : {C : Type 0} (h : Here C) (object : ObjectType) (cells vs : List TaggedValue) → AreHeld cells
+made_keeps : {C : Type 0} (h : Here C) (object : ObjectType) (cells vs : List TaggedValue) → AreBlank cells
     → KeepsLaw h.around h.machine [] (gives (made h object cells) (Ref (next_number h.machine.heap)) vs)
-made_keeps h object cells vs held =
+made_keeps h object cells vs blank =
     gives_changed (made h object cells) (Ref (next_number h.machine.heap)) vs
     (more_changes h.machine.top.active [] h.machine.heap (record {
       kind = record { object = object; mark = Plain; clears = None };
       owner = h.machine.top.active;
       cells = cells;
-    }) (record { whose = refl; plain = refl })) (new_apart h (record {
+    }) (record { whose = refl; plain = refl; blank = blank })) (new_apart h (record {
       kind = record { object = object; mark = Plain; clears = None };
       owner = h.machine.top.active;
       cells = cells;
-    }) (record { whose = refl; plain = refl }) (held _))
+    }) (record { whose = refl; plain = refl; blank = blank }) (blanks_held _ cells blank))
 
-by_space : {C : Type 0} (h : Here C) (object : ObjectType) (cells vs : List TaggedValue) (space : Bool) → AreHeld cells
+by_space : {C : Type 0} (h : Here C) (object : ObjectType) (cells vs : List TaggedValue) (space : Bool) → AreBlank cells
     → KeepsLaw h.around h.machine []
     (cond space (gives (made h object cells) (Ref (next_number h.machine.heap)) vs) (throws_system h no_resource))
-by_space h object cells vs true held = made_keeps h object cells vs held
-by_space h object cells vs false held = system_keeps h no_resource
+by_space h object cells vs true blank = made_keeps h object cells vs blank
+by_space h object cells vs false blank = system_keeps h no_resource
 
-creates_keeps : {C : Type 0} (h : Here C) (object : ObjectType) (cells vs : List TaggedValue) → AreHeld cells
+creates_keeps : {C : Type 0} (h : Here C) (object : ObjectType) (cells vs : List TaggedValue) → AreBlank cells
     → KeepsLaw h.around h.machine [] (creates h object cells vs)
-creates_keeps h object cells vs held = by_space h object cells vs (has_space h cells) held
+creates_keeps h object cells vs blank = by_space h object cells vs (has_space h cells) blank
 
 array_keeps : {C : Type 0} (h : Here C) (object : ObjectType) (v : TaggedValue) (count : ℕ) (vs : List TaggedValue)
-    → ((heap : Heap TaggedValue) → may_be_held heap v ≡ true) → KeepsLaw h.around h.machine [] (creates_array h object v count vs)
-array_keeps h object v count vs held = search (arith, at_require, not, int_lt, creates_keeps, replicate, all_replicate)
+    → is_blank v ≡ true → KeepsLaw h.around h.machine [] (creates_array h object v count vs)
+array_keeps h object v count vs blank = search (arith, at_require, not, int_lt, creates_keeps, replicate, all_replicate)
 
 at_class : {C : Type 0} {around : Surroundings C} {m : Machine C} {before : List Touch} (h : Here C) (index : ℕ)
     (go : ClassName → Stepped C)
@@ -127,13 +127,12 @@ create_keeps : {C : Type 0} (h : Here C) (creation : Creation) → KeepsLaw h.ar
 create_keeps h (Creations.Object index) =
     at_class h index _ (λ c. at_check (has_objects h.around.world.shapes c) _
     (creates_keeps h (Instance c) (cells_of h.around.world.shapes c) h.machine.top.operands
-    (λ heap. cells_held heap h.around.world.shapes c)))
+    (cells_blank h.around.world.shapes c)))
 create_keeps h (Creations.WordArray kind) =
-    at_word h.machine.top.operands _ (λ count vs. array_keeps h (word_array kind) (Word 0) count vs
-    (λ heap. refl))
+    at_word h.machine.top.operands _ (λ count vs. array_keeps h (word_array kind) (Word 0) count vs refl)
 create_keeps h (Creations.ReferenceArray index) =
     at_class h index _ (λ c. at_word h.machine.top.operands _ (λ count vs.
-    array_keeps h (ReferenceArray c) Null count vs (λ heap. refl)))
+    array_keeps h (ReferenceArray c) Null count vs refl))
 
 -- ---- casts
 
@@ -184,7 +183,8 @@ branch_keeps h Conditions.Different offset = search (arith, at_known, branches_s
 -- ---- instructions on references
 
 pub object_keeps : {C : Type 0} (h : Here C) → AreNativesGuarded h.around.natives → (operation : ObjectOperation)
-    → StandsAt h.around h.machine (operations.Object operation) → KeepsLaw h.around h.machine [] (act_object h operation)
+    → StandsAt h.around h.machine (operations.Object operation)
+    → KeepsLaw h.around h.machine [] (act_object h operation)
 unfolding act_object
 object_keeps h natives (Field access index) at = field_keeps h access index at
 object_keeps h natives (Invoke invocation) at = call_keeps h natives invocation

@@ -13,7 +13,7 @@ use Rattle.jc_firewall.specs.declared.access.Verdict.TheVariants.{Allowed, Denie
 use Rattle.jc_store.specs.Heap.{Heap, Object, object_at, with_cell, with_new, with_object}
 use Rattle.jc_store.specs.declared.kind.Mark.TheVariants.{Plain}
 use Rattle.jc_machine.specs.Going.{Here, facts_of, leaves_operands, stored_in, with_heap}
-use Rattle.jc_machine.specs.Guarded.{ChangesAccessed, IsAccessed, IsPlainOf, as_they_were, is_allowed, may_change}
+use Rattle.jc_machine.specs.Guarded.{ChangesAccessed, IsAccessed, IsNewOf, as_they_were, is_allowed, may_change}
 use Rattle.jc_machine.specs.Machine.{Asked, Touch}
 use Rattle.jc_names.specs.declared.owner.Owner.{Owner}
 use Rattle.jc_machine.specs.Natives.{IsStill, KeepsObjects}
@@ -151,7 +151,7 @@ all_stay : (heap : Heap TaggedValue) (new : Object TaggedValue) → KeepsObjects
 all_stay heap new = grind (arith, none-some, is_still, get_first)
 
 pub more_changes : (owner : Owner) (touches : List Touch) (heap : Heap TaggedValue) (new : Object TaggedValue)
-    → IsPlainOf owner new → KeepsHeap owner touches heap (with_new heap new)
+    → IsNewOf owner new → KeepsHeap owner touches heap (with_new heap new)
 more_changes owner touches heap new plain = search (arith, more_changes_only, all_stay, adds_one)
 
 -- ---- what is apart
@@ -181,7 +181,7 @@ stored_apart h number object index v there held = record {
 }
 
 -- a plain object of the owner that is active
-pub new_apart : {C : Type 0} (h : Here C) (new : Object TaggedValue) → IsPlainOf h.machine.top.active new
+pub new_apart : {C : Type 0} (h : Here C) (new : Object TaggedValue) → IsNewOf h.machine.top.active new
     → AllByRecursion (λ (v : TaggedValue). may_be_held (with_new h.machine.heap new) v ≡ true) new.cells
     → LeadsApart h.around h.machine (with_heap h.machine (with_new h.machine.heap new))
 new_apart h new plain held = record {

@@ -1,5 +1,6 @@
 -- In a world methods that aren't abstract have code.
-use Rattle.std.proofs.Common.{◌≡◌, ℕ, zero, suc, ◌+◌, ◌<◌, ◌==◌, Bool, true, cond, List, [], ◌∷◌, length, Option, Some, None}
+use Rattle.std.proofs.Common.{◌≡◌, ℕ, zero, suc, ◌+◌, ◌<◌, ◌==◌, Bool, true, cond, List, [], ◌∷◌, length, Option, Some}
+use Rattle.std.proofs.Common.{None}
 use Rattle.std.proofs.Common.{refl, sym, ap, ◌∙◌, subst, arith, slice_get}
 use Rattle.std.proofs.lemmas.Bool.{eq-eqb, le-ltb}
 use Rattle.std.specs.List.{find}
@@ -70,7 +71,8 @@ have_code w is place d header at its concrete = by_number place.number at
         let its_code = known.coded place.offset d
         (ap (λ h. method_at w.shapes (method_name h place.offset)) two ∙ ap (method_at w.shapes) name ∙ at)
         (record { header = header; there = its; concrete = concrete }) in
-        subst (λ o. IsSome (option_and_then (λ (b : LinkedBody). find (λ x. x.offset == place.offset) b.kept.methods) o))
+        subst (λ o. IsSome (option_and_then (λ (b : LinkedBody). find (λ x. x.offset == place.offset) b.kept.methods)
+        o))
         (sym body.1)
         (found (body.0).kept.methods place.offset its_code.place its_code.body its_code.there its_code.offset_is)
       where

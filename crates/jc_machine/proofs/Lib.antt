@@ -32,6 +32,8 @@ mod Unseeing
 mod UnseeingRules
 mod UnseeingCalls
 mod UnseeingSteps
+mod OwningRules
 mod OwningSteps
+mod AccessingRules
 mod AccessingSteps
 mod CatchingThrows

@@ -12,7 +12,7 @@ use Rattle.jc_store.specs.declared.kind.Mark.TheVariants.{Plain}
 use Rattle.jc_machine.specs.Apart.{AreNativesApart, HaveApiMembers, IsApart, IsRuntimes, IsSetApart, SparesPlain}
 use Rattle.jc_machine.specs.Apart.{has_no_code, is_applets}
 use Rattle.jc_machine.specs.Going.{moved, with_top}
-use Rattle.jc_machine.specs.Guarded.{AddsFor, IsPlainOf, KeepsStatics, machine_of}
+use Rattle.jc_machine.specs.Guarded.{AddsFor, IsNewOf, KeepsStatics, machine_of}
 use Rattle.jc_machine.specs.Keeping.{MembersKeep}
 use Rattle.jc_machine.specs.Machine.{Frame, Machine, Stepped, Surroundings, Touch}
 use Rattle.jc_machine.specs.Natives.{KeepsObjects}
@@ -113,7 +113,7 @@ new_only (x ∷ xs) zero new y e f = absurd (none-some x (sym f))
 new_only (x ∷ xs) (suc i) new y e f = new_only xs i new y e f
 
 -- one more is the new one
-pub adds_one : (owner : Owner) (heap : Heap TaggedValue) (new : Object TaggedValue) → IsPlainOf owner new
+pub adds_one : (owner : Owner) (heap : Heap TaggedValue) (new : Object TaggedValue) → IsNewOf owner new
     → AddsFor owner heap (with_new heap new)
 adds_one owner heap new h1 = grind (arith, none-some, new_only)
 

@@ -1,5 +1,6 @@
 -- What is held stays such where objects stay, and so it is with what is stored.
-use Rattle.std.proofs.Common.{◌≡◌, ◌⊎◌, inl, inr, ℕ, zero, suc, ◌==◌, ◌&&◌, ◌||◌, Bool, true, false, cond, not, List, arith}
+use Rattle.std.proofs.Common.{◌≡◌, ◌⊎◌, inl, inr, ℕ, zero, suc, ◌==◌, ◌&&◌, ◌||◌, Bool, true, false, cond, not, List}
+use Rattle.std.proofs.Common.{arith}
 use Rattle.std.proofs.Common.{[], ◌∷◌, ◌++◌, Option, Some, None, refl, sym, ap, ◌∙◌, subst, slice_get, set, map}
 use Rattle.std.proofs.Common.{replicate}
 use Rattle.std.proofs.lemmas.Option.{none-some, same_Some}
@@ -26,7 +27,7 @@ use Rattle.jc_store.specs.declared.kind.ObjectType.{ObjectType}
 use Rattle.jc_machine.specs.Arrays.{stored_as}
 use Rattle.jc_machine.specs.Fields.{with_static, with_value, with_value_in}
 use Rattle.jc_machine.specs.Going.{Here, facts_of, storing}
-use Rattle.jc_machine.specs.Guarded.{is_allowed}
+use Rattle.jc_machine.specs.Guarded.{is_allowed, is_blank}
 use Rattle.jc_machine.specs.Lookup.{is_of_type, leads_to, mark_of, of_package, with_package, fields_of}
 use Rattle.jc_machine.specs.Machine.{StaticValue}
 use Rattle.jc_machine.specs.Natives.{KeepsObjects}
@@ -151,18 +152,28 @@ module _ (heap : Heap TaggedValue) (holds : HoldStorable heap) where
 
 -- ---- what objects hold at first
 
-initial_held : (heap : Heap TaggedValue) (d : DeclaredType ClassName) → may_be_held heap (initial d) ≡ true
-initial_held heap d = grind arith
+initial_blank : (d : DeclaredType ClassName) → is_blank (initial d) ≡ true
+initial_blank d = grind arith
 
-pub cells_held : (heap : Heap TaggedValue) (world : List Shape) (c : ClassName)
-    → AllByRecursion (λ (v : TaggedValue). may_be_held heap v ≡ true) (cells_of world c)
-cells_held heap world c =
-    all_map (λ (v : TaggedValue). may_be_held heap v ≡ true)
+pub cells_blank : (world : List Shape) (c : ClassName)
+    → AllByRecursion (λ (v : TaggedValue). is_blank v ≡ true) (cells_of world c)
+cells_blank world c =
+    all_map (λ (v : TaggedValue). is_blank v ≡ true)
     (λ (field : Option (DeclaredType ClassName)). option_map_or initial field (Word 0)) (fields_of world c) by_field
   where
-    by_field : (field : Option (DeclaredType ClassName))
-        → may_be_held heap (option_map_or initial field (Word 0)) ≡ true
-    by_field field = grind (arith, initial_held)
+    by_field : (field : Option (DeclaredType ClassName)) → is_blank (option_map_or initial field (Word 0)) ≡ true
+    by_field field = grind (arith, initial_blank)
+
+-- zero and null may be held
+blank_held : (heap : Heap TaggedValue) (v : TaggedValue) → is_blank v ≡ true → may_be_held heap v ≡ true
+blank_held heap v h = grind arith
+
+pub blanks_held : (heap : Heap TaggedValue) (cells : List TaggedValue)
+    → AllByRecursion (λ (v : TaggedValue). is_blank v ≡ true) cells
+    → AllByRecursion (λ (v : TaggedValue). may_be_held heap v ≡ true) cells
+blanks_held heap cells h =
+    each_mapped (λ (v : TaggedValue). is_blank v ≡ true) (λ (v : TaggedValue). may_be_held heap v ≡ true) cells
+    (blank_held heap) h
 
 -- ---- static fields
 

@@ -1,5 +1,5 @@
--- No step sees the components of plain objects of a context that isn't active: each test that an instruction makes steps
--- alike on machines that differ there alone.
+-- No step sees the components of plain objects of a context that isn't active: each test that an instruction makes
+-- steps alike on machines that differ there alone.
 use Rattle.std.proofs.Common.{◌≡◌, ◌⊎◌, inl, inr, ℕ, ℤ, pos, negsuc, ◌==◌, ◌&&◌, Bool, true, false, List, [], ◌∷◌}
 use Rattle.std.proofs.Common.{◌++◌, length, nat_lt, Option, Some, None, refl, sym, ap, ◌∙◌, subst, arith, eqb-true}
 use Rattle.std.proofs.lemmas.Bool.{and_parts}
@@ -20,13 +20,13 @@ use Rattle.jc_store.specs.declared.kind.Mark.{Mark}
 use Rattle.jc_store.specs.declared.kind.Mark.TheVariants.{Plain}
 use Rattle.jc_machine.specs.Arrays.{loaded_as, loads}
 use Rattle.jc_machine.specs.Going.{Here, accessed, accessed_to_store, asking, branches, by_verdict, check, facts_in}
-use Rattle.jc_machine.specs.Going.{facts_of, gives, goes_on, goes_to, judged, jumps, leaves_operands, moved, on_object}
-use Rattle.jc_machine.specs.Going.{on_operands, on_reference, on_reference_local, on_some, on_target, on_top, on_word}
-use Rattle.jc_machine.specs.Going.{on_word_local, plain, require, stored_in, storing, stuck, throws, touch_of, touched}
+use Rattle.jc_machine.specs.Going.{facts_of, gives, goes_to, judged, jumps, leaves_operands, moved, on_object}
+use Rattle.jc_machine.specs.Going.{on_reference, on_reference_local, on_some, on_target, on_top, on_word}
+use Rattle.jc_machine.specs.Going.{on_word_local, require, stored_in, storing, stuck, throws, touch_of, touched}
 use Rattle.jc_machine.specs.Going.{with_heap, with_machine, with_top}
 use Rattle.jc_machine.specs.Guarded.{is_allowed}
-use Rattle.jc_machine.specs.Lookup.{is_shared_interface, mark_of, target_at}
-use Rattle.jc_machine.specs.Machine.{Asked, Machine, Next, Outcome, Stepped, Surroundings, Throws, Touch}
+use Rattle.jc_machine.specs.Lookup.{is_shared_interface, target_at}
+use Rattle.jc_machine.specs.Machine.{Asked, Stepped, Touch}
 use Rattle.jc_machine.specs.Runtime.{HasRuntimeObjects, null_pointer_exception, runtime_objects, security_exception}
 use Rattle.jc_machine.specs.Unseen as unseen
 use Rattle.jc_machine.specs.Unseen.{AreAlike, IsAlike, IsSeen, StepsAlike, is_hidden, is_plain, next, stuck_both}
@@ -146,7 +146,8 @@ module _ {C : Type 0} (context : ℕ) (h : Here C) (H K : Heap TaggedValue) (ali
       → StepsAlike context (leaves_operands one operands) (leaves_operands two operands)
   leaves_both operands = goes_both h.next_pc h.machine.top.locals operands
 
-  jumps_both : (to : ℤ) (operands : List TaggedValue) → StepsAlike context (jumps one to operands) (jumps two to operands)
+  jumps_both : (to : ℤ) (operands : List TaggedValue) → StepsAlike context (jumps one to operands)
+      (jumps two to operands)
   jumps_both (pos pc) operands = goes_both pc h.machine.top.locals operands
   jumps_both (negsuc n) operands = both_stuck
 
@@ -235,7 +236,8 @@ module _ {C : Type 0} (context : ℕ) (h : Here C) (H K : Heap TaggedValue) (ali
       (throws_own security_exception refl)
 
   pub at_judged : (asked : Asked) (o : Object TaggedValue) (cells : List TaggedValue) (f g : Option Owner → Stepped C)
-      → (is_allowed (verdict_in first asked o) ≡ true → (switch : Option Owner) → StepsAlike context (f switch) (g switch))
+      → (is_allowed (verdict_in first asked o) ≡ true → (switch : Option Owner)
+      → StepsAlike context (f switch) (g switch))
       → StepsAlike context (judged first asked o f) (judged second asked (with_cells o cells) g)
   at_judged asked o cells f g k =
       subst (λ (v : Verdict). StepsAlike context (judged first asked o f) (by_verdict second asked v g))
@@ -243,12 +245,15 @@ module _ {C : Type 0} (context : ℕ) (h : Here C) (H K : Heap TaggedValue) (ali
       (at_verdict asked (verdict_in first asked o) f g k)
 
   pub at_accessed : (access : Access) (n : ℕ) (o : Object TaggedValue) (cells : List TaggedValue) (s t : Stepped C)
-      → StepsAlike context s t → StepsAlike context (accessed first access n o s) (accessed second access n (with_cells o cells) t)
-  at_accessed access n o cells s t k = at_judged (asking access n) o cells (λ switch. s) (λ switch. t) (λ fine switch. k)
+      → StepsAlike context s t → StepsAlike context (accessed first access n o s)
+      (accessed second access n (with_cells o cells) t)
+  at_accessed access n o cells s t k = at_judged (asking access n) o cells (λ switch. s) (λ switch. t)
+      (λ fine switch. k)
 
   pub at_stored : (access : Access) (n : ℕ) (o : Object TaggedValue) (cells : List TaggedValue) (v : TaggedValue)
       (s t : Stepped C) → StepsAlike context s t
-      → StepsAlike context (accessed_to_store first access n o v s) (accessed_to_store second access n (with_cells o cells) v t)
+      → StepsAlike context (accessed_to_store first access n o v s)
+      (accessed_to_store second access n (with_cells o cells) v t)
   at_stored access n o cells v s t k =
       at_judged (storing access n v) o cells (λ switch. s) (λ switch. t) (λ fine switch. k)
 
@@ -263,13 +268,15 @@ module _ {C : Type 0} (context : ℕ) (h : Here C) (H K : Heap TaggedValue) (ali
       at_judged (asking access n) o cells (λ switch. f o) (λ switch. g (with_cells o cells)) (λ fine switch.
       subst (λ (cs : List TaggedValue). StepsAlike context (f o) (g (with_cells o cs)))
       (a.seen (unhidden context h.machine.top.active.context (facts_of first (asking access n) o)
-      (own_object access h.machine.top.active.context (facts_of first (asking access n) o) written fine) applet other)) k)
+      (own_object access h.machine.top.active.context (facts_of first (asking access n) o) written fine) applet other))
+      k)
 
   -- an object that is thrown in a context that isn't hidden isn't hidden
   pub at_thrown : (h.machine.top.active.context ≡ runtime_context → ⊥)
       → (h.machine.top.active.context ≡ context → ⊥) → (n : ℕ) (o : Object TaggedValue) (cells : List TaggedValue)
       → object_at H n ≡ Some o
-      → StepsAlike context (accessed first Throw n o (throws first n)) (accessed second Throw n (with_cells o cells) (throws second n))
+      → StepsAlike context (accessed first Throw n o (throws first n))
+      (accessed second Throw n (with_cells o cells) (throws second n))
   at_thrown applet other n o cells found =
       at_judged (asking Throw n) o cells (λ switch. throws first n) (λ switch. throws second n) (λ fine switch.
       throws_both context h H K alike n (λ p e.
@@ -285,7 +292,8 @@ pub stored_both : {C : Type 0} (context : ℕ) (h : Here C) (H K : Heap TaggedVa
     → StepsAlike context (leaves_operands (stored_in (at_heap h H) n o index v) vs)
     (leaves_operands (stored_in (at_heap h K) n (with_cells o cells) index v) vs)
 stored_both context h H K alike n o cells index v vs a =
-    leaves_both context h (with_object H n (with_cell o index v)) (with_object K n (with_cell (with_cells o cells) index v))
+    leaves_both context h (with_object H n (with_cell o index v))
+    (with_object K n (with_cell (with_cells o cells) index v))
     (with_both context H K alike n (with_cell o index v) (with_cell (with_cells o cells) index v)
     (cell_both context o (with_cells o cells) a index v)) vs
 

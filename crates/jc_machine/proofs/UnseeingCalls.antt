@@ -1,18 +1,14 @@
 -- Calls, returns, native members, and a whole step: none sees the components of plain objects of a context that isn't
 -- active.
-use Rattle.std.proofs.Common.{◌≡◌, ℕ, ℤ, ◌+◌, ◌-◌, ◌==◌, ◌&&◌, Bool, true, false, cond, not, List, ◌∷◌, [], length, take}
-use Rattle.std.proofs.Common.{drop, reverse, max, nat_le, nat_lt, Option, Some, None, refl, sym, ap, ◌∙◌, subst}
-use Rattle.std.proofs.Common.{slice_get, slice_set, arith}
+use Rattle.std.proofs.Common.{◌≡◌, ℕ, ℤ, ◌+◌, ◌-◌, ◌&&◌, Bool, true, false, cond, not, List, ◌∷◌, [], length, take}
+use Rattle.std.proofs.Common.{drop, reverse, nat_le, nat_lt, Option, Some, None, refl, sym, ap, ◌∙◌, subst}
+use Rattle.std.proofs.Common.{slice_get, slice_set}
 use Rattle.std.specs.List.{list_all}
-use Rattle.std.specs.Option.{option_and_then, option_map, option_map_or}
+use Rattle.std.specs.Option.{option_and_then, option_map_or}
 use Rattle.jc_base.specs.Signature.{Signature}
-use Rattle.jc_base.specs.declared.declared_type.DeclaredType.{DeclaredType}
-use Rattle.jc_link.specs.MemberType.{declared_type_of}
-use Rattle.jc_link.specs.Named.{is_concrete}
 use Rattle.jc_cap.specs.declared.handler.Handler.{Handler}
-use Rattle.jc_cap.specs.declared.method_header.MethodHeader.{MethodHeader}
-use Rattle.jc_cap_desc.specs.Shape.{MethodBody, Shape}
-use Rattle.jc_classes.specs.Members.{DeclaredMethod, method_at}
+use Rattle.jc_cap_desc.specs.Shape.{MethodBody}
+use Rattle.jc_classes.specs.Members.{DeclaredMethod}
 use Rattle.jc_classes.specs.Methods.{interface_method_of, virtual_method_of}
 use Rattle.jc_code.specs.declared.instr.Operation.{Operation}
 use Rattle.jc_code.specs.declared.instr.Operation.TheVariants as operations
@@ -36,8 +32,6 @@ use Rattle.jc_effects.specs.Objects.{class_target, has_objects, interface_method
 use Rattle.jc_firewall.specs.Verdict.{runtime_context}
 use Rattle.jc_firewall.specs.declared.access.Access.{Access}
 use Rattle.jc_firewall.specs.declared.access.Access.TheVariants as accesses
-use Rattle.jc_link.specs.Linked.{World}
-use Rattle.jc_names.specs.Names.{home_at}
 use Rattle.jc_names.specs.declared.name.ClassName.{ClassName}
 use Rattle.jc_names.specs.declared.name.MethodName.{MethodName}
 use Rattle.jc_names.specs.declared.name.MethodName.TheVariants.{Api, Loaded}
@@ -47,45 +41,48 @@ use Rattle.jc_store.specs.declared.kind.ObjectType.TheVariants.{Instance, Refere
 use Rattle.jc_machine.specs.Arrays.{is_there}
 use Rattle.jc_machine.specs.Calls.{MethodTarget, VirtualTarget, accepts, act_call, act_interface, act_of_interface}
 use Rattle.jc_machine.specs.Calls.{act_special, act_static_call, act_virtual, after_native, called_as, callback_fits}
-use Rattle.jc_machine.specs.Calls.{calls_back, active_in, entered, enters, found_for, frame_of, has_interface, has_room}
+use Rattle.jc_machine.specs.Calls.{calls_back, entered, enters, found_for, has_interface, has_room}
 use Rattle.jc_machine.specs.Calls.{inner_native_ends, invokes, is_in_place_of, native_answer, native_call, native_ends}
-use Rattle.jc_machine.specs.Calls.{native_gives, native_may_begin, native_type, on_native, previous_in, special_target}
+use Rattle.jc_machine.specs.Calls.{native_gives, native_may_begin, native_type, on_native, special_target}
 use Rattle.jc_machine.specs.Calls.{static_target, takes, type_of_member, virtual_member, virtual_target, with_arguments}
 use Rattle.jc_machine.specs.Calls.{with_given, with_receiver}
-use Rattle.jc_machine.specs.Going.{Here, asking, check, gives, goes_on, leaves_operands, moved, on_operands}
-use Rattle.jc_machine.specs.Going.{judged, on_some, plain, require, stuck, throws, touched, wanting, with_heap, with_machine}
-use Rattle.jc_machine.specs.Lookup.{are_of_instance, are_of_types, class_of, code_at, declared_at, instruction_at}
-use Rattle.jc_machine.specs.Lookup.{is_given, is_object_of, is_of_class, is_throwable, may_begin_with}
-use Rattle.jc_machine.specs.Machine.{Callback, Calls, Ends, Frame, Gives, IsStuck, Machine, MethodPlace, NativeAnswer}
-use Rattle.jc_machine.specs.Machine.{NativeCall, NativeEnd, Natives, Next, Outcome, Stepped, Stuck, Surroundings, Throws}
+use Rattle.jc_machine.specs.Going.{Here, asking, check, moved}
+use Rattle.jc_machine.specs.Going.{judged, on_some, plain, require, throws, touched, wanting, with_heap, with_machine}
+use Rattle.jc_machine.specs.Lookup.{class_of, code_at, declared_at, instruction_at}
+use Rattle.jc_machine.specs.Lookup.{is_given, is_of_class, is_throwable, may_begin_with}
+use Rattle.jc_machine.specs.Machine.{Callback, Calls, Frame, Gives, IsStuck, Machine, MethodPlace, NativeAnswer}
+use Rattle.jc_machine.specs.Machine.{NativeEnd, Next, Outcome, Stepped, Stuck, Surroundings}
 use Rattle.jc_machine.specs.Machine.{ThrowsObject, Touch, UsedUp}
 use Rattle.jc_machine.specs.Apart.{is_applets}
 use Rattle.jc_machine.specs.Calls.{is_member_or_loaded}
-use Rattle.jc_machine.specs.Natives.{AreNativesGuarded, IsGuardedAnswer, shareable_member}
+use Rattle.jc_machine.specs.Natives.{AreNativesGuarded, shareable_member}
 use Rattle.jc_machine.specs.Runtime.{HasRuntimeObjects}
 use Rattle.jc_link.specs.Found.{is_same_return}
 use Rattle.jc_machine.proofs.StayingApart.{applets_not}
 use Rattle.std.proofs.lemmas.Bool.{and_parts}
 use Rattle.std.proofs.Common.{eqb-true}
 use Rattle.jc_machine.specs.Objects.{Test, act_branch, act_check_cast, act_create, act_instance_of, act_object, bit}
-use Rattle.jc_machine.specs.Objects.{cells_of, creates_array, is_array_of_words, is_null, is_same, on_class, on_known}
+use Rattle.jc_machine.specs.Objects.{cells_of, is_null, is_same, on_class, on_known}
 use Rattle.jc_machine.specs.Objects.{on_test, tested, word_array}
 use Rattle.jc_machine.specs.Returns.{pc_behind_call, result_of, resumed, returns, returns_to, room_of, with_result}
 use Rattle.jc_machine.specs.Runtime.{arithmetic_exception, class_cast_exception, negative_size_exception}
-use Rattle.jc_machine.specs.Step.{act, act_at, caught_in, covering, defensive_step, handler_for, here, is_found, settled}
+use Rattle.jc_machine.specs.Step.{act, act_at, caught_in, covering, defensive_step, handler_for, here, is_found}
+use Rattle.jc_machine.specs.Step.{settled}
 use Rattle.jc_machine.specs.Step.{settled_object, through, unwound}
 use Rattle.jc_machine.specs.Unseen as unseen
-use Rattle.jc_machine.specs.Unseen.{AreAlike, AreNativesBlind, ComesAlike, IsAlike, IsBlindAnswer, IsSeen, StepsAlike}
+use Rattle.jc_machine.specs.Unseen.{AreAlike, AreNativesBlind, ComesAlike, IsBlindAnswer, IsSeen, StepsAlike}
 use Rattle.jc_machine.specs.Unseen.{next, stuck_both}
 use Rattle.jc_machine.specs.Words.{act_word, on_result, shuffled}
-use Rattle.jc_words.specs.Shorts.{binary_of, holds, lookup_offset, short, stable_offset}
-use Rattle.jc_words.specs.Values.{Null, Ref, TaggedValue, Unset, Word, all_written}
-use Rattle.jc_machine.proofs.Unseeing.{at_check, at_heap, at_judged, at_known, at_object, at_reference, at_reference_local}
+use Rattle.jc_words.specs.Shorts.{binary_of, holds}
+use Rattle.jc_words.specs.Values.{Null, Ref, TaggedValue, Unset, Word}
+use Rattle.jc_machine.proofs.Unseeing.{at_check, at_heap, at_judged, at_known, at_object, at_reference}
+use Rattle.jc_machine.proofs.Unseeing.{at_reference_local}
 use Rattle.jc_machine.proofs.Unseeing.{at_require, at_same, at_some, at_target, at_word, at_word_local, behind}
 use Rattle.jc_machine.proofs.Unseeing.{both_stuck, branches_both, gives_both, goes_both, leaves_both, throws_both}
 use Rattle.jc_machine.proofs.Unseeing.{throws_own}
 use Rattle.jc_machine.proofs.Staying.{they_stay}
-use Rattle.jc_machine.proofs.AlikeLaws.{AlikeAt, as_cells, at_alike, begins_both, given_both, leads_both, native_begins_both}
+use Rattle.jc_machine.proofs.AlikeLaws.{AlikeAt, as_cells, at_alike, begins_both, given_both, leads_both}
+use Rattle.jc_machine.proofs.AlikeLaws.{native_begins_both}
 use Rattle.jc_machine.proofs.AlikeLaws.{types_both, with_cells}
 use Rattle.jc_machine.proofs.UnseeingRules.{creates_both, field_both, length_both, load_both, store_both, throw_both}
 
@@ -215,8 +212,10 @@ module _ {C : Type 0} (context : ℕ) (h : Here C) (H K : Heap TaggedValue) (ali
   tested_both access type (Word n) s t f g k l = both_stuck
   tested_both access type (Ref n) s t f g k l =
       at_test type _ _ (λ test. at_object context h H K alike own (Ref n)
-      (λ number object. judged one (wanting access number test.wanted) object (λ switch. f (test.passes object.kind.object)))
-      (λ number object. judged two (wanting access number test.wanted) object (λ switch. g (test.passes object.kind.object)))
+      (λ number object. judged one (wanting access number test.wanted) object
+      (λ switch. f (test.passes object.kind.object)))
+      (λ number object. judged two (wanting access number test.wanted) object
+      (λ switch. g (test.passes object.kind.object)))
       (λ number o cells a.
       at_judged context h H K alike own (wanting access number test.wanted) o cells _ _
       (λ fine switch. l (test.passes o.kind.object))))
@@ -238,7 +237,8 @@ module _ {C : Type 0} (context : ℕ) (h : Here C) (H K : Heap TaggedValue) (ali
   create_both : (creation : Creation) → StepsAlike context (act_create one creation) (act_create two creation)
   create_both (Creations.Object index) =
       at_class index _ _ (λ c. at_check (has_objects h.around.world.shapes c) _ _
-      (creates_both context h H K alike own applet other (Instance c) (cells_of h.around.world.shapes c) h.machine.top.operands))
+      (creates_both context h H K alike own applet other (Instance c) (cells_of h.around.world.shapes c)
+      h.machine.top.operands))
   create_both (Creations.WordArray kind) =
       at_word h.machine.top.operands _ _ (λ count vs.
       at_require context h H K alike own negative_size_exception refl _ _ _
@@ -257,7 +257,8 @@ module _ {C : Type 0} (context : ℕ) (h : Here C) (H K : Heap TaggedValue) (ali
   abbrev second : Here C
   second = at_heap h K
 
-  accepts_both : (place : MethodPlace) (values : List TaggedValue) → accepts first place values ≡ accepts second place values
+  accepts_both : (place : MethodPlace) (values : List TaggedValue)
+      → accepts first place values ≡ accepts second place values
   accepts_both place values = by_method (declared_at h.around.world place)
     where
       by_method : (o : Option DeclaredMethod)
@@ -268,7 +269,8 @@ module _ {C : Type 0} (context : ℕ) (h : Here C) (H K : Heap TaggedValue) (ali
 
   entered_both : (f : Frame) (max_stack : ℕ) (operands : List TaggedValue)
       → StepsAlike context (entered first f max_stack operands) (entered second f max_stack operands)
-  entered_both f max_stack operands = by_room (has_room h.around (h.machine.top ∷ h.machine.waiting) (length f.locals + max_stack))
+  entered_both f max_stack operands = by_room (has_room h.around (h.machine.top ∷ h.machine.waiting)
+      (length f.locals + max_stack))
     where
       above : Heap TaggedValue → Machine C
       above heap = record {
@@ -286,10 +288,12 @@ module _ {C : Type 0} (context : ℕ) (h : Here C) (H K : Heap TaggedValue) (ali
       by_room false = record { touches = refl; outcome = unseen.used_up (with_heap h.machine H) K alike }
 
   enters_both : (switch : Option Owner) (place : MethodPlace) (arguments operands : List TaggedValue)
-      → StepsAlike context (enters first switch place arguments operands) (enters second switch place arguments operands)
+      → StepsAlike context (enters first switch place arguments operands)
+      (enters second switch place arguments operands)
   enters_both switch place arguments operands =
       at_some (option_and_then (λ d. d.method.header) (declared_at h.around.world place)) _ _ (λ header.
-      at_same (takes header arguments && accepts first place arguments) (takes header arguments && accepts second place arguments) _ _
+      at_same (takes header arguments && accepts first place arguments) (takes header arguments && accepts second place
+      arguments) _ _
       (ap (λ (b : Bool). takes header arguments && b) (accepts_both place arguments))
       (entered_both _ header.max_stack operands))
 
@@ -312,7 +316,8 @@ keeping h runtime = with_machine h (record {
 
 after_both : {C : Type 0} (context : ℕ) (h : Here C) (H K : Heap TaggedValue) (a b : NativeAnswer C)
     → IsBlindAnswer context a b → (P : Here C → NativeEnd → Stepped C)
-    → StepsAlike context (P (at_heap (keeping h a.runtime) a.heap) a.ends) (P (at_heap (keeping h a.runtime) b.heap) a.ends)
+    → StepsAlike context (P (at_heap (keeping h a.runtime) a.heap) a.ends)
+    (P (at_heap (keeping h a.runtime) b.heap) a.ends)
     → StepsAlike context (P (after_native (at_heap h H) a) a.ends) (P (after_native (at_heap h K) b) b.ends)
 after_both {C = C} context h H K a b same P k =
     subst (λ (r : C). StepsAlike context (P (at_heap (keeping h a.runtime) a.heap) a.ends)
@@ -325,14 +330,16 @@ abbrev ThrowsSeen : ℕ → Heap TaggedValue → NativeEnd → Type 0
 ThrowsSeen context heap ends = (number : ℕ) → ends ≡ ThrowsObject number → IsSeen context heap number
 
 native_both : {C : Type 0} (context : ℕ) (h : Here C) (H K : Heap TaggedValue) → AreAlike context H K
-    → HasRuntimeObjects H → AreNativesGuarded h.around.natives → (active : Owner) (previous : Option Owner) (member : ℕ) (arguments : List TaggedValue)
+    → HasRuntimeObjects H → AreNativesGuarded h.around.natives
+    → (active : Owner) (previous : Option Owner) (member : ℕ) (arguments : List TaggedValue)
     → (go : Here C → Signature ClassName → NativeEnd → Stepped C)
     → IsBlindAnswer context (native_answer (at_heap h H) active previous member arguments)
     (native_answer (at_heap h K) active previous member arguments)
     → ((H2 K2 : Heap TaggedValue) (runtime : C) → AreAlike context H2 K2 → HasRuntimeObjects H2
     → (signature : Signature ClassName) (ends : NativeEnd)
     → (native_answer (at_heap h H) active previous member arguments).ends ≡ ends → ThrowsSeen context H2 ends
-    → StepsAlike context (go (at_heap (keeping h runtime) H2) signature ends) (go (at_heap (keeping h runtime) K2) signature ends))
+    → StepsAlike context (go (at_heap (keeping h runtime) H2) signature ends)
+    (go (at_heap (keeping h runtime) K2) signature ends))
     → StepsAlike context (on_native (at_heap h H) active previous member arguments go)
     (on_native (at_heap h K) active previous member arguments go)
 native_both context h H K alike own guarded active previous member arguments go same k =
@@ -459,7 +466,8 @@ module _ {C : Type 0} (context : ℕ) (h : Here C) (H K : Heap TaggedValue) (ali
       (native_call h.around (with_heap h.machine H) h.machine.top.active h.machine.top.previous member arguments) K
       rely.own rely.applet rely.other alike)
       (λ H2 K2 runtime alike2 own2 signature ends e seen.
-      ends_both operands (keeping h runtime) rely.guarded rely.blind H2 K2 alike2 own2 signature ends seen (λ callback f.
+      ends_both operands (keeping h runtime) rely.guarded rely.blind H2 K2 alike2 own2 signature ends seen
+      (λ callback f.
       (rely.guarded h.around.world
       (native_call h.around (with_heap h.machine H) h.machine.top.active h.machine.top.previous member arguments)).asks
       callback (e ∙ f)))
@@ -489,10 +497,12 @@ module _ {C : Type 0} (context : ℕ) (h : Here C) (H K : Heap TaggedValue) (ali
   virtual_both target =
       receiver_both target.signature
       (λ arguments number object operands. check (is_of_class h.around.world.shapes target.class object.kind.object)
-      (judged (at_heap h H) (asking accesses.InvokeVirtual number) object (λ switch. on_some (found_for h target.token object)
+      (judged (at_heap h H) (asking accesses.InvokeVirtual number) object
+      (λ switch. on_some (found_for h target.token object)
       (λ method. invokes (at_heap h H) switch method arguments operands))))
       (λ arguments number object operands. check (is_of_class h.around.world.shapes target.class object.kind.object)
-      (judged (at_heap h K) (asking accesses.InvokeVirtual number) object (λ switch. on_some (found_for h target.token object)
+      (judged (at_heap h K) (asking accesses.InvokeVirtual number) object
+      (λ switch. on_some (found_for h target.token object)
       (λ method. invokes (at_heap h K) switch method arguments operands))))
       (λ arguments n o cells operands.
       at_check (is_of_class h.around.world.shapes target.class o.kind.object) _ _
@@ -521,17 +531,21 @@ module _ {C : Type 0} (context : ℕ) (h : Here C) (H K : Heap TaggedValue) (ali
       (act_of_interface (at_heap h K) interface token signature)
   of_interface_both interface token signature =
       receiver_both signature
-      (λ arguments number object operands. judged (at_heap h H) (wanting accesses.InvokeInterface number (Some interface)) object (λ switch.
+      (λ arguments number object operands. judged (at_heap h H)
+      (wanting accesses.InvokeInterface number (Some interface)) object (λ switch.
       require (at_heap h H) class_cast_exception (has_interface h.around.world.shapes interface object)
       (on_some (interface_method_of h.around.world.shapes (class_of object.kind.object) interface token)
       (λ method. invokes (at_heap h H) switch method arguments operands))))
-      (λ arguments number object operands. judged (at_heap h K) (wanting accesses.InvokeInterface number (Some interface)) object (λ switch.
+      (λ arguments number object operands. judged (at_heap h K)
+      (wanting accesses.InvokeInterface number (Some interface)) object (λ switch.
       require (at_heap h K) class_cast_exception (has_interface h.around.world.shapes interface object)
       (on_some (interface_method_of h.around.world.shapes (class_of object.kind.object) interface token)
       (λ method. invokes (at_heap h K) switch method arguments operands))))
       (λ arguments n o cells operands.
-      at_judged context h H K alike rely.own (wanting accesses.InvokeInterface n (Some interface)) o cells _ _ (λ fine switch.
-      at_require context h H K alike rely.own class_cast_exception refl (has_interface h.around.world.shapes interface o) _ _
+      at_judged context h H K alike rely.own (wanting accesses.InvokeInterface n (Some interface)) o cells _ _
+      (λ fine switch.
+      at_require context h H K alike rely.own class_cast_exception refl
+      (has_interface h.around.world.shapes interface o) _ _
       (at_some (interface_method_of h.around.world.shapes (class_of o.kind.object) interface token) _ _ (λ method.
       invokes_both switch method arguments operands))))
 
@@ -565,15 +579,18 @@ module _ {C : Type 0} (context : ℕ) (h : Here C) (H K : Heap TaggedValue) (ali
   object_both (objects.LoadComponent form) = load_both context h H K alike rely.own isnt_runtime rely.other form
   object_both (objects.StoreComponent form) = store_both context h H K alike rely.own isnt_runtime rely.other form
   object_both objects.ArrayLength = length_both context h H K alike rely.own isnt_runtime rely.other
-  object_both (objects.Branch when offset) = branch_both context h H K alike rely.own isnt_runtime rely.other when offset
-  object_both (objects.Field access index) = field_both context h H K alike rely.own isnt_runtime rely.other access index
+  object_both (objects.Branch when offset) = branch_both context h H K alike rely.own isnt_runtime rely.other when
+      offset
+  object_both (objects.Field access index) = field_both context h H K alike rely.own isnt_runtime rely.other access
+      index
   object_both (objects.Invoke invocation) = call_both invocation
   object_both (objects.Create creation) = create_both context h H K alike rely.own isnt_runtime rely.other creation
   object_both (objects.CheckCast type) = check_cast_both context h H K alike rely.own isnt_runtime rely.other type
   object_both (objects.InstanceOf type) = instance_of_both context h H K alike rely.own isnt_runtime rely.other type
   object_both objects.Throw = throw_both context h H K alike rely.own isnt_runtime rely.other
   object_both objects.ReturnReference =
-      at_reference h.machine.top.operands _ _ (λ v vs. returns_both context h H K alike rely.own isnt_runtime rely.other (Some v))
+      at_reference h.machine.top.operands _ _ (λ v vs. returns_both context h H K alike rely.own isnt_runtime rely.other
+      (Some v))
   object_both objects.ReturnVoid = returns_both context h H K alike rely.own isnt_runtime rely.other None
 
   act_both : (operation : Operation) → StepsAlike context (act (at_heap h H) operation) (act (at_heap h K) operation)
@@ -583,7 +600,8 @@ module _ {C : Type 0} (context : ℕ) (h : Here C) (H K : Heap TaggedValue) (ali
 -- ---- what is thrown, and a step
 
 module _ {C : Type 0} (context : ℕ) (s : Surroundings C) where
-  either_both : (b : Bool) (o p : Outcome C) → ComesAlike context o p → ComesAlike context (cond b o Stuck) (cond b p Stuck)
+  either_both : (b : Bool) (o p : Outcome C) → ComesAlike context o p
+      → ComesAlike context (cond b o Stuck) (cond b p Stuck)
   either_both true o p k = k
   either_both false o p k = stuck_both
 

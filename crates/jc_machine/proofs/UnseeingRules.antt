@@ -1,7 +1,7 @@
 -- Instructions on arrays, fields and objects see no components of plain objects of a context that isn't active.
-use Rattle.std.proofs.Common.{◌≡◌, inl, inr, ℕ, ℤ, suc, ◌+◌, ◌&&◌, Bool, true, false, cond, not, List, ◌∷◌, [], length, map}
-use Rattle.std.proofs.Common.{nat_le, nat_lt, int_lt, pos, replicate, Option, Some, None, refl, sym, ap, ◌∙◌, subst}
-use Rattle.std.proofs.Common.{slice_get, arith}
+use Rattle.std.proofs.Common.{◌≡◌, inl, inr, ℕ, suc, ◌+◌, ◌&&◌, Bool, true, false, cond, not, List, ◌∷◌, [], length}
+use Rattle.std.proofs.Common.{nat_le, nat_lt, int_lt, pos, refl, ap, ◌∙◌, subst}
+use Rattle.std.proofs.Common.{slice_get}
 use Rattle.jc_base.specs.declared.declared_type.DeclaredType.{DeclaredType}
 use Rattle.jc_code.specs.declared.object.FieldAccess.{FieldAccess}
 use Rattle.jc_code.specs.declared.object.FieldAction.{FieldAction}
@@ -11,7 +11,6 @@ use Rattle.jc_code.specs.declared.object.Form.TheVariants as Forms
 use Rattle.jc_code.specs.declared.object.Holder.{Holder}
 use Rattle.jc_code.specs.declared.object.Holder.TheVariants as Holders
 use Rattle.jc_firewall.specs.Verdict.{runtime_context}
-use Rattle.jc_firewall.specs.declared.access.Access.{Access}
 use Rattle.jc_firewall.specs.declared.access.Access.TheVariants as accesses
 use Rattle.jc_link.specs.declared.named.StaticPlace.{StaticPlace}
 use Rattle.jc_names.specs.declared.name.ClassName.{ClassName}
@@ -23,21 +22,21 @@ use Rattle.jc_machine.specs.Arrays.{is_in_bounds, is_there, loads, stored_as}
 use Rattle.jc_machine.specs.Fields.{FieldTarget, InstanceField, act_field, act_get_static, act_instance, act_on_target}
 use Rattle.jc_machine.specs.Fields.{act_put_static, act_static, field_target, gets, of_class, of_objects, on_holder}
 use Rattle.jc_machine.specs.Fields.{put_static, puts, putting, static_at, stored_in_static}
-use Rattle.jc_machine.specs.Going.{Here, accessed, accessed_to_store, gives, leaves_operands, on_object, on_some}
-use Rattle.jc_machine.specs.Going.{require, runtime_touch, stored_in, throws}
-use Rattle.jc_machine.specs.Going.{throws_system, touched, with_heap, with_machine, no_resource, check}
+use Rattle.jc_machine.specs.Going.{Here, accessed, accessed_to_store, gives, on_object, on_some}
+use Rattle.jc_machine.specs.Going.{require, runtime_touch, throws}
+use Rattle.jc_machine.specs.Going.{throws_system, no_resource, check}
 use Rattle.jc_machine.specs.Lookup.{component_class, is_array, is_instance, is_of_class, is_of_type, is_throwable}
-use Rattle.jc_machine.specs.Lookup.{leads_to}
 use Rattle.jc_machine.specs.Machine.{Stepped}
-use Rattle.jc_machine.specs.Objects.{act_throw, creates, creates_array, has_space, made}
-use Rattle.jc_machine.specs.Runtime.{array_index_exception, array_store_exception, negative_size_exception}
+use Rattle.jc_machine.specs.Objects.{act_throw, creates, has_space, made}
+use Rattle.jc_machine.specs.Runtime.{array_index_exception, array_store_exception}
 use Rattle.jc_machine.specs.Runtime.{HasRuntimeObjects, null_pointer_exception, runtime_objects, system_exception}
 use Rattle.jc_machine.specs.Unseen.{AreAlike, IsAlike, StepsAlike}
 use Rattle.jc_words.specs.Shorts.{short}
 use Rattle.jc_words.specs.Values.{Null, Ref, TaggedValue, Unset, Word}
 use Rattle.jc_machine.proofs.Unseeing.{at_accessed, at_check, at_heap, at_known, at_object, at_read, at_reference}
 use Rattle.jc_machine.proofs.Unseeing.{at_reference_local, at_require, at_same, at_same_require, at_some, at_stored}
-use Rattle.jc_machine.proofs.Unseeing.{at_target, at_thrown, at_top, at_word, behind, both_stuck, gives_both, leaves_both}
+use Rattle.jc_machine.proofs.Unseeing.{at_target, at_thrown, at_top, at_word, behind, both_stuck, gives_both}
+use Rattle.jc_machine.proofs.Unseeing.{leaves_both}
 use Rattle.jc_machine.proofs.Unseeing.{loads_both, stored_both, throws_both, throws_own}
 use Rattle.jc_machine.proofs.AlikeLaws.{as_large, as_long, leads_both, new_both, type_both, with_cells, with_both}
 use Rattle.jc_machine.proofs.AlikeLaws.{cell_both, own_seen, seen_still}

@@ -1,6 +1,7 @@
 -- A call of the runtime's, none of whose steps runs in a context, sees no component of a plain object of that context.
-use Rattle.std.proofs.Common.{◌≡◌, ℕ, zero, suc, ◌+◌, ◌==◌, ◌&&◌, Bool, true, false, cond, not, List, [], ◌∷◌, ◌++◌, length}
-use Rattle.std.proofs.Common.{Option, Some, None, refl, sym, ap, ◌∙◌, subst, arith, eq-eqb}
+use Rattle.std.proofs.Common.{◌≡◌, ℕ, zero, suc, ◌+◌, ◌==◌, ◌&&◌, Bool, true, false, cond, not, List, [], ◌∷◌, ◌++◌}
+use Rattle.std.proofs.Common.{length}
+use Rattle.std.proofs.Common.{Option, Some, None, refl, ap, ◌∙◌, subst, arith, eq-eqb}
 use Rattle.std.proofs.lemmas.Bool.{and_parts, both_ways}
 use Rattle.std.specs.Option.{option_map_or}
 use Rattle.jc_base.specs.Signature.{Signature}
@@ -17,12 +18,12 @@ use Rattle.jc_machine.specs.Going.{with_heap}
 use Rattle.jc_machine.specs.Guarded.{machine_of}
 use Rattle.jc_machine.specs.Lookup.{declared_at, is_given, is_throwable, may_begin_with}
 use Rattle.jc_machine.specs.Machine.{Calls, Frame, Gives, IsStuck, Machine, MethodPlace, NativeAnswer, NativeEnd, Next}
-use Rattle.jc_machine.specs.Machine.{Outcome, Stepped, Surroundings, ThrowsObject, Touch}
+use Rattle.jc_machine.specs.Machine.{Outcome, Surroundings, ThrowsObject, Touch}
 use Rattle.jc_machine.specs.Natives.{AreNativesGuarded}
 use Rattle.jc_machine.specs.Step.{Called, Gave, RanOut, Start, Threw, WasStuck, after_first_native, begun, begun_by}
 use Rattle.jc_machine.specs.Step.{called_so_far, continued, defensive_step, ended_by, first_answer, first_native_call}
 use Rattle.jc_machine.specs.Step.{native_called, native_ended, native_gave, native_started, native_threw, no_frame}
-use Rattle.jc_machine.specs.Step.{onward, point_of, ran_in, room_lacking, runtime_call, standing, started, started_by}
+use Rattle.jc_machine.specs.Step.{point_of, ran_in, room_lacking, runtime_call, standing, started, started_by}
 use Rattle.jc_machine.specs.Step.{steps_of}
 use Rattle.jc_machine.specs.Unseen as unseen
 use Rattle.jc_machine.specs.Unseen.{AreAlike, AreNativesBlind, CallsAlike, ComesAlike, EndsAlike, IsBlindAnswer, IsSeen}
@@ -34,7 +35,7 @@ use Rattle.jc_words.specs.Values.{Ref, TaggedValue}
 use Rattle.jc_machine.proofs.GuardingSteps.{steps_stay_apart}
 use Rattle.jc_machine.proofs.AlikeLaws.{begins_both, given_both, leads_both, native_begins_both}
 use Rattle.jc_machine.proofs.StayingApart.{top_is_applets}
-use Rattle.jc_machine.proofs.UnseeingCalls.{IsBlind, steps_are_blind}
+use Rattle.jc_machine.proofs.UnseeingCalls.{steps_are_blind}
 
 outside : (context active : ℕ) → not (active == context) ≡ true → active ≡ context → ⊥
 outside context active e f = both_ways (active == context) (not_true (active == context) e) (eq-eqb active context f)
@@ -68,7 +69,8 @@ module _ {C : Type 0} (context : ℕ) (s : Surroundings C) (guarded : AreNatives
   continued_both go lacking at o p stuck_both k = record { touches = refl; ran = refl; ends = unseen.were_stuck }
 
   -- behind a step
-  ran_both : (active : ℕ) (c d : Called C) → CallsAlike context c d → CallsAlike context (ran_in active c) (ran_in active d)
+  ran_both : (active : ℕ) (c d : Called C) → CallsAlike context c d
+      → CallsAlike context (ran_in active c) (ran_in active d)
   ran_both active c d k =
       record { touches = k.touches; ran = ap (λ (ns : List ℕ). active ∷ ns) k.ran; ends = k.ends }
 
@@ -141,7 +143,8 @@ module _ {C : Type 0} (context : ℕ) (s : Surroundings C) (guarded : AreNatives
       f = frame_of place header start.arguments start.owner None
 
       by_room : (b : Bool)
-          → Both (cond b (steps_of s steps (standing start f)) (ended_by (RanOut (standing start f) (room_lacking s []) None)))
+          → Both (cond b (steps_of s steps (standing start f))
+          (ended_by (RanOut (standing start f) (room_lacking s []) None)))
           (cond b (steps_of s steps (standing other f)) (ended_by (RanOut (standing other f) (room_lacking s []) None)))
       by_room true out =
           steps_alike context s guarded blind keeps apart members steps (standing start f) heap alike
@@ -156,7 +159,8 @@ module _ {C : Type 0} (context : ℕ) (s : Surroundings C) (guarded : AreNatives
       → Both (begun_by s steps start place d o) (begun_by s steps other place d o)
   method_both steps place d None = stuck_both_calls
   method_both steps place d (Some header) =
-      subst (λ (b : Bool). Both (cond (takes header start.arguments && may_begin_with s.world.shapes start.heap d start.arguments)
+      subst (λ (b : Bool). Both (cond (takes header start.arguments && may_begin_with s.world.shapes start.heap d
+      start.arguments)
       (begun s steps start place header) (ended_by WasStuck))
       (cond (takes header start.arguments && b) (begun s steps other place header) (ended_by WasStuck)))
       (begins_both context start.heap heap alike s.world.shapes d start.arguments)
@@ -192,9 +196,11 @@ module _ {C : Type 0} (context : ℕ) (s : Surroundings C) (guarded : AreNatives
 
       by_type : (o : Option (Signature ClassName))
           → EndsAlike context
-          (cond (option_map_or (λ (signature : Signature ClassName). is_given s.world.shapes m.heap signature.result value)
+          (cond (option_map_or (λ (signature : Signature ClassName). is_given s.world.shapes m.heap signature.result
+          value)
           o false) (Gave m value) WasStuck)
-          (cond (option_map_or (λ (signature : Signature ClassName). is_given s.world.shapes heap2 signature.result value)
+          (cond (option_map_or (λ (signature : Signature ClassName). is_given s.world.shapes heap2 signature.result
+          value)
           o false) (Gave (with_heap m heap2) value) WasStuck)
       by_type None = unseen.were_stuck
       by_type (Some signature) =
@@ -210,11 +216,13 @@ module _ {C : Type 0} (context : ℕ) (s : Surroundings C) (guarded : AreNatives
       (by_one (option_map_or (λ o. is_throwable s.world.shapes o.kind.object) (object_at m.heap object) false))
     where
       by_one : (x : Bool)
-          → EndsAlike context (cond x (Threw m object None) WasStuck) (cond x (Threw (with_heap m heap2) object None) WasStuck)
+          → EndsAlike context (cond x (Threw m object None) WasStuck) (cond x (Threw (with_heap m heap2) object None)
+          WasStuck)
       by_one true = unseen.threw m heap2 object None alike2 seen
       by_one false = unseen.were_stuck
 
-  ended_both : (m : Machine C) (heap2 : Heap TaggedValue) (member : ℕ) (ends : NativeEnd) → AreAlike context m.heap heap2
+  ended_both : (m : Machine C) (heap2 : Heap TaggedValue) (member : ℕ) (ends : NativeEnd)
+      → AreAlike context m.heap heap2
       → ((number : ℕ) → ends ≡ ThrowsObject number → IsSeen context m.heap number)
       → EndsAlike context (native_ended s m member ends) (native_ended s (with_heap m heap2) member ends)
   ended_both m heap2 member (Gives value) alike2 seen = gave_both m heap2 member value alike2
@@ -228,7 +236,8 @@ module _ {C : Type 0} (context : ℕ) (s : Surroundings C) (guarded : AreNatives
     touches = same.touches;
     ran = refl;
     ends =
-        subst (λ (r : C). EndsAlike context (native_ended s (after_first_native start (a member)) member (a member).ends)
+        subst (λ (r : C). EndsAlike context (native_ended s (after_first_native start (a member)) member
+        (a member).ends)
         (native_ended s (after_first_native start (record {
           touches = (b member).touches;
           heap = (b member).heap;
@@ -238,10 +247,12 @@ module _ {C : Type 0} (context : ℕ) (s : Surroundings C) (guarded : AreNatives
         (subst (λ (e : NativeEnd). EndsAlike context
         (native_ended s (after_first_native start (a member)) member (a member).ends)
         (native_ended s (with_heap (after_first_native start (a member)) (b member).heap) member e)) same.ends
-        (ended_both (after_first_native start (a member)) (b member).heap member (a member).ends same.heap same.thrown));
+        (ended_both (after_first_native start (a member)) (b member).heap member (a member).ends same.heap
+        same.thrown));
   }
 
-  native_both_calls : (steps member : ℕ) → Both (native_started s steps start member) (native_started s steps other member)
+  native_both_calls : (steps member : ℕ) → Both (native_started s steps start member)
+      (native_started s steps other member)
   native_both_calls zero member = λ out. record {
     touches = refl;
     ran = refl;

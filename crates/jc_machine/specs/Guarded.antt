@@ -35,7 +35,7 @@ use Rattle.jc_machine.specs.Machine.{Asked, By, ByCode, ByRuntime, Callback, Cal
 use Rattle.jc_machine.specs.Machine.{Outcome, Stepped, Stuck, Surroundings, Throws, Touch, UsedUp}
 use Rattle.jc_machine.specs.Runtime.{apdu_buffer, apdu_exception, iso_exception, security_exception, system_exception}
 use Rattle.jc_machine.specs.Step.{defensive_step, settled}
-use Rattle.jc_words.specs.Values.{TaggedValue}
+use Rattle.jc_words.specs.Values.{Null, Ref, TaggedValue, Unset, Word}
 
 -- ---- an access, and what it is judged by
 
@@ -170,15 +170,23 @@ ChangesAccessed active touches before after = (number : ℕ) (o p : Object Tagge
     → object_at before number ≡ Some o → object_at after number ≡ Some p
     → (p.cells ≡ o.cells) ⊎ IsAccessed active touches number o
 
--- a plain object of an owner
-pub record IsPlainOf (owner : Owner) (o : Object TaggedValue) : Type 0 where
+-- what the components of a new object hold: zero, or null
+abbrev pub is_blank : TaggedValue → Bool
+is_blank (Word n) = n == 0
+is_blank (Ref n) = false
+is_blank Null = true
+is_blank Unset = false
+
+-- a new object of an owner: it is plain, and each component is zero or null
+pub record IsNewOf (owner : Owner) (o : Object TaggedValue) : Type 0 where
   pub whose : o.owner ≡ owner
   pub plain : o.kind.mark ≡ Plain
+  pub blank : AllByRecursion (λ (v : TaggedValue). is_blank v ≡ true) o.cells
 
--- objects that weren't there are an owner's, and plain. They may hold anything
+-- objects that weren't there are new ones of an owner
 abbrev pub AddsFor : Owner → Heap TaggedValue → Heap TaggedValue → Type 0
 AddsFor owner before after = (number : ℕ) (o : Object TaggedValue) → object_at after number ≡ Some o
-    → object_at before number ≡ None → IsPlainOf owner o
+    → object_at before number ≡ None → IsNewOf owner o
 
 -- ---- a step
 

@@ -1,7 +1,7 @@
--- As whom code runs, and what becomes of the frames that wait: a step changes the owner that is active by calls, returns
--- and catches alone. A call that switches switches to the owner that the verdict on its access names, or to the owner of
--- the object that a native member asks for a shareable object (Java Card Runtime Environment Specification, Contexts and
--- Context Switching).
+-- As whom code runs, and what becomes of the frames that wait: a step changes the owner that is active by calls,
+-- returns and catches alone. A call that switches switches to the owner that the verdict on its access names, or to the
+-- owner of the object that a native member asks for a shareable object (Java Card Runtime Environment Specification,
+-- Contexts and Context Switching).
 use Rattle.std.specs.Prelude.{⊤, ◌≡◌, ℕ, List, [], ◌∷◌, drop, Option, Some, None, unwrap_or}
 use Rattle.jc_firewall.specs.declared.access.Verdict.{Verdict}
 use Rattle.jc_firewall.specs.declared.access.Verdict.TheVariants.{Allowed, AllowedSwitch, Denied}

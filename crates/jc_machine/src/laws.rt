@@ -77,9 +77,10 @@ pub fn runtime_objects_stay()
 /// The firewall judges each, by what the access stores and what it wants. It is allowed, or it is the last, and then
 /// the security exception is thrown from the machine as it was. Components change only of objects of which an allowed
 /// access is listed by which they may change; those of a plain object in its own context alone, or by the runtime. Each
-/// object stays, of the same kind, owner and size; one that is new is plain, and of the owner that is active. Static
-/// fields stay too, but for the one that a putstatic names by its package's constant pool: its own, or one that another
-/// package exports. What the runtime keeps may be of any type. It does nothing.
+/// object stays, of the same kind, owner and size; one that is new is plain, of the owner that is active, and its
+/// components are zero or null. Static fields stay too, but for the one that a putstatic names by its package's
+/// constant pool: its own, or one that another package exports. What the runtime keeps may be of any type. It does
+/// nothing.
 pub fn accesses_are_guarded<N: Natives>(_natives: &N)
     ensures guarded { (s : Surroundings N.Kept) → AreNativesGuarded s.natives → (m : Machine N.Kept) → IsGuarded s m }
     ensures denied { (s : Surroundings N.Kept) → AreNativesGuarded s.natives → (m : Machine N.Kept)
@@ -131,8 +132,8 @@ pub fn throws_are_caught<N: Natives>(_natives: &N)
 {}
 
 /// No step of a frame in another context, and no call of the runtime's of whose steps none runs in that context, sees
-/// the components of a context's plain objects. On objects that differ there alone it makes the same accesses, and comes
-/// to the same but for these. It does nothing.
+/// the components of a context's plain objects. On objects that differ there alone it makes the same accesses, and
+/// comes to the same but for these. It does nothing.
 pub fn contents_are_unseen<N: Natives>(_natives: &N)
     ensures steps { (context : ℕ) (s : Surroundings N.Kept) → AreNativesGuarded s.natives → AreNativesBlind s.natives
         → (m : Machine N.Kept) → HasRuntimeObjects m.heap → is_applets m.top.active ≡ true

@@ -15,11 +15,13 @@ put_both context os ps a n i v = by_objects (object_at os n) (object_at ps n) (a
         → AreAlike context (option_map_or (λ (o : Object TaggedValue). with_object os n (with_cell o i v)) x os)
         (option_map_or (λ (o : Object TaggedValue). with_object ps n (with_cell o i v)) y ps)
     by_objects None None b = a
-    by_objects (Some o) (Some p) b = with_both context os ps a n (with_cell o i v) (with_cell p i v) (cell_both context o p b i v)
+    by_objects (Some o) (Some p) b = with_both context os ps a n (with_cell o i v) (with_cell p i v)
+        (cell_both context o p b i v)
     by_objects None (Some p) b = absurd b
     by_objects (Some o) None b = absurd b
 
-pub put_all_both : (context : ℕ) (os ps : Heap TaggedValue) → AreAlike context os ps → (n from : ℕ) (vs : List TaggedValue)
+pub put_all_both : (context : ℕ) (os ps : Heap TaggedValue) → AreAlike context os ps
+    → (n from : ℕ) (vs : List TaggedValue)
     → AreAlike context (put_all os n from vs) (put_all ps n from vs)
 put_all_both context os ps a n from [] = a
 put_all_both context os ps a n from (v ∷ vs) =

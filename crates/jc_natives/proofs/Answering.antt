@@ -9,19 +9,21 @@ use Rattle.jc_api.specs.Numbered.{numbered}
 use Rattle.jc_firewall.specs.declared.access.Verdict.{Verdict}
 use Rattle.jc_link.specs.Linked.{World}
 use Rattle.jc_machine.specs.Calls.{native_may_begin}
-use Rattle.jc_machine.specs.Guarded.{AreGuarded, ChangesAccessed, allowed, are_allowed, denied, AddsFor, IsJudged}
+use Rattle.jc_machine.specs.Guarded.{AreGuarded, ChangesAccessed, allowed, are_allowed, denied, is_blank, AddsFor}
+use Rattle.jc_machine.specs.Guarded.{IsJudged}
 use Rattle.jc_machine.specs.Machine.{ByRuntime, Callback, Calls, IsStuck, NativeCall, NativeEnd, ThrowsObject, Touch}
 use Rattle.jc_machine.specs.Natives.{IsGuardedAnswer, IsModest, IsOfReceiver, IsRefusedAnswer, IsWithin, KeepsObjects}
 use Rattle.jc_machine.specs.Natives.{setting_for, shareable_member, IsUnchanged}
 use Rattle.jc_machine.specs.Runtime.{security_exception, system_exception}
 use Rattle.jc_natives.specs.Cells.{Write, has_room, written}
 use Rattle.jc_natives.specs.Kept.{Kept}
-use Rattle.jc_natives.specs.Meaning.{answer_of, array_or_refusal, did, done, end_of, made, meaning, new_array}
+use Rattle.jc_natives.specs.Meaning.{answer_of, array_or_refusal, blank_of, did, done, end_of, made, meaning, new_array}
 use Rattle.jc_natives.specs.Meaning.{own_touches, registering, unchanged, with_room}
 use Rattle.jc_natives.specs.Members.{natives}
 use Rattle.jc_natives.specs.PrivateCells.{argument}
 use Rattle.jc_natives.specs.PrivateMeaning.{answer_on_words, begun_on_words, ended_on_words, work_of}
 use Rattle.jc_natives.specs.PrivateMeaning.{row_of}
+use Rattle.jc_natives.specs.declared.native.Elements.{Elements}
 use Rattle.jc_natives.specs.PrivateSeen.{Seen, arguments_of, seen_of}
 use Rattle.jc_natives.specs.PrivateTests.{Tested, by_verdict, followed, on_object, tested, used}
 use Rattle.jc_natives.specs.Work.{Asks, Does, Ending, Makes, NewArray, Throws, Work, no_transient_space}
@@ -31,7 +33,7 @@ use Rattle.jc_store.specs.Heap.{Heap, Object, object_at, with_new}
 use Rattle.jc_words.specs.Values.{TaggedValue, Word, Ref}
 use Rattle.jc_machine.specs.Machine.{Gives, NativeAnswer}
 use Rattle.jc_natives.proofs.Alike.{IsLike, alike, answers_alike, stops}
-use Rattle.jc_natives.proofs.Guarding.{ArePlaced, IsPlaced, IsUse, Refuses, all_both, allowed_both}
+use Rattle.jc_natives.proofs.Guarding.{ArePlaced, IsPlaced, IsUse, Refuses, all_both, all_replicate, allowed_both}
 use Rattle.jc_natives.proofs.Guarding.{changes_accessed, got_front, keeps_itself, keeps_new, keeps_written, made_within}
 use Rattle.jc_natives.proofs.Guarding.{natives_of, own_allowed, own_natives, same_found, tested_uses, written_as_large}
 use Rattle.jc_natives.proofs.Reaching.{row_reaches}
@@ -59,6 +61,10 @@ last_is (z ∷ xs) x y (suc n) e f = last_is xs x y n e f
 pub new_is : (heap : Heap TaggedValue) (x y : Object TaggedValue) (number : ℕ) → object_at (with_new heap x) number ≡ Some y
     → object_at heap number ≡ None → y ≡ x
 new_is heap x y number h1 h2 = grind (arith, none-some, last_is)
+
+-- the components of a new array are zero or null
+are_blank : (elements : Elements) → is_blank (blank_of elements) ≡ true
+are_blank elements = grind arith
 
 -- ---- answers
 
@@ -137,6 +143,11 @@ module _ (w : World) (call : NativeCall Kept) where
         let same = new_is call.heap (new_array call.active array) o number found none in record {
           whose = ap (λ (x : Object TaggedValue). x.owner) same;
           plain = ap (λ (x : Object TaggedValue). x.kind.mark) same;
+          blank =
+              subst (λ (x : Object TaggedValue). AllByRecursion (λ (v : TaggedValue). is_blank v ≡ true) x.cells)
+              (sym same)
+              (all_replicate (λ (v : TaggedValue). is_blank v ≡ true) array.size (blank_of array.elements)
+              (are_blank array.elements));
         };
     room = λ within. made_within call.limits call.heap (new_array call.active array) array.size
         (length-replicate array.size _) room;

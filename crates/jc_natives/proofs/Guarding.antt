@@ -1,7 +1,7 @@
 -- The law of accesses: what members access is judged, and only what was accessed changes.
 use Rattle.std.proofs.Common.{◌≡◌, ◌≢◌, ◌⊎◌, inl, inr, ℕ, zero, suc, ◌+◌, ◌==◌, ◌&&◌, ◌||◌, Bool, true, false, cond}
 use Rattle.std.proofs.Common.{List, [], ◌∷◌, ◌++◌, length, map, set, slice_get, nat_le, nat_lt, Option, Some, None}
-use Rattle.std.proofs.Common.{refl, sym, ap, subst, ◌∙◌, arith, length-append}
+use Rattle.std.proofs.Common.{refl, sym, ap, subst, ◌∙◌, arith, length-append, replicate}
 use Rattle.std.proofs.lemmas.Bool.{eq-eqb, eqb-true, leb-true, ltb-true}
 use Rattle.std.proofs.lemmas.List.{length-set}
 use Rattle.std.proofs.lemmas.Option.{none-some, same_Some}
@@ -56,6 +56,10 @@ denied_behind (x ∷ []) (y ∷ ys) e f = grind (arith, both)
 denied_behind (x ∷ z ∷ xs) ys e f =
     let b = both (is_allowed x.verdict) (are_allowed (z ∷ xs)) e in
     ap (λ a. a && is_last_denied (z ∷ xs ++ ys)) b.0 ∙ denied_behind (z ∷ xs) ys b.1 f
+
+pub all_replicate : {A : Type 0} (P : A → Type 0) (count : ℕ) (x : A) → P x → AllByRecursion P (replicate count x)
+all_replicate P zero x p = tt
+all_replicate P (suc n) x p = (p, all_replicate P n x p)
 
 pub all_both : {A : Type 0} (P : A → Type 0) (xs ys : List A) → AllByRecursion P xs → AllByRecursion P ys
     → AllByRecursion P (xs ++ ys)

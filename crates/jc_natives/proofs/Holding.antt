@@ -1,5 +1,5 @@
 -- What members write holds no reference that may not be stored: it is words.
-use Rattle.std.proofs.Common.{◌≡◌, ◌≢◌, ◌⊎◌, ℕ, zero, suc, ◌+◌, true, List, [], ◌∷◌, map, replicate, set, arith}
+use Rattle.std.proofs.Common.{◌≡◌, ◌≢◌, ◌⊎◌, ℕ, zero, suc, ◌+◌, true, List, [], ◌∷◌, map, set, arith}
 use Rattle.std.proofs.Common.{Option, Some, None, refl, sym, subst}
 use Rattle.std.proofs.lemmas.Option.{none-some}
 use Rattle.std.specs.List.{AllByRecursion}
@@ -8,7 +8,7 @@ use Rattle.jc_machine.specs.Storable.{HoldStorable, may_be_held}
 use Rattle.jc_names.specs.declared.owner.Owner.{Owner}
 use Rattle.jc_natives.proofs.Answering.{new_is}
 use Rattle.jc_natives.proofs.Getting.{new_object, other_object}
-use Rattle.jc_natives.proofs.Guarding.{got_front, keeps_new, keeps_put, same_found}
+use Rattle.jc_natives.proofs.Guarding.{all_replicate, got_front, keeps_new, keeps_put, same_found}
 use Rattle.jc_natives.proofs.Putting.{put_none, put_some, same_or_not}
 use Rattle.jc_natives.specs.Cells.{Write, put, put_all, written}
 use Rattle.jc_natives.specs.Meaning.{blank_of, new_array}
@@ -22,10 +22,6 @@ all_set : {A : Type 0} (P : A → Type 0) (xs : List A) (k : ℕ) (y : A) → Al
 all_set P [] k y h p = tt
 all_set P (x ∷ xs) zero y h p = (p, h.1)
 all_set P (x ∷ xs) (suc k) y h p = (h.0, all_set P xs k y h.1 p)
-
-all_replicate : {A : Type 0} (P : A → Type 0) (count : ℕ) (x : A) → P x → AllByRecursion P (replicate count x)
-all_replicate P zero x p = tt
-all_replicate P (suc n) x p = (p, all_replicate P n x p)
 
 all_mapped : {A : Type 0} (P Q : A → Type 0) (xs : List A) → ((x : A) → P x → Q x) → AllByRecursion P xs
     → AllByRecursion Q xs

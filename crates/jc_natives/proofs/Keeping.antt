@@ -21,7 +21,7 @@ use Rattle.jc_names.specs.declared.name.ClassName.TheVariants.{Api}
 use Rattle.jc_names.specs.declared.owner.Owner.{Owner}
 use Rattle.jc_natives.proofs.Bare.{both}
 use Rattle.jc_natives.proofs.Getting.{new_object}
-use Rattle.jc_natives.proofs.Guarding.{keeps_new, keeps_put}
+use Rattle.jc_natives.proofs.Guarding.{all_replicate, keeps_new, keeps_put}
 use Rattle.jc_natives.proofs.Putting.{put_none, put_some}
 use Rattle.jc_natives.proofs.Simulation.{passed_some}
 use Rattle.jc_natives.specs.Cells.{Write, put, put_all, written}
@@ -193,10 +193,6 @@ write_typed world heap x fits typed = by_object (object_at heap x.object) refl
 
 -- ---- a new array
 
-all_replicated : {A : Type 0} (P : A → Type 0) (n : ℕ) (x : A) → P x → AllByRecursion P (replicate n x)
-all_replicated P zero x p = tt
-all_replicated P (suc n) x p = (p, all_replicated P n x p)
-
 all_behind : {A : Type 0} (P : A → Type 0) (xs : List A) (x : A) → AllByRecursion P xs → P x
     → AllByRecursion P (xs ++ x ∷ [])
 all_behind P [] x all p = (p, tt)
@@ -205,10 +201,10 @@ all_behind P (y ∷ xs) x all p = (all.0, all_behind P xs x all.1 p)
 module _ (world : List Shape) (heap : Heap TaggedValue) where
   blanks_typed : (elements : Elements) (n : ℕ)
       → CellsTyped world heap (replicate n (blank_of elements)) (array_type elements)
-  blanks_typed Booleans n = all_replicated (λ v. is_byte v ≡ true) n (Word 0) refl
-  blanks_typed Bytes n = all_replicated (λ v. is_byte v ≡ true) n (Word 0) refl
-  blanks_typed Shorts n = all_replicated (λ v. is_word v ≡ true) n (Word 0) refl
-  blanks_typed References n = search (arith, all_replicated)
+  blanks_typed Booleans n = all_replicate (λ v. is_byte v ≡ true) n (Word 0) refl
+  blanks_typed Bytes n = all_replicate (λ v. is_byte v ≡ true) n (Word 0) refl
+  blanks_typed Shorts n = all_replicate (λ v. is_word v ≡ true) n (Word 0) refl
+  blanks_typed References n = search (arith, all_replicate)
 
   may_make : (elements : Elements) → may_be_made world (array_type elements) ≡ true
   may_make elements = grind arith

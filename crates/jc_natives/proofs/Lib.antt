@@ -42,4 +42,6 @@ mod UnseenTests
 mod UnseenMembers
 mod UnseenThrown
 mod UnseenAnswers
+mod RememberingKept
 mod RememberingMembers
+mod Registering

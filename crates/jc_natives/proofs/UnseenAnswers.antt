@@ -1,27 +1,16 @@
 -- Members answer alike where objects are alike, called by an applet of another context.
-use Rattle.std.proofs.Common.{◌≡◌, ℕ, suc, ◌+◌, ◌==◌, ◌&&◌, Bool, true, false, cond, not, List, [], ◌∷◌, ◌++◌, length, map}
-use Rattle.std.proofs.Common.{Option, Some, None, refl, sym, ap, ◌∙◌, subst, slice_get, arith, nat_le, nat_lt}
-use Rattle.std.specs.Prelude.{⊤}
-use Rattle.std.specs.List.{list_all}
-use Rattle.std.specs.Option.{option_and_then, option_map, option_map_or}
+use Rattle.std.proofs.Common.{◌≡◌, ℕ, suc, ◌+◌, ◌&&◌, Bool, true, false, cond, not, List, [], ◌∷◌, ◌++◌, length}
+use Rattle.std.proofs.Common.{Option, Some, None, refl, sym, ap, ◌∙◌, subst, arith, nat_le, nat_lt}
+use Rattle.std.specs.Option.{option_map_or}
 use Rattle.jc_api.specs.Numbered.{numbered}
-use Rattle.jc_base.specs.Signature.{Signature}
-use Rattle.jc_base.specs.declared.declared_type.DeclaredType.{DeclaredType}
-use Rattle.jc_cap_desc.specs.Shape.{Shape}
-use Rattle.jc_classes.specs.Members.{DeclaredMethod, method_at}
 use Rattle.jc_firewall.specs.Verdict.{runtime_context}
 use Rattle.jc_link.specs.Linked.{World}
-use Rattle.jc_link.specs.MemberType.{declared_type_of}
-use Rattle.jc_link.specs.Named.{is_concrete}
 use Rattle.jc_machine.specs.Apart.{is_applets}
 use Rattle.jc_machine.specs.Calls.{native_may_begin}
-use Rattle.jc_machine.specs.Lookup.{are_of_instance, are_of_types, is_object_of, is_of_class, may_begin_with}
-use Rattle.jc_machine.specs.Machine.{By, ByCode, ByRuntime, Gives, IsStuck, NativeAnswer, NativeCall, ThrowsObject, Touch}
+use Rattle.jc_machine.specs.Machine.{By, ByCode, ByRuntime, Gives, IsStuck, NativeAnswer, NativeCall, Touch}
 use Rattle.jc_machine.specs.Natives.{shareable_member}
 use Rattle.jc_machine.specs.Runtime.{HasRuntimeObjects}
-use Rattle.jc_machine.specs.Unseen.{AreAlike, AreNativesBlind, IsAlike, IsBlindAnswer, with_objects}
-use Rattle.jc_names.specs.declared.name.ClassName.{ClassName}
-use Rattle.jc_names.specs.declared.name.MethodName.TheVariants.{Api}
+use Rattle.jc_machine.specs.Unseen.{AreAlike, AreNativesBlind, IsBlindAnswer, with_objects}
 use Rattle.std.proofs.lemmas.Bool.{eq-eqb}
 use Rattle.jc_machine.proofs.AlikeLaws.{as_large, as_long, new_both, thrown_seen}
 use Rattle.jc_machine.proofs.AlikeLaws.{native_begins_both as begins_native}
@@ -29,19 +18,20 @@ use Rattle.jc_natives.proofs.AlikeLaws.{written_both}
 use Rattle.jc_natives.proofs.Answering.{answers_guarded}
 use Rattle.jc_natives.proofs.UnseenMembers.{does_both}
 use Rattle.jc_natives.proofs.UnseenReads.{aid_same, uses_read}
-use Rattle.jc_natives.proofs.UnseenTests.{TestsRead, any_objects, followed_same, tested_same, uses_same}
-use Rattle.jc_natives.specs.Cells.{Write, has_room, put, put_all, written}
+use Rattle.jc_natives.proofs.UnseenTests.{TestsRead, any_objects, tested_same, uses_same}
+use Rattle.jc_natives.specs.Cells.{Write}
 use Rattle.jc_natives.proofs.UnseenThrown.{answers_throw_own}
-use Rattle.jc_natives.specs.Checks.{Check, CallsOtherAid, Checked, HasRange, Passed, Refused, TestEnd, Unfit, Uses}
-use Rattle.jc_natives.specs.Checks.{UsesUnlessNull, passed, followed, test, tested, refused}
+use Rattle.jc_natives.specs.Checks.{Check, Checked, Passed, Refused, TestEnd, Unfit, Uses}
+use Rattle.jc_natives.specs.Checks.{passed, followed, test, tested, refused}
 use Rattle.jc_machine.specs.Runtime.{null_pointer_exception}
 use Rattle.jc_natives.specs.Kept.{Kept}
-use Rattle.jc_natives.specs.Meaning.{answer_by, answer_of, array_or_refusal, begun, done, ended, has_words, meaning}
-use Rattle.jc_natives.specs.Meaning.{new_array, own_touch, own_touch_of, own_touches, touch_by, unchanged, with_room, worked}
+use Rattle.jc_natives.specs.Meaning.{answer_of, array_or_refusal, begun, done, ended, has_words, meaning}
+use Rattle.jc_natives.specs.Meaning.{new_array, own_touch, own_touch_of, own_touches, touch_by, unchanged, with_room}
+use Rattle.jc_natives.specs.Meaning.{worked}
 use Rattle.jc_natives.specs.Members.{aid_member, apdu_member, applet_member, member_of_native, natives, object_member}
 use Rattle.jc_natives.specs.Members.{system_member, utility_member}
 use Rattle.jc_natives.specs.Taking.{Called, aid_in, called}
-use Rattle.jc_natives.specs.Work.{Asks, Does, Makes, NewArray, Work}
+use Rattle.jc_natives.specs.Work.{Asks, Does, Makes, Work}
 use Rattle.jc_natives.specs.declared.native.AidNative.{AidNative}
 use Rattle.jc_natives.specs.declared.native.AidNative.TheVariants as aids
 use Rattle.jc_natives.specs.declared.native.ApduNative.{ApduNative}
@@ -53,9 +43,9 @@ use Rattle.jc_natives.specs.declared.native.SystemNative.{SystemNative}
 use Rattle.jc_natives.specs.declared.native.UtilityNative.{UtilityNative}
 use Rattle.jc_natives.specs.declared.row.Length.{Length}
 use Rattle.jc_natives.specs.declared.row.Length.TheVariants as lengths
-use Rattle.jc_natives.specs.declared.row.Way.TheVariants.{Calls, Stores}
-use Rattle.jc_store.specs.Heap.{Heap, Object, cells_in, next_number, object_at, with_cell, with_new, with_object}
-use Rattle.jc_words.specs.Values.{Null, Ref, TaggedValue, Unset, Word}
+use Rattle.jc_natives.specs.declared.row.Way.TheVariants.{Calls}
+use Rattle.jc_store.specs.Heap.{Heap, Object, cells_in, object_at}
+use Rattle.jc_words.specs.Values.{Ref, TaggedValue}
 
 -- the same, whatever is thrown
 pub record IsSameTo (context : ℕ) (a b : NativeAnswer Kept) : Type 0 where
@@ -109,7 +99,8 @@ module _ (context : ℕ) (w : World) (call : NativeCall Kept) (K : Heap TaggedVa
       ap (λ (ts : List Touch). cond (has_words x.words) ts [] ++ own_touches H writes) (touch_both x.by x.object)
       ∙ ap (λ (ts : List Touch). own_touch_of K x ++ ts) (own_both writes)
 
-  unchanged_both : (touches : List Touch) → Blind (unchanged call touches IsStuck) (unchanged other_call touches IsStuck)
+  unchanged_both : (touches : List Touch) → Blind (unchanged call touches IsStuck)
+      (unchanged other_call touches IsStuck)
   unchanged_both touches = record { touches = refl; heap = alike; runtime = refl; ends = refl }
 
   done_both : (touches : List Touch) (work : Work) → Blind (done call touches work) (done other_call touches work)
@@ -176,8 +167,17 @@ module _ (context : ℕ) (w : World) (call : NativeCall Kept) (K : Heap TaggedVa
     aid_read : (native : AidNative) → Read (aid_member native).tests
     aid_read aids.Construct = (tt, λ e. (tt, λ f. (tt, λ g. tt)))
     aid_read aids.Equals = (tt, λ e. (tt, λ f. (tt, λ g. tt)))
-    aid_read aids.GetBytes =
-        (tt, λ e. (tt, λ f. (uses_read context w call K alike own applet other 0 Calls (refused null_pointer_exception) e, λ g. tt)))
+    aid_read aids.GetBytes = (
+      tt,
+      λ e. (
+        tt,
+        λ f. (
+          uses_read context w call K alike own applet other 0 Calls (refused null_pointer_exception)
+              e,
+          λ g. tt,
+        ),
+      ),
+    )
 
     apdu_read : (native : ApduNative) → Read (apdu_member native).tests
     apdu_read native = grind arith
@@ -210,7 +210,8 @@ module _ (context : ℕ) (w : World) (call : NativeCall Kept) (K : Heap TaggedVa
     pub answers_both : Blind (answer_of w call) (answer_of w other_call)
     answers_both =
         subst (λ (b : Bool). Blind (answer_of w call)
-        (cond b (begun w other_call (numbered natives call.member)) (unchanged other_call [] IsStuck))) native_begins_both
+        (cond b (begun w other_call (numbered natives call.member)) (unchanged other_call [] IsStuck)))
+        native_begins_both
         (by_begin (native_may_begin w.shapes H call.member call.arguments))
       where
         by_begin : (b : Bool)
@@ -231,14 +232,16 @@ module _ (context : ℕ) (w : World) (call : NativeCall Kept) (K : Heap TaggedVa
           (begun w other_call (numbered natives shareable_member))
       shareable_both =
           by_checked (followed (test h (Uses 0 Calls)) passed) (followed (test k (Uses 0 Calls)) passed) _ _
-          (ap (λ (a : Checked). followed a passed) (uses_same context w call K alike 0 Calls (refused null_pointer_exception)))
+          (ap (λ (a : Checked). followed a passed)
+          (uses_same context w call K alike 0 Calls (refused null_pointer_exception)))
           (λ e. refl)
 
       by_begin : (b : Bool)
           → Blind (cond b (begun w call (numbered natives call.member)) (unchanged call [] IsStuck))
           (cond b (begun w other_call (numbered natives call.member)) (unchanged other_call [] IsStuck))
       by_begin true =
-          subst (λ (n : ℕ). Blind (begun w call (numbered natives n)) (begun w other_call (numbered natives n))) (sym is)
+          subst (λ (n : ℕ). Blind (begun w call (numbered natives n)) (begun w other_call (numbered natives n)))
+          (sym is)
           shareable_both
       by_begin false = unchanged_both []
 

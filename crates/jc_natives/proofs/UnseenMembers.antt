@@ -1,30 +1,27 @@
 -- What members do is the same where objects are alike and their tests passed.
-use Rattle.std.proofs.Common.{◌≡◌, ℕ, ◌+◌, ◌==◌, ◌&&◌, Bool, true, false, cond, List, [], ◌∷◌, ◌++◌, length, Option, Some, None}
-use Rattle.std.proofs.Common.{refl, sym, ap, ◌∙◌, subst, slice_get, arith, bytes_eq, nat_le}
-use Rattle.std.specs.Prelude.{⊤}
-use Rattle.std.specs.List.{list_all}
-use Rattle.std.specs.Option.{option_and_then, option_map, option_map_or}
+use Rattle.std.proofs.Common.{◌≡◌, ℕ, ◌+◌, ◌==◌, Bool, true, false, cond, List, [], ◌∷◌, length, Option, Some, None}
+use Rattle.std.proofs.Common.{refl, sym, ap, ◌∙◌, slice_get, nat_le}
+use Rattle.std.specs.Option.{option_and_then, option_map_or}
 use Rattle.jc_firewall.specs.Verdict.{runtime_context}
 use Rattle.jc_link.specs.Linked.{World}
 use Rattle.jc_machine.specs.Machine.{NativeCall}
 use Rattle.jc_machine.specs.Runtime.{HasRuntimeObjects, apdu_buffer, null_pointer_exception}
 use Rattle.jc_machine.specs.Unseen.{AreAlike, with_objects}
 use Rattle.jc_names.specs.declared.owner.Owner.{Owner}
-use Rattle.jc_machine.proofs.AlikeLaws.{with_cells}
-use Rattle.jc_natives.proofs.UnseenReads.{Reads, SameAt, aid_same, and_then_both, buffer_same, bytes_same, uses_read}
+use Rattle.jc_natives.proofs.UnseenReads.{Reads, aid_same, and_then_both, buffer_same, bytes_same, uses_read}
 use Rattle.jc_natives.proofs.UnseenReads.{word_same, words_same}
-use Rattle.jc_natives.proofs.UnseenTests.{LengthReads, TestsRead, aids_same, any_objects, followed_passed, length_both}
-use Rattle.jc_natives.specs.Cells.{bit, extended, is_within, order_of, word_of_bytes, low}
-use Rattle.jc_natives.specs.Checks.{CallsOtherAid, Check, Checked, HasRange, Passed, Uses, UsesUnlessNull, are_aids}
+use Rattle.jc_natives.proofs.UnseenTests.{LengthReads, aids_same, any_objects, followed_passed, length_both}
+use Rattle.jc_natives.specs.Cells.{is_within}
+use Rattle.jc_natives.specs.Checks.{CallsOtherAid, Checked, HasRange, Passed, Uses, UsesUnlessNull, are_aids}
 use Rattle.jc_natives.specs.Checks.{calls_other, passed, refused, test, tested, unfit, uses}
-use Rattle.jc_natives.specs.Kept.{Kept, instance_with, is_incoming, is_length_set, most_sent}
-use Rattle.jc_natives.specs.Members.{Member, aid_member, apdu_member, applet_member, have_same_bytes, in_buffer, in_state}
+use Rattle.jc_natives.specs.Kept.{Kept, is_incoming, is_length_set, most_sent}
+use Rattle.jc_natives.specs.Members.{aid_member, apdu_member, applet_member, have_same_bytes, in_buffer, in_state}
 use Rattle.jc_natives.specs.Members.{is_range, kept_of, member_of_native, object_member, on_allowed, on_installing}
-use Rattle.jc_natives.specs.Members.{allowed, require_apdu, sends, sends_at_once, system_member, utility_member, keeps_aid}
-use Rattle.jc_natives.specs.Members.{registers_under, writes_words, ends_with}
-use Rattle.jc_natives.specs.Taking.{Called, aid_in, as_reference, as_word, bytes_in, called, on_aid, on_bytes, on_length}
-use Rattle.jc_natives.specs.Taking.{on_object, on_range, on_reference, on_word, word_at, words_in}
-use Rattle.jc_natives.specs.Work.{GivesWord, Work, bad_length, buffer_bounds, illegal_use}
+use Rattle.jc_natives.specs.Members.{allowed, require_apdu, system_member, utility_member}
+use Rattle.jc_natives.specs.Members.{ends_with}
+use Rattle.jc_natives.specs.Taking.{Called, aid_in, as_reference, as_word, bytes_in, called, on_aid, on_bytes}
+use Rattle.jc_natives.specs.Taking.{on_range, on_reference, on_word, word_at, words_in}
+use Rattle.jc_natives.specs.Work.{GivesWord, Work, bad_length, buffer_bounds}
 use Rattle.jc_natives.specs.declared.kept.Installing.{Installing}
 use Rattle.jc_natives.specs.declared.native.AidNative.{AidNative}
 use Rattle.jc_natives.specs.declared.native.AidNative.TheVariants as aids
@@ -83,7 +80,8 @@ module _ (context : ℕ) (w : World) (call : NativeCall Kept) (K : Heap TaggedVa
       and_then_both (option_and_then as_word (slice_get call.arguments place))
       (option_and_then as_word (slice_get call.arguments place)) f g refl (λ n e. same n)
 
-  at_aid : {A : Type 0} (n : ℕ) (f g : List ℕ → Option A) → object_at H n ≡ object_at K n → ((bs : List ℕ) → f bs ≡ g bs)
+  at_aid : {A : Type 0} (n : ℕ) (f g : List ℕ → Option A) → object_at H n ≡ object_at K n
+      → ((bs : List ℕ) → f bs ≡ g bs)
       → on_aid h n f ≡ on_aid k n g
   at_aid n f g e same = and_then_both (aid_in H n) (aid_in K n) f g (aids_by n e) (λ bs d. same bs)
 
@@ -120,7 +118,8 @@ module _ (context : ℕ) (w : World) (call : NativeCall Kept) (K : Heap TaggedVa
       at_reference 0 _ _ (λ one is. at_reference 1 _ _ (λ two also. by_same one two is also (one == two)))
     where
       by_aids : (one two : ℕ) → object_at H one ≡ object_at K one
-          → option_and_then as_reference (slice_get call.arguments 1) ≡ Some two → (aids : Bool) → are_aids h ≡ Some aids
+          → option_and_then as_reference (slice_get call.arguments 1) ≡ Some two → (aids : Bool)
+          → are_aids h ≡ Some aids
           → cond aids (have_same_bytes h one two) (ends_with h (GivesWord 0))
           ≡ cond aids (have_same_bytes k one two) (ends_with k (GivesWord 0))
       by_aids one two same also true g =
@@ -158,18 +157,21 @@ module _ (context : ℕ) (w : World) (call : NativeCall Kept) (K : Heap TaggedVa
   aid_both : (native : AidNative) → (tested h (aid_member native).tests).ends ≡ Passed
       → (aid_member native).does h ≡ (aid_member native).does k
   aid_both aids.Construct e =
-      let a = followed_passed (test h (Uses 0 Fields)) (tested h (Uses 1 Loads ∷ HasRange 1 2 (lengths.ByteAt 3) ∷ [])) e in
+      let a = followed_passed (test h (Uses 0 Fields)) (tested h (Uses 1 Loads ∷ HasRange 1 2 (lengths.ByteAt 3) ∷ []))
+      e in
       let b = followed_passed (test h (Uses 1 Loads)) (tested h (HasRange 1 2 (lengths.ByteAt 3) ∷ [])) a.1 in
       at_reference 0 _ _ (λ aid is.
       at_range 1 2 (lengths.ByteAt 3) (reads_by 1 Loads (refused null_pointer_exception) b.0) tt _ _ (λ bs. refl))
   aid_both aids.Equals e =
-      let a = followed_passed (test h (Uses 0 Calls)) (tested h (UsesUnlessNull 1 Loads ∷ HasRange 1 2 (lengths.ByteAt 3) ∷ [])) e in
+      let a = followed_passed (test h (Uses 0 Calls))
+      (tested h (UsesUnlessNull 1 Loads ∷ HasRange 1 2 (lengths.ByteAt 3) ∷ [])) e in
       let b = followed_passed (test h (UsesUnlessNull 1 Loads)) (tested h (HasRange 1 2 (lengths.ByteAt 3) ∷ [])) a.1 in
       at_reference 0 _ _ (λ aid is. at_reference 1 _ _ (λ array also.
       ap (cond (array == 0) (ends_with h (GivesWord 0)))
       (is_range_both aid (reads_by 0 Calls (refused null_pointer_exception) a.0 aid is) (reads_by 1 Loads passed b.0))))
   aid_both aids.GetBytes e =
-      let a = followed_passed (test h (Uses 0 Calls)) (tested h (Uses 1 Stores ∷ HasRange 1 2 (lengths.OfAid 0) ∷ [])) e in
+      let a = followed_passed (test h (Uses 0 Calls)) (tested h (Uses 1 Stores ∷ HasRange 1 2 (lengths.OfAid 0) ∷ [])) e
+      in
       at_reference 0 _ _ (λ aid is. at_reference 1 _ _ (λ array also. at_word 2 _ _ (λ offset.
       at_aid aid _ _ (reads_by 0 Calls (refused null_pointer_exception) a.0 aid is) (λ bytes. refl))))
 
@@ -191,7 +193,8 @@ module _ (context : ℕ) (w : World) (call : NativeCall Kept) (K : Heap TaggedVa
       at_word 1 _ _ (λ offset. at_word 2 _ _ (λ count.
       ap (in_state h (is_length_set (kept_of h).state)) (in_buffer_both offset count _ _ (λ bs. refl))))
   apdu_both apdus.SendBytesLong e =
-      let a = followed_passed (test h (Uses 0 Calls)) (tested h (Uses 1 Loads ∷ HasRange 1 2 (lengths.ShortAt 3) ∷ [])) e in
+      let a = followed_passed (test h (Uses 0 Calls)) (tested h (Uses 1 Loads ∷ HasRange 1 2 (lengths.ShortAt 3) ∷ []))
+      e in
       let b = followed_passed (test h (Uses 1 Loads)) (tested h (HasRange 1 2 (lengths.ShortAt 3) ∷ [])) a.1 in
       ap (in_state h (is_length_set (kept_of h).state))
       (at_range 1 2 (lengths.ShortAt 3) (reads_by 1 Loads (refused null_pointer_exception) b.0) tt _ _ (λ bs. refl))
@@ -205,8 +208,10 @@ module _ (context : ℕ) (w : World) (call : NativeCall Kept) (K : Heap TaggedVa
   at_allowed f g same =
       at_reference 0 _ _ (λ n is.
       any_objects context w call K alike n
-      (option_and_then (λ (object : Object TaggedValue). on_installing h (allowed object.owner (kept_of h).installing) (f n object.owner)))
-      (option_and_then (λ (object : Object TaggedValue). on_installing k (allowed object.owner (kept_of h).installing) (g n object.owner)))
+      (option_and_then (λ (object : Object TaggedValue). on_installing h (allowed object.owner (kept_of h).installing)
+      (f n object.owner)))
+      (option_and_then (λ (object : Object TaggedValue). on_installing k (allowed object.owner (kept_of h).installing)
+      (g n object.owner)))
       refl (λ o cells e. by_installing n o.owner (allowed o.owner (kept_of h).installing)))
     where
       by_installing : (n : ℕ) (owner : Owner) (i : Option Installing)
@@ -218,7 +223,8 @@ module _ (context : ℕ) (w : World) (call : NativeCall Kept) (K : Heap TaggedVa
       → (applet_member native).does h ≡ (applet_member native).does k
   applet_both applets.Register e = at_allowed _ _ (λ n owner i. refl)
   applet_both applets.RegisterBytes e =
-      let a = followed_passed (test h (Uses 0 Calls)) (tested h (Uses 1 Loads ∷ HasRange 1 2 (lengths.ByteAt 3) ∷ [])) e in
+      let a = followed_passed (test h (Uses 0 Calls)) (tested h (Uses 1 Loads ∷ HasRange 1 2 (lengths.ByteAt 3) ∷ [])) e
+      in
       let b = followed_passed (test h (Uses 1 Loads)) (tested h (HasRange 1 2 (lengths.ByteAt 3) ∷ [])) a.1 in
       at_allowed _ _ (λ n owner i.
       at_range 1 2 (lengths.ByteAt 3) (reads_by 1 Loads (refused null_pointer_exception) b.0) tt _ _ (λ bs. refl))
@@ -254,8 +260,10 @@ module _ (context : ℕ) (w : World) (call : NativeCall Kept) (K : Heap TaggedVa
       (words_same context w call K alike own applet other source from count (reads source is)) (λ words d. refl))))))
   utility_both utilities.ArrayFill e = refl
   utility_both utilities.ArrayCompare e =
-      let a = followed_passed (test h (Uses 0 Loads)) (tested h (Uses 2 Loads ∷ HasRange 0 1 (lengths.ShortAt 4) ∷ HasRange 2 3 (lengths.ShortAt 4) ∷ [])) e in
-      let b = followed_passed (test h (Uses 2 Loads)) (tested h (HasRange 0 1 (lengths.ShortAt 4) ∷ HasRange 2 3 (lengths.ShortAt 4) ∷ [])) a.1 in
+      let a = followed_passed (test h (Uses 0 Loads))
+      (tested h (Uses 2 Loads ∷ HasRange 0 1 (lengths.ShortAt 4) ∷ HasRange 2 3 (lengths.ShortAt 4) ∷ [])) e in
+      let b = followed_passed (test h (Uses 2 Loads))
+      (tested h (HasRange 0 1 (lengths.ShortAt 4) ∷ HasRange 2 3 (lengths.ShortAt 4) ∷ [])) a.1 in
       at_range 0 1 (lengths.ShortAt 4) (reads_by 0 Loads (refused null_pointer_exception) a.0) tt _ _ (λ bytes.
       at_range 2 3 (lengths.ShortAt 4) (reads_by 2 Loads (refused null_pointer_exception) b.0) tt _ _ (λ others. refl))
   utility_both utilities.GetShort e =

@@ -1,6 +1,6 @@
 -- What members read of objects that their tests reached is the same where objects are alike.
-use Rattle.std.proofs.Common.{◌≡◌, ◌⊎◌, inl, inr, ℕ, zero, suc, ◌+◌, ◌==◌, ◌&&◌, Bool, true, false, cond, List, [], ◌∷◌, ◌++◌}
-use Rattle.std.proofs.Common.{length, map, Option, Some, None, refl, sym, ap, ◌∙◌, subst, slice_get, arith, eqb-true}
+use Rattle.std.proofs.Common.{◌≡◌, ◌⊎◌, inl, inr, ℕ, zero, suc, ◌+◌, ◌==◌, ◌&&◌, Bool, true, false, ◌∷◌}
+use Rattle.std.proofs.Common.{map, Option, Some, None, refl, sym, ap, ◌∙◌, subst, slice_get, arith, eqb-true}
 use Rattle.std.proofs.lemmas.Option.{none-some, same_Some}
 use Rattle.std.specs.Option.{option_and_then, option_map, option_map_or}
 use Rattle.jc_firewall.specs.Verdict.{runtime_context, verdict_of}
@@ -9,26 +9,23 @@ use Rattle.jc_firewall.specs.declared.access.Verdict.TheVariants.{Allowed, Allow
 use Rattle.jc_link.specs.Linked.{World}
 use Rattle.jc_machine.specs.Going.{facts_in}
 use Rattle.jc_machine.specs.Guarded.{is_allowed}
-use Rattle.jc_machine.specs.Machine.{NativeCall, Touch}
-use Rattle.jc_machine.specs.Runtime.{HasRuntimeObject, HasRuntimeObjects, apdu_buffer, null_pointer_exception}
-use Rattle.jc_machine.specs.Unseen.{AreAlike, IsAlike, is_hidden, is_plain, with_objects}
+use Rattle.jc_machine.specs.Machine.{NativeCall}
+use Rattle.jc_machine.specs.Runtime.{HasRuntimeObjects, apdu_buffer}
+use Rattle.jc_machine.specs.Unseen.{AreAlike, is_hidden, is_plain, with_objects}
 use Rattle.jc_natives.proofs.Bare.{both}
 use Rattle.jc_natives.proofs.Facts.{own_object}
 use Rattle.jc_natives.proofs.Guarding.{own_use}
 use Rattle.jc_machine.proofs.AlikeLaws.{AlikeAt, as_cells, at_alike, with_cells}
-use Rattle.jc_natives.specs.Checks.{Check, Checked, Passed, Refused, TestEnd, Unfit, access_of, are_aids, by_verdict}
-use Rattle.jc_natives.specs.Checks.{calls_other, followed, goes_on, in_range, is_aid_at, is_aid_object, is_aid_value}
-use Rattle.jc_natives.specs.Checks.{is_in_range, is_range_in, judged, passed, refused, test, tested, unfit, uses, uses_value}
-use Rattle.jc_natives.specs.Cells.{is_within, low}
+use Rattle.jc_natives.specs.Checks.{Checked, Passed, access_of, by_verdict}
+use Rattle.jc_natives.specs.Checks.{judged, unfit, uses, uses_value}
+use Rattle.jc_natives.specs.Cells.{low}
 use Rattle.jc_natives.specs.Kept.{Kept}
-use Rattle.jc_natives.specs.Taking.{Called, aid_in, aid_length, as_reference, as_word, bytes_in, called, on_length}
+use Rattle.jc_natives.specs.Taking.{Called, aid_in, aid_length, as_reference, as_word, bytes_in, called}
 use Rattle.jc_natives.specs.Taking.{word_at, words_in}
-use Rattle.jc_natives.specs.declared.row.Length.{Length}
-use Rattle.jc_natives.specs.declared.row.Length.TheVariants as lengths
 use Rattle.jc_natives.specs.declared.row.Way.{Way}
 use Rattle.jc_store.specs.Heap.{Heap, Object, object_at}
 use Rattle.jc_store.specs.declared.kind.Mark.{Mark}
-use Rattle.jc_store.specs.declared.kind.Mark.TheVariants.{GlobalArray, Plain}
+use Rattle.jc_store.specs.declared.kind.Mark.TheVariants.{Plain}
 use Rattle.jc_words.specs.Values.{Null, Ref, TaggedValue, Unset, Word}
 
 pub and_then_both : {A B : Type 0} (o p : Option A) (f g : A → Option B) → o ≡ p
@@ -85,7 +82,8 @@ module _ (context : ℕ) (w : World) (call : NativeCall Kept) (K : Heap TaggedVa
 
   pub word_same : (n i : ℕ) → SameAt n → word_at H n i ≡ word_at K n i
   word_same n i e =
-      ap (option_and_then (λ (object : Object TaggedValue). option_map_or as_word (slice_get object.cells i) (Some 0))) e
+      ap (option_and_then (λ (object : Object TaggedValue). option_map_or as_word (slice_get object.cells i) (Some 0)))
+      e
 
   pub words_same : (n from count : ℕ) → SameAt n → words_in H n from count ≡ words_in K n from count
   words_same n from zero e = refl
@@ -114,8 +112,10 @@ module _ (context : ℕ) (w : World) (call : NativeCall Kept) (K : Heap TaggedVa
       → is_hidden context o ≡ false
   used_seen way n o e = by_test (o.owner.context == context && is_plain o.kind.mark) refl
     where
-      fine : is_allowed (verdict_of (access_of way) call.active.context (facts_in w.shapes call.selected o None false)) ≡ true
-      fine = passed_allowed way n (verdict_of (access_of way) call.active.context (facts_in w.shapes call.selected o None false)) e
+      fine : is_allowed (verdict_of (access_of way) call.active.context
+          (facts_in w.shapes call.selected o None false)) ≡ true
+      fine = passed_allowed way n (verdict_of (access_of way) call.active.context
+          (facts_in w.shapes call.selected o None false)) e
 
       plain_of : (m : Mark) → is_plain m ≡ true → m ≡ Plain
       plain_of m f = grind arith

@@ -1,18 +1,18 @@
 -- Tests of arguments come to the same where objects are alike.
-use Rattle.std.proofs.Common.{◌≡◌, ℕ, ◌+◌, ◌==◌, ◌&&◌, Bool, true, false, cond, List, [], ◌∷◌, ◌++◌, length, Option, Some, None}
-use Rattle.std.proofs.Common.{refl, sym, ap, ◌∙◌, subst, slice_get, arith}
+use Rattle.std.proofs.Common.{◌≡◌, ℕ, ◌==◌, ◌&&◌, Bool, true, false, cond, List, [], ◌∷◌, length, Option, Some, None}
+use Rattle.std.proofs.Common.{refl, sym, ap, ◌∙◌, subst, slice_get}
 use Rattle.std.specs.Prelude.{⊤}
-use Rattle.std.specs.List.{list_all}
 use Rattle.std.specs.Option.{option_and_then, option_map, option_map_or}
 use Rattle.jc_link.specs.Linked.{World}
-use Rattle.jc_machine.specs.Machine.{NativeCall, Touch}
+use Rattle.jc_machine.specs.Machine.{NativeCall}
 use Rattle.jc_machine.specs.Runtime.{null_pointer_exception}
-use Rattle.jc_machine.specs.Unseen.{AreAlike, IsAlike, with_objects}
+use Rattle.jc_machine.specs.Unseen.{AreAlike, with_objects}
 use Rattle.jc_machine.proofs.AlikeLaws.{AlikeAt, as_cells, at_alike, with_cells}
 use Rattle.jc_natives.proofs.UnseenReads.{and_then_both}
 use Rattle.jc_natives.specs.Checks.{CallsOtherAid, Check, Checked, HasRange, Passed, Refused, TestEnd, Unfit, Uses}
 use Rattle.jc_natives.specs.Checks.{UsesUnlessNull, are_aids, calls_other, followed, goes_on, in_range, is_aid_at}
-use Rattle.jc_natives.specs.Checks.{is_aid_object, is_aid_value, is_in_range, is_range_in, judged, passed, refused, test}
+use Rattle.jc_natives.specs.Checks.{is_aid_object, is_aid_value, is_in_range, is_range_in, judged, passed, refused}
+use Rattle.jc_natives.specs.Checks.{test}
 use Rattle.jc_natives.specs.Checks.{tested, unfit, uses, uses_value}
 use Rattle.jc_natives.specs.Cells.{extended, is_within}
 use Rattle.jc_natives.specs.Kept.{Kept}
@@ -59,7 +59,8 @@ module _ (context : ℕ) (w : World) (call : NativeCall Kept) (K : Heap TaggedVa
       by_objects : (x y : Option (Object TaggedValue)) → AlikeAt context x y → f x ≡ g y
       by_objects None None a = none
       by_objects (Some o) (Some p) a =
-          subst (λ (q : Object TaggedValue). f (Some o) ≡ g (Some q)) (sym (as_cells context o p a)) (some o p.cells a.size)
+          subst (λ (q : Object TaggedValue). f (Some o) ≡ g (Some q)) (sym (as_cells context o p a))
+          (some o p.cells a.size)
       by_objects None (Some p) a = absurd a
       by_objects (Some o) None a = absurd a
 

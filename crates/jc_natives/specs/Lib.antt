@@ -23,3 +23,4 @@ pub mod PrivateMeaning
 pub mod PrivateWords
 pub mod PrivateAtOnce
 pub mod Remembered
+pub mod Registered

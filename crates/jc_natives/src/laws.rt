@@ -18,6 +18,7 @@ ghost use Rattle.jc_natives.specs.MemberTypes.{declared_signature};
 ghost use Rattle.jc_natives.specs.Kept.{Kept, after_install, are_bytes, is_aid, is_instance_number, nothing_kept};
 ghost use Rattle.jc_natives.specs.Kept.{with_command, with_install, without_command};
 ghost use Rattle.jc_natives.specs.Meaning.{meaning};
+ghost use Rattle.jc_natives.specs.Registered.{LeavesInstances};
 ghost use Rattle.jc_natives.specs.Remembered.{IsRemembered};
 ghost use Rattle.jc_store.specs.Heap.{Heap};
 ghost use Rattle.jc_machine.specs.Storable.{HoldStorable};
@@ -72,6 +73,17 @@ pub fn calls_keep_numbers()
         → LeavesNumbers start.runtime.numbers (runtime_call s steps start).ends }
 {
     members_are_guarded();
+    calls_keep_what_members_keep(&Runtime::new());
+}
+
+/// A call of the runtime's registers at most the instance that is being installed, and that once: else the instances are
+/// what they were. It does nothing.
+pub fn calls_register_the_installed()
+    ensures { (s : Surroundings Kept) → s.natives ≡ meaning → (steps : ℕ) (start : Start Kept)
+        → LeavesInstances start.runtime (runtime_call s steps start).ends }
+{
+    members_are_guarded();
+    members_keep_what_is_kept();
     calls_keep_what_members_keep(&Runtime::new());
 }
 

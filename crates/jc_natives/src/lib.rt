@@ -28,7 +28,7 @@ pub use examples::{
 };
 pub use kept::{ApduState, Installing, Instance, Runtime};
 pub use laws::{
-    calls_keep_fitting, calls_keep_numbers, kept_stays_fit, loads_keep_fitting,
-    members_are_declared, members_are_guarded, members_keep_what_is_kept, members_see_no_contents,
-    members_stay_apart, written_words_are_held,
+    calls_keep_fitting, calls_keep_numbers, calls_register_the_installed, kept_stays_fit,
+    loads_keep_fitting, members_are_declared, members_are_guarded, members_keep_what_is_kept,
+    members_see_no_contents, members_stay_apart, written_words_are_held,
 };

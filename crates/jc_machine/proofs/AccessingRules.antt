@@ -307,7 +307,8 @@ pub top : {vs rest : List TaggedValue} {v : TaggedValue} → vs ≡ v ∷ rest �
 top e = ap (λ (xs : List TaggedValue). slice_get xs 0) e
 
 -- what stores the top operand asks by its row
-pub stores_it : (f : Frame) (access : Access) (place : Place) (n : ℕ) (v : TaggedValue) → slice_get f.operands 0 ≡ Some v
+pub stores_it : (f : Frame) (access : Access) (place : Place) (n : ℕ) (v : TaggedValue)
+    → slice_get f.operands 0 ≡ Some v
     → storing access n v
     ≡ asked_by f (record { access = access; object = place; stored = Some (Operand 0); wanted = None }) n
 stores_it f access place n v e =

@@ -123,7 +123,8 @@ module _ {C : Type 0} (h : Here C) (before : List Touch) where
   at_reference_local None go k = record { owned = tt }
   at_reference_local (Some v) go k = at_check (is_tagged_reference v) (go v) (k v)
 
-  pub at_require : (exception : ℕ) (b : Bool) (s : Stepped C) → Owned h before s → Owned h before (require h exception b s)
+  pub at_require : (exception : ℕ) (b : Bool) (s : Stepped C) → Owned h before s
+      → Owned h before (require h exception b s)
   at_require exception true s k = k
   at_require exception false s k = record { owned = refl }
 
@@ -175,7 +176,8 @@ module _ {C : Type 0} (h : Here C) (before : List Touch) where
       → ((ts : List Touch) (switch : Option Owner) → Owned h ts (go switch)) → Owned h before (judged h asked o go)
   at_used asked o go k = at_verdict asked _ go (λ switch e. k _ switch)
 
-  pub at_accessed : (access : Access) (n : ℕ) (o : Object TaggedValue) (s : Stepped C) → ((ts : List Touch) → Owned h ts s)
+  pub at_accessed : (access : Access) (n : ℕ) (o : Object TaggedValue) (s : Stepped C)
+      → ((ts : List Touch) → Owned h ts s)
       → Owned h before (accessed h access n o s)
   at_accessed access n o s k = at_used (asking access n) o (λ switch. s) (λ ts switch. k ts)
 

@@ -58,7 +58,8 @@ last_is [] x y (suc n) e f = absurd (none-some y e)
 last_is (z ∷ xs) x y zero e f = absurd (none-some z (sym f))
 last_is (z ∷ xs) x y (suc n) e f = last_is xs x y n e f
 
-pub new_is : (heap : Heap TaggedValue) (x y : Object TaggedValue) (number : ℕ) → object_at (with_new heap x) number ≡ Some y
+pub new_is : (heap : Heap TaggedValue) (x y : Object TaggedValue) (number : ℕ)
+    → object_at (with_new heap x) number ≡ Some y
     → object_at heap number ≡ None → y ≡ x
 new_is heap x y number h1 h2 = grind (arith, none-some, last_is)
 

@@ -85,27 +85,34 @@ module _ (known : Known) where
   -- ---- exceptions with a reason
 
   pub system_throw : (reason : ℕ) → reason < 65536
-      → Fits known (Does (record { by = ByRuntime; object = 9; from = 0; words = reason ∷ [] } ∷ []) call.runtime (Throws 9))
+      → Fits known (Does (record { by = ByRuntime; object = 9; from = 0; words = reason ∷ [] } ∷ []) call.runtime
+      (Throws 9))
   system_throw reason small = (system_reason known 9 reason (system_leads known) small, (fit.fits, system_thrown known))
 
   pub apdu_throw : (reason : ℕ) → reason < 65536
-      → Fits known (Does (record { by = ByRuntime; object = 10; from = 0; words = reason ∷ [] } ∷ []) call.runtime (Throws 10))
+      → Fits known (Does (record { by = ByRuntime; object = 10; from = 0; words = reason ∷ [] } ∷ []) call.runtime
+      (Throws 10))
   apdu_throw reason small = (apdu_reason known 10 reason (apdu_leads known) small, (fit.fits, apdu_thrown known))
 
   iso_throw : (reason : ℕ) → reason < 65536
-      → Fits known (Does (record { by = ByRuntime; object = 8; from = 0; words = reason ∷ [] } ∷ []) call.runtime (Throws 8))
+      → Fits known (Does (record { by = ByRuntime; object = 8; from = 0; words = reason ∷ [] } ∷ []) call.runtime
+      (Throws 8))
   iso_throw reason small = (iso_reason known 8 reason (iso_leads known) small, (fit.fits, iso_thrown known))
 
   pub throw_fits : (object n : ℕ) → n < 65536 → (object ≡ 8) ⊎ ((object ≡ 9) ⊎ (object ≡ 10))
-      → Fits known (Does (record { by = ByRuntime; object = object; from = 0; words = n ∷ [] } ∷ []) call.runtime (Throws object))
+      → Fits known (Does (record { by = ByRuntime; object = object; from = 0; words = n ∷ [] } ∷ []) call.runtime
+      (Throws object))
   throw_fits object n small (inl e) =
-      subst (λ o. Fits known (Does (record { by = ByRuntime; object = o; from = 0; words = n ∷ [] } ∷ []) call.runtime (Throws o)))
+      subst (λ o. Fits known (Does (record { by = ByRuntime; object = o; from = 0; words = n ∷ [] } ∷ []) call.runtime
+      (Throws o)))
       (sym e) (iso_throw n small)
   throw_fits object n small (inr (inl e)) =
-      subst (λ o. Fits known (Does (record { by = ByRuntime; object = o; from = 0; words = n ∷ [] } ∷ []) call.runtime (Throws o)))
+      subst (λ o. Fits known (Does (record { by = ByRuntime; object = o; from = 0; words = n ∷ [] } ∷ []) call.runtime
+      (Throws o)))
       (sym e) (system_throw n small)
   throw_fits object n small (inr (inr e)) =
-      subst (λ o. Fits known (Does (record { by = ByRuntime; object = o; from = 0; words = n ∷ [] } ∷ []) call.runtime (Throws o)))
+      subst (λ o. Fits known (Does (record { by = ByRuntime; object = o; from = 0; words = n ∷ [] } ∷ []) call.runtime
+      (Throws o)))
       (sym e) (apdu_throw n small)
 
   -- ---- registration

@@ -228,7 +228,8 @@ module _ (known : Known) where
 
   -- ---- cells of AIDs and of exceptions
 
-  pub no_array : (c : ApiClass) → is_same_name (Api api.Object) (Api c) ≡ false → above_in most_classes c api.Object ≡ false
+  pub no_array : (c : ApiClass) → is_same_name (Api api.Object) (Api c) ≡ false
+      → above_in most_classes c api.Object ≡ false
       → is_class_below w.shapes (Api api.Object) (Api c) ≡ true → ⊥
   no_array c other none e = grind (arith, above_is)
 

@@ -127,14 +127,21 @@ module _ (known : Known) where
 
           by_class : (m.class ≡ api.CardRuntimeException)
               ⊎ ((m.class ≡ api.IsoException) ⊎ ((m.class ≡ api.SystemException) ⊎ (m.class ≡ api.ApduException)))
-              → FitsWrite w.shapes call.heap (record { by = ByCode; object = argument args 0; from = 0; words = n ∷ [] })
+              → FitsWrite w.shapes call.heap (record {
+                by = ByCode;
+                object = argument args 0;
+                from = 0;
+                words = n ∷
+                    [];
+              })
           by_class (inl e) = runtime_reason known (argument args 0) n (leads api.CardRuntimeException e) small
           by_class (inr (inl e)) = iso_reason known (argument args 0) n (leads api.IsoException e) small
           by_class (inr (inr (inl e))) = system_reason known (argument args 0) n (leads api.SystemException e) small
           by_class (inr (inr (inr e))) = apdu_reason known (argument args 0) n (leads api.ApduException e) small
 
       reason_set : (n : ℕ) → n < 65536 → Gives suits.nothing m.signature.result → HasReason m
-          → Fits known (Does (record { by = ByCode; object = argument args 0; from = 0; words = n ∷ [] } ∷ []) k NoResult)
+          → Fits known (Does (record { by = ByCode; object = argument args 0; from = 0; words = n ∷ [] } ∷ []) k
+          NoResult)
       reason_set n small g has = (reason_is n small has, (fit.fits, void_ends known m.signature.result is g))
 
       -- ---- by class
@@ -158,7 +165,13 @@ module _ (known : Known) where
         where
           written_so : has_aid_length count ≡ true
               → FitsWrite w.shapes call.heap
-              (record { by = ByCode; object = argument args 0; from = 0; words = count ∷ bytes_of o array offset count })
+              (record {
+                by = ByCode;
+                object = argument args 0;
+                from = 0;
+                words = count ∷ bytes_of o array offset
+                    count;
+              })
           written_so e =
               let high = leb-true count 16 (both (nat_le 5 count) (nat_le count 16) e).1 in
               let count_is = length_of_bytes o array offset count in

@@ -66,7 +66,8 @@ pub all_both : {A : Type 0} (P : A → Type 0) (xs ys : List A) → AllByRecursi
 all_both P [] ys a b = b
 all_both P (x ∷ xs) ys a b = (a.0, all_both P xs ys a.1 b)
 
-pub got_front : {A : Type 0} (xs ys : List A) (n : ℕ) (x : A) → slice_get xs n ≡ Some x → slice_get (xs ++ ys) n ≡ Some x
+pub got_front : {A : Type 0} (xs ys : List A) (n : ℕ) (x : A) → slice_get xs n ≡ Some x
+    → slice_get (xs ++ ys) n ≡ Some x
 got_front [] ys n x e = absurd (none-some x e)
 got_front (y ∷ xs) ys zero x e = e
 got_front (y ∷ xs) ys (suc n) x e = got_front xs ys n x e
@@ -308,7 +309,8 @@ module _ (w : World) (call : NativeCall Kept) where
       own_of u same plain = grind (arith, own_use, parts)
 
       by_first : (is_changed touches number ≡ true → IsAccessed active touches number o)
-          → (is_change_of number t ≡ true) ⊎ (is_changed touches number ≡ true) → IsAccessed active (t ∷ touches) number o
+          → (is_change_of number t ≡ true) ⊎ (is_changed touches number ≡ true)
+          → IsAccessed active (t ∷ touches) number o
       by_first rest (inl f) =
           let u = uses.0 in
           let g = both (t.object == number) (may_change t.access) f in

@@ -73,7 +73,8 @@ use Rattle.jc_store.specs.Heap.{Heap, Object, object_at, with_new}
 use Rattle.jc_store.specs.declared.kind.Mark.TheVariants.{PermanentEntryPoint}
 use Rattle.jc_store.specs.declared.kind.ObjectType.TheVariants.{Instance as OfClass}
 use Rattle.jc_words.specs.Values.{Null, Ref, TaggedValue, Unset, Word}
-use Rattle.jc_natives.proofs.RememberingKept.{by_one, by_writes, set_reason, tells_aid, tells_previous, is_writing, SparesOwn, AreTested}
+use Rattle.jc_natives.proofs.RememberingKept.{by_one, by_writes, set_reason, tells_aid, tells_previous, is_writing}
+use Rattle.jc_natives.proofs.RememberingKept.{SparesOwn, AreTested}
 use Rattle.jc_natives.proofs.RememberingKept.{AreSpared, AsksAs, IsWritten, IsGood, answer_good}
 
 -- ---- AID objects

@@ -76,8 +76,8 @@ pub fn calls_keep_numbers()
     calls_keep_what_members_keep(&Runtime::new());
 }
 
-/// A call of the runtime's registers at most the instance that is being installed, and that once: else the instances are
-/// what they were. It does nothing.
+/// A call of the runtime's registers at most the instance that is being installed, and that once: else the instances
+/// are what they were. It does nothing.
 pub fn calls_register_the_installed()
     ensures { (s : Surroundings Kept) → s.natives ≡ meaning → (steps : ℕ) (start : Start Kept)
         → LeavesInstances start.runtime (runtime_call s steps start).ends }

@@ -16,10 +16,10 @@ use Rattle.jc_safety.specs.Starting.{CanBegin, method_for}
 use Rattle.jc_store.specs.Heap.{Object}
 use Rattle.jc_words.specs.Values.{Ref, TaggedValue}
 use Rattle.jc_card.proofs.Calling.{method_called, may_call as call_may}
-use Rattle.jc_card.proofs.TypedCalls.{HasObject, can_begin, found, its, name, start_on}
+use Rattle.jc_card.proofs.TypedCalls.{HasObject, can_begin, found, its, name}
 use Rattle.jc_card.specs.PrivateTyped.{Laws}
 use Rattle.jc_card.specs.Card.{CardState, around}
-use Rattle.jc_card.specs.Parts.{arguments_of, call_applet, call_method, call_on, member_called}
+use Rattle.jc_card.specs.Parts.{arguments_of, call_applet, call_method, call_on, member_called, start_on}
 use Rattle.jc_card.specs.PrivateWords.{words_taken}
 use Rattle.jc_card.specs.Reads.{CardWords, Holds, IsDone, ReadsEnded}
 use Rattle.jc_card.specs.declared.calls.AppletCall.{AppletCall}

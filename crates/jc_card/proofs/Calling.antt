@@ -19,11 +19,11 @@ use Rattle.jc_natives.specs.Meaning.{meaning}
 use Rattle.jc_safety.specs.Safety.{EndsTyped}
 use Rattle.jc_safety.specs.Starting.{CanBegin, IsTypedStart}
 use Rattle.jc_words.specs.Values.{TaggedValue}
-use Rattle.jc_card.proofs.TypedCalls.{ends_typed, start_on, typed_start}
+use Rattle.jc_card.proofs.TypedCalls.{ends_typed, typed_start}
 use Rattle.jc_card.specs.PrivateTyped.{CallLaws}
 use Rattle.jc_card.proofs.TypedCards.{left_typed}
 use Rattle.jc_card.specs.Card.{CardState, around, left_by}
-use Rattle.jc_card.specs.Parts.{call_method, ended_call}
+use Rattle.jc_card.specs.Parts.{call_method, ended_call, start_on}
 use Rattle.jc_card.specs.Reads.{CardWords, Holds, IsDone, ReadsEnded}
 
 module _ (laws : CallLaws) (k : CardWords) (c : CardState) (h : Holds k c) (selected : ℕ) (owner : Owner)

@@ -33,7 +33,7 @@ use Rattle.jc_safety.specs.Starting.{MethodCanBegin}
 use Rattle.jc_words.specs.Values.{Ref, TaggedValue, Word}
 use Rattle.jc_card.specs.Card.{CardState, around}
 use Rattle.jc_card.specs.Install.{failure_of, installed, succeeds}
-use Rattle.jc_card.specs.Parts.{Ended}
+use Rattle.jc_card.specs.Parts.{Ended, start_on}
 use Rattle.jc_card.specs.PrivateWords.{IsInstallPlace, install_words}
 use Rattle.jc_card.specs.Reads.{ReadsInstalled}
 use Rattle.jc_card.specs.Typed.{IsTypedCard}
@@ -165,14 +165,7 @@ module _ (c : CardState) (t : IsTypedCard c) (place : AppletPlace) (owner : Owne
   around_it = around c (Some owner.context)
 
   abbrev its_start : Start Kept
-  its_start = record {
-    heap = c.heap;
-    statics = c.statics;
-    runtime = c.kept;
-    owner = owner;
-    method = Loaded place.number place.install;
-    arguments = arguments;
-  }
+  its_start = start_on c owner (Loaded place.number place.install) arguments
 
   -- its header counts them
   counted : AreSound → (length arguments == (its.header).nargs) ≡ true

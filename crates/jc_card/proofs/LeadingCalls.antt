@@ -11,7 +11,7 @@ use Rattle.jc_card.specs.Order.{Claims, IsCallOf, Order, RunsAs, Steps, call_as,
 use Rattle.jc_card.specs.Order.RunsAs.{by_method, by_native, by_none}
 use Rattle.jc_card.specs.Order.Steps.{last, onward, spent}
 use Rattle.jc_card.specs.Card.{left_by, CardState, around}
-use Rattle.jc_card.specs.Parts.{Normally, OutOfBudget, Uncaught, Ended, ended, ended_call}
+use Rattle.jc_card.specs.Parts.{Normally, OutOfBudget, Uncaught, Ended, ended, ended_call, start_on}
 use Rattle.jc_classes.specs.Members.{DeclaredMethod}
 use Rattle.jc_cap.specs.declared.method_header.MethodHeader.{MethodHeader}
 use Rattle.jc_link.specs.Linked.{World}
@@ -162,14 +162,7 @@ module _ (laws : StepsGuarded) (c : CardState) (owner : Owner) where
 
   module _ (method : MethodName) (arguments : List TaggedValue) where
     abbrev start : Start Kept
-    start = record {
-      heap = c.heap;
-      statics = c.statics;
-      runtime = c.kept;
-      owner = owner;
-      method = method;
-      arguments = arguments;
-    }
+    start = start_on c owner method arguments
 
     -- ---- the first frame
 

@@ -34,3 +34,5 @@ mod Cut
 mod Tokens
 mod Packages
 mod Accepting
+mod AnsweredCommands
+mod RegisteredInstances

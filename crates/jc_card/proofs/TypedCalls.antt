@@ -34,24 +34,13 @@ use Rattle.jc_store.specs.Heap.{Heap, Object, object_at}
 use Rattle.jc_words.specs.Values.{Ref, TaggedValue}
 use Rattle.jc_card.proofs.TypedCards.{left_typed}
 use Rattle.jc_card.specs.Card.{CardState, around}
-use Rattle.jc_card.specs.Parts.{arguments_of, call_applet, call_method, call_on, ended_call, member_called}
+use Rattle.jc_card.specs.Parts.{arguments_of, call_applet, call_method, call_on, ended_call, member_called, start_on}
 use Rattle.jc_card.specs.PrivateTyped.{CallLaws, Laws}
 use Rattle.jc_card.specs.Typed.{GivesTyped, IsTypedCard}
 use Rattle.jc_card.specs.declared.calls.AppletCall.{AppletCall}
 use Rattle.jc_card.specs.declared.calls.AppletCall.TheVariants.{Select, Deselect, Process}
 
 -- ---- calls of methods
-
--- how a call is begun on a card
-abbrev pub start_on : CardState → Owner → MethodName → List TaggedValue → Start Kept
-start_on c owner method arguments = record {
-  heap = c.heap;
-  statics = c.statics;
-  runtime = c.kept;
-  owner = owner;
-  method = method;
-  arguments = arguments;
-}
 
 ended_typed : (c : CardState) → IsTypedCard c → (selected : Option ℕ) (called : Called Kept)
     (e : CallEnd Kept) → EndsTyped (around c selected) e → GivesTyped (ended_call c called e)

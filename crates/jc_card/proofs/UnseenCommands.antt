@@ -1,5 +1,6 @@
 -- A command sees nothing of what a context keeps in which none of its steps runs.
-use Rattle.std.proofs.Common.{◌≡◌, ◌⊎◌, inl, inr, ℕ, suc, ◌==◌, ◌&&◌, Bool, true, false, not, List, [], ◌∷◌, ◌++◌, length, nat_le}
+use Rattle.std.proofs.Common.{◌≡◌, ◌⊎◌, inl, inr, ℕ, suc, ◌==◌, ◌&&◌, Bool, true, false, not, List, [], ◌∷◌, ◌++◌}
+use Rattle.std.proofs.Common.{length, nat_le}
 use Rattle.std.proofs.Common.{Option, Some, None, IfSome, is_some, refl, sym, ap, ◌∙◌, subst, Result, Ok, Err, nat_lt}
 use Rattle.std.specs.Option.{option_map, option_map_or}
 use Rattle.jc_base.specs.declared.fault.LoadFault.{LoadFault}
@@ -33,7 +34,8 @@ use Rattle.jc_card.specs.Install as installs
 use Rattle.jc_card.specs.Load.{IsLoad, IsOutOfMemory, IsUnfit, IsWithoutRoom, has_room, with_package}
 use Rattle.jc_card.specs.Order.{Installs, Order, Performs}
 use Rattle.jc_card.specs.Order.Leads.{by_buffer, by_parameters}
-use Rattle.jc_card.specs.Parts.{Ended, Left, Normally, OutOfBudget, Uncaught, and_then, call_selected, clear, gives, write}
+use Rattle.jc_card.specs.Parts.{Ended, Left, Normally, OutOfBudget, Uncaught, and_then, call_selected, clear, gives}
+use Rattle.jc_card.specs.Parts.{write}
 use Rattle.jc_card.specs.PrivateGuarded.{StepsGuarded}
 use Rattle.jc_card.specs.Unseen.{IsLoadedAlike}
 use Rattle.jc_card.specs.declared.calls.AppletCall.TheVariants as calls

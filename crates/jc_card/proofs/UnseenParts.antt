@@ -28,7 +28,8 @@ use Rattle.jc_words.specs.Values.{Ref, TaggedValue, Word}
 use Rattle.jc_card.proofs.Owners.{selected_owner}
 use Rattle.jc_card.specs.Accesses.{IsApartCard}
 use Rattle.jc_card.specs.Card.{CardState, around, left_by, selected_instance, with_heap}
-use Rattle.jc_card.specs.Parts.{Ended, Left, Normally, OutOfBudget, Uncaught, and_then, arguments_of, behind, call_applet}
+use Rattle.jc_card.specs.Parts.{Ended, Left, Normally, OutOfBudget, Uncaught, and_then, arguments_of, behind, start_on}
+use Rattle.jc_card.specs.Parts.{call_applet}
 use Rattle.jc_card.specs.Parts.{call_method, call_on, call_selected, clear, clearing_touches, ended_call, gives}
 use Rattle.jc_card.specs.Parts.{member_called, write}
 use Rattle.jc_card.specs.PrivateGuarded.{StepsGuarded}
@@ -245,14 +246,7 @@ module _ (context : ℕ) where
         → Unseen Thrown (call_method c owner.context owner method arguments)
         (call_method d owner.context owner method arguments)
     call_unseen owner whose method arguments = λ l e out.
-        let start : Start Kept = record {
-          heap = c.heap;
-          statics = c.statics;
-          runtime = c.kept;
-          owner = owner;
-          method = method;
-          arguments = arguments;
-        } in
+        let start : Start Kept = start_on c owner method arguments in
         let s = around c (Some owner.context) in
         let called : Called Kept = runtime_call s c.steps start in
         let other : Called Kept = runtime_call s c.steps (from_objects start heap) in

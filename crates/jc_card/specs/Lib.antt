@@ -7,6 +7,7 @@ pub mod Install
 pub mod Order
 pub mod Accesses
 pub mod Unseen
+pub mod Answering
 pub mod PrivateGuarded
 pub mod PrivateTyped
 pub mod Typed

@@ -4,7 +4,7 @@ use Rattle.std.specs.Prelude.{ℕ, suc, List, [], ◌∷◌, ◌++◌, Option, S
 use Rattle.std.specs.Option.{option_and_then, option_map, option_map_or}
 use Rattle.jc_machine.specs.Machine.{Machine, Touch}
 use Rattle.jc_machine.specs.Runtime.{apdu_object}
-use Rattle.jc_machine.specs.Step.{Called, CallEnd, Gave, RanOut, Threw, WasStuck, runtime_call}
+use Rattle.jc_machine.specs.Step.{Called, CallEnd, Gave, RanOut, Start, Threw, WasStuck, runtime_call}
 use Rattle.jc_machine.specs.declared.stop.Budget.{Budget}
 use Rattle.jc_machine.specs.declared.stop.CodePoint.{CodePoint}
 use Rattle.jc_names.specs.declared.name.MethodName.{MethodName}
@@ -68,16 +68,21 @@ ended_call c called WasStuck = None
 abbrev pub ended : CardState → Called Kept → Option (Left Ended)
 ended c called = ended_call c called called.ends
 
--- a method is called as an instance, with no owner before it, while a context counts as the selected one
-abbrev pub call_method : CardState → ℕ → Owner → MethodName → List TaggedValue → Option (Left Ended)
-call_method c selected owner method arguments = ended c (runtime_call (around c (Some selected)) c.steps (record {
+-- how a call of a method begins on a card
+abbrev pub start_on : CardState → Owner → MethodName → List TaggedValue → Start Kept
+start_on c owner method arguments = record {
   heap = c.heap;
   statics = c.statics;
   runtime = c.kept;
   owner = owner;
   method = method;
   arguments = arguments;
-}))
+}
+
+-- a method is called as an instance, with no owner before it, while a context counts as the selected one
+abbrev pub call_method : CardState → ℕ → Owner → MethodName → List TaggedValue → Option (Left Ended)
+call_method c selected owner method arguments =
+    ended c (runtime_call (around c (Some selected)) c.steps (start_on c owner method arguments))
 
 -- the members of Applet that the runtime calls, by their numbers, and what they take
 abbrev pub member_called : AppletCall → ℕ

@@ -3,6 +3,7 @@
 
 mod accesses;
 mod answer;
+mod answers;
 mod calls;
 mod card;
 mod cause;
@@ -30,6 +31,7 @@ pub use accesses::{
     accesses_add_up, commands_are_guarded, commands_see_no_contents, commands_stay_apart,
 };
 pub use answer::{Answer, MOST_SENT};
+pub use answers::commands_are_answered;
 pub use card::Card;
 pub use cause::Cause;
 pub use examples::{applets_are_installed, applets_are_selected};

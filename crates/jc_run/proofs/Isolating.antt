@@ -5,6 +5,7 @@ use Rattle.std.proofs.lemmas.Bool.{and_parts}
 use Rattle.std.proofs.lemmas.List.Folds.{list_all-append}
 use Rattle.jc_base.specs.declared.fault.LoadFault.{LoadFault}
 use Rattle.jc_card.specs.Accesses.{IsApartCard}
+use Rattle.jc_card.specs.Answering.{AreAnswered}
 use Rattle.jc_card.specs.Card.{CardState, with_heap, with_steps}
 use Rattle.jc_card.specs.Commands.{apdu_command, reset_command}
 use Rattle.jc_card.specs.Install.{install_command}
@@ -28,6 +29,7 @@ use Rattle.jc_run.specs.Isolation.{AreIsolated, RunsAlike}
 use Rattle.jc_run.specs.Play.{IsAnswered, IsGiven}
 use Rattle.jc_run.specs.Runs.{AreGuarded}
 use Rattle.jc_script.specs.Script.{Apdu, Cells, Install, Load, Objects, Reset, ScriptCommand, Steps}
+use Rattle.jc_run.proofs.BetweenCommands.{runs_idle}
 
 -- what is known of each command
 pub record Laws : Type 0 where
@@ -39,6 +41,7 @@ pub record Laws : Type 0 where
       → IsLoad c image certificate result after → (context : ℕ) (heap : Heap TaggedValue)
       → AreAlike context c.heap heap → IsLoadedAlike context c image certificate result after heap
   pub members : (w : World) (call : NativeCall Kept) → IsRemembered w call (meaning.answer w call)
+  pub answered : AreAnswered
 
 module _ (laws : Laws) (images certificates : List ℕ → List ℕ → Type 0)
     (guarded : AreGuarded images certificates) where
@@ -129,7 +132,8 @@ module _ (laws : Laws) (images certificates : List ℕ → List ℕ → Type 0)
           }
       answered_alike (Install applet instance incoming) answer after h out =
           let k = given_alike (install_command c applet instance incoming)
-          (install_command d applet instance incoming) _ answer after h out (λ l e o. laws.install c p applet instance incoming context l e o heap alike) in record {
+          (install_command d applet instance incoming) _ answer after h out
+          (λ l e o. laws.install c p applet instance incoming context l e o heap alike) in record {
             heap_behind = k.heap_behind;
             alike = k.alike;
             answered = k.given;
@@ -205,4 +209,6 @@ module _ (laws : Laws) (images certificates : List ℕ → List ℕ → Type 0)
     unseen = λ context commands c answers touches ran after p run out heap alike.
         runs_alike context run p out heap alike;
     members = laws.members;
+    answers = laws.answered;
+    between = λ commands c answers touches ran after idle run. runs_idle laws.answered images certificates run idle;
   }

@@ -4,6 +4,7 @@ pub mod Ending
 pub mod Playing
 pub mod Starting
 pub mod Running
+mod BetweenCommands
 mod Isolating
 mod NeverStuck
 pub mod Conversing

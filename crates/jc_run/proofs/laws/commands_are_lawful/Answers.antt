@@ -25,6 +25,7 @@ returns-clause-isolated g c = all_isolated (record {
   reset = c.commands_see_no_contents.ensures.reset;
   load = c.commands_see_no_contents.ensures.load;
   members = c.members_keep_what_is_kept.ensures;
+  answered = c.commands_are_answered.ensures;
 }) _ _ (returns-clause-guarded g c)
 
 pub returns-clause-never_stuck : goal.returns-clause-never_stuck

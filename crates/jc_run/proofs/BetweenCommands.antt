@@ -1,7 +1,7 @@
 -- Between commands no instance is being installed.
 use Rattle.std.proofs.Common.{◌≡◌, ℕ, List, [], ◌∷◌, Option, Some, None, IfSome, sym, ap, ◌∙◌, subst, Result, Ok, Err}
 use Rattle.jc_base.specs.declared.fault.LoadFault.{LoadFault}
-use Rattle.jc_card.specs.Answering.{AreAnswered, IsInstalled, failed, refused, succeeded}
+use Rattle.jc_card.specs.Answering.{AreAnswered, IsInstalled, KeepsRegistered, failed, refused, succeeded}
 use Rattle.jc_card.specs.Card.{CardState}
 use Rattle.jc_card.specs.Commands.{apdu_command, reset_command}
 use Rattle.jc_card.specs.Install.{Installed, install_command}
@@ -49,10 +49,12 @@ module _ (laws : AreAnswered) (images certificates : List ℕ → List ℕ → T
       (λ l k. installed_idle c l idle k) (laws.installs c idle applet instance incoming)) h
   answered_idle c (Apdu bytes) answer after idle h =
       given_idle (apdu_command c bytes) _ answer after
-      (mapped _ (λ l. IsIdle l.card) (apdu_command c bytes) (λ l k. k.installing) (laws.registered c idle bytes)) h
+      (mapped (λ l. KeepsRegistered c l.card) (λ l. IsIdle l.card) (apdu_command c bytes) (λ l k. k.installing)
+      (laws.registered c idle bytes)) h
   answered_idle c Reset answer after idle h =
       given_idle (reset_command c) _ answer after
-      (mapped _ (λ l. IsIdle l.card) (reset_command c) (λ l k. k.installing) (laws.resets c idle)) h
+      (mapped (λ l. KeepsRegistered c l.card) (λ l. IsIdle l.card) (reset_command c) (λ l k. k.installing)
+      (laws.resets c idle)) h
   answered_idle c Cells answer after idle h = ap (λ (d : CardState). d.kept.installing) h.1 ∙ idle
   answered_idle c Objects answer after idle h = ap (λ (d : CardState). d.kept.installing) h.1 ∙ idle
   answered_idle c (Steps steps) answer after idle h = ap (λ (d : CardState). d.kept.installing) h.1 ∙ idle

@@ -54,8 +54,8 @@ pub record EndsWith {A B : Type 0} (l : Left A) (called : Left B) : Type 0 where
 -- answer's data are what it sent, and its status is 9000, where that call ended by itself. Else no applet is selected
 -- behind the command, or the bytes are no command: there are no data, and the status says so
 pub data IsAnswered (bytes : List ℕ) (l : Left Response) : Type 0 where
-  by_process : (before : CardState) (called : Left Ended) → before.kept.sent ≡ []
-      → call_selected before Process ≡ Some called → EndsWith l called
+  by_process : (before : CardState) (owner : Owner) (called : Left Ended) → before.selected ≡ Some owner
+      → before.kept.sent ≡ [] → call_selected before Process ≡ Some called → EndsWith l called
       → l.card ≡ with_kept called.card (without_command called.card.kept)
       → l.value.sent ≡ called.card.kept.sent → HasStatus called.card 0x9000 called.value l.value.status
       → IsAnswered bytes l
@@ -109,7 +109,7 @@ pub data IsInstalled (c : CardState) (l : Left Installed) : Type 0 where
 
 -- ---- all commands
 
--- of each command on each card; of who is registered on a card on which none is being installed. So it is of a new one
+-- of each command on each card; of who is registered, on each card on which none is being installed, as on a new one
 pub record AreAnswered : Type 0 where
   pub apdus : (c : CardState) (bytes : List ℕ) → IfSome (apdu_command c bytes) (IsAnswered bytes)
   pub registered : (c : CardState) → c.kept.installing ≡ None → (bytes : List ℕ)

@@ -12,7 +12,9 @@ use Rattle.jc_safety.specs.Starting.{method_for}
 use Rattle.jc_store.specs.Heap.{Heap, Object, object_at}
 use Rattle.jc_store.specs.declared.kind.ClearingEvent.TheVariants as events
 use Rattle.jc_words.specs.Values.{Ref, TaggedValue, Word}
-use Rattle.jc_card.proofs.Leading.{IsPart, got_first, part_guarded}
+use Rattle.jc_card.proofs.ContentsKept.{both_out, heap_both, heap_itself}
+use Rattle.jc_card.proofs.Leading.{IsPart, got_first, led, part_guarded}
+use Rattle.jc_card.specs.Unseen.{KeepsOut}
 use Rattle.jc_card.proofs.LeadingCalls.{call_part}
 use Rattle.jc_card.proofs.LeadingWrites.{clear_part, reset_part, write_part}
 use Rattle.jc_base.specs.declared.fault.LoadFault.{LoadFault}
@@ -58,6 +60,7 @@ module _ (order : Order) where
     accesses = nowhere order c;
     packages = refl;
     apart = λ p. record { card = p; plain = nowhere order c };
+    out = λ p context e. (heap_itself context c.heap).contents;
   }
 
   joined : {A B : Type 0} (c : CardState) (l : Left A) (next : Option (Left B)) → IsPart order c l
@@ -72,6 +75,14 @@ module _ (order : Order) where
           card = n.card;
           plain = onward order c l.card m.card l.touches m.touches f.plain n.plain;
         };
+    out = λ p context e.
+        let parts = both_out context l.ran m.ran e in
+        (heap_both context c.heap l.card.heap m.card.heap
+        (record { objects = (led first.accesses).objects; contents = first.out p context parts.0 })
+        (record {
+          objects = (led h.accesses).objects;
+          contents = h.out (first.apart p).card context parts.1;
+        })).contents;
   }
 
   then_part : {A B : Type 0} (c : CardState) (done : Option (Left A)) (next : CardState → A → Option (Left B))
@@ -104,6 +115,7 @@ module _ (order : Order) where
                 card = k.card;
                 plain = onward order c d l.card [] l.touches (leads law_of_plain_objects) k.plain;
               };
+          out = λ p. h.out (apart_with p);
         }
 
   either : {A : Type 0} (c : CardState) (b : Bool) (x y : Option (Left A)) → Fine order c x → Fine order c y
@@ -175,6 +187,7 @@ module _ (laws : StepsGuarded) where
         };
         plain = by_closing k selects c;
       };
+      out = λ p context e. (heap_itself context c.heap).contents;
     }
 
     process_part : (c : CardState) (selecting : Bool) → Fine performs c (commands.process c k selecting)
@@ -375,6 +388,24 @@ module _ (laws : StepsGuarded) where
   pub resets_stay_apart : (c : CardState) → IsApartCard c
       → IfSome (commands.reset_command c) (λ l. KeepsApart Resets c l.touches l.card)
   resets_stay_apart c p = kept_apart Resets c (commands.reset_command c) (reset_part laws c) p
+
+  kept_out : {A : Type 0} (order : Order) (c : CardState) (done : Option (Left A)) → Fine order c done
+      → IsApartCard c → IfSome done (KeepsOut c)
+  kept_out order c None h p = tt
+  kept_out order c (Some l) h p = h.out p
+
+  pub apdus_keep_out : (c : CardState) → IsApartCard c → (bytes : List ℕ)
+      → IfSome (commands.apdu_command c bytes) (KeepsOut c)
+  apdus_keep_out c p bytes = kept_out (apdu_order c bytes) c (commands.apdu_command c bytes) (apdu_part c bytes) p
+
+  pub installs_keep_out : (c : CardState) → IsApartCard c → (applet instance incoming : List ℕ)
+      → IfSome (installs.install_command c applet instance incoming) (KeepsOut c)
+  installs_keep_out c p applet instance incoming =
+      kept_out (install_order c applet) c (installs.install_command c applet instance incoming)
+      (install_part c applet instance incoming) p
+
+  pub resets_keep_out : (c : CardState) → IsApartCard c → IfSome (commands.reset_command c) (KeepsOut c)
+  resets_keep_out c p = kept_out Resets c (commands.reset_command c) (reset_part laws c) p
 
   whole : {A : Type 0} (order : Order) (c : CardState) (done : Option (Left A)) → Fine order c done
       → IfSome done (IsGuardedCommand order c)

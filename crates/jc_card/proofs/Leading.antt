@@ -21,6 +21,7 @@ use Rattle.jc_card.specs.Order.Leads.{by_selecting, by_settling, by_unselecting,
 use Rattle.jc_card.specs.Order.RunsAs.{by_method, by_native, by_none}
 use Rattle.jc_card.specs.Order.Steps.{last, onward, spent}
 use Rattle.jc_card.specs.Parts.{Left}
+use Rattle.jc_card.specs.Unseen.{KeepsOut}
 
 -- ---- objects stay
 
@@ -154,11 +155,13 @@ led (by_reset c between heap touches more first next) =
     added_up c.heap between heap touches more (worked c touches between first.work)
     (worked (with_heap c between) more heap next.work)
 
--- a part of a command: where its accesses lead, that the packages stay, and that it keeps a card apart
+-- a part of a command: where its accesses lead, that the packages stay, that it keeps a card apart, and what it keeps of
+-- contexts in which it doesn't run
 pub record IsPart {A : Type 0} (order : Order) (c : CardState) (l : Left A) : Type 0 where
   pub accesses : Leads law_of_accesses order c l.touches l.card
   pub packages : l.card.world ≡ c.world
   pub apart : IsApartCard c → KeepsApart order c l.touches l.card
+  pub out : IsApartCard c → KeepsOut c l
 
 pub part_guarded : {A : Type 0} (order : Order) (c : CardState) (l : Left A) → IsPart order c l
     → IsGuardedCommand order c l

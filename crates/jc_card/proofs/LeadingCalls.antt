@@ -5,7 +5,9 @@ use Rattle.jc_link.specs.Built.{IsBuilt}
 use Rattle.jc_machine.specs.Apart.{IsApart, IsApartAnswer, IsSetApart, StaysApart, is_applets}
 use Rattle.jc_natives.specs.Apart.{names_applets}
 use Rattle.jc_card.proofs.Leading.{left_at_end, IsPart}
+use Rattle.jc_card.proofs.ContentsKept.{EndKeeps, KeepsHeap, call_keeps_out}
 use Rattle.jc_card.proofs.Sparing.{spared}
+use Rattle.jc_machine.specs.Unseen.{stays_out}
 use Rattle.jc_card.specs.Accesses.{IsApartCard, IsLawfulStep, law_of_accesses, law_of_plain_objects}
 use Rattle.jc_card.specs.Order.{Claims, IsCallOf, Order, RunsAs, Steps, call_as, machine_at_end, machine_with}
 use Rattle.jc_card.specs.Order.RunsAs.{by_method, by_native, by_none}
@@ -281,9 +283,10 @@ module _ (laws : StepsGuarded) (c : CardState) (owner : Owner) where
 
       left_apart : (ended : Called Kept) (m : Machine Kept) (ends : Ended)
           → IsCallLed arguments method ended.touches m
+          → (IsApartCard c → (context : ℕ) → stays_out context ended.ran ≡ true → KeepsHeap context c.heap m.heap)
           → IsPart order c
           (record { touches = ended.touches; ran = ended.ran; card = left_by c m; value = ends })
-      left_apart ended m ends h = record {
+      left_apart ended m ends h keeps = record {
         accesses = by_call order c owner method arguments ended.touches m called h.runs;
         packages = refl;
         apart = λ p. record {
@@ -295,14 +298,19 @@ module _ (laws : StepsGuarded) (c : CardState) (owner : Owner) where
           };
           plain = by_call order c owner method arguments ended.touches m called (h.plain (fit_start p));
         };
+        out = λ p context e. (keeps p context e).contents;
       }
 
       ended_part : (ended : Called Kept) (ends : CallEnd Kept) → call_end arguments method ended.touches ends
-          → IfSome (ended_call c ended ends) (IsPart order c)
-      ended_part ended (Gave m value) h = left_apart ended m (Normally value) h
-      ended_part ended (Threw m object at) h = left_apart ended m (Uncaught object at) h
-      ended_part ended (RanOut m lack at) h = left_apart ended m (OutOfBudget lack at) h
-      ended_part ended WasStuck h = tt
+          → ((p : IsApartCard c) (context : ℕ) → stays_out context ended.ran ≡ true
+          → EndKeeps laws context c owner p c.heap ends) → IfSome (ended_call c ended ends) (IsPart order c)
+      ended_part ended (Gave m value) h keeps = left_apart ended m (Normally value) h keeps
+      ended_part ended (Threw m object at) h keeps = left_apart ended m (Uncaught object at) h keeps
+      ended_part ended (RanOut m lack at) h keeps = left_apart ended m (OutOfBudget lack at) h keeps
+      ended_part ended WasStuck h keeps = tt
 
       pub call_part : IfSome (ended c (runtime_call s c.steps start)) (IsPart order c)
-      call_part = grind (arith, ended_part, call_leads)
+      call_part =
+          let called = runtime_call s c.steps start in
+          ended_part called called.ends call_leads
+          (λ p context. call_keeps_out laws context c owner p (is_owner p) method arguments)

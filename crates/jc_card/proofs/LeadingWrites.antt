@@ -1,12 +1,15 @@
 -- Where the runtime's own accesses lead: what it writes, and what it clears.
 use Rattle.std.proofs.Common.{◌≡◌, ℕ, zero, suc, ◌+◌, List, [], ◌∷◌, ◌++◌, map, set, length, Option, Some, None, Bool}
 use Rattle.std.proofs.Common.{true, false, cond, refl, sym, ap, subst, ◌∙◌, inl, inr, ◌⊎◌, slice_get, IfSome, ◌≢◌}
-use Rattle.std.proofs.Common.{IsSome, ◌&&◌, arith}
+use Rattle.std.proofs.Common.{IsSome, ◌&&◌, arith, ◌==◌, eqb-true, eq-eqb}
+use Rattle.std.proofs.lemmas.Bool.{both_ways}
 use Rattle.std.proofs.lemmas.Option.{none-some, same_Some}
 use Rattle.jc_names.specs.declared.owner.Owner.{Owner}
 use Rattle.jc_store.specs.Heap.{is_same_event, Heap, Object, is_cleared_by, object_at, with_object}
 use Rattle.jc_store.specs.declared.kind.Mark.TheVariants.{Plain}
+use Rattle.jc_card.proofs.ContentsKept.{heap_both, hidden_is_plain}
 use Rattle.jc_card.proofs.Leading.{keeps_self, IsPart}
+use Rattle.jc_card.specs.Unseen.{KeepsContents}
 use Rattle.jc_card.specs.PrivateGuarded.{StepsGuarded}
 use Rattle.jc_card.specs.Accesses.{AllCleared, IsApartCard, law_of_accesses, law_of_plain_objects}
 use Rattle.std.proofs.Math.Seq.{length-sets, sets}
@@ -200,6 +203,20 @@ module _ (laws : StepsGuarded) (number : ℕ) (words : List ℕ) (c : CardState)
         instances = p.instances;
       }
 
+  -- plain objects aren't written to
+  write_contents : ((o : Object TaggedValue) → object_at c.heap number ≡ Some o → o.kind.mark ≢ Plain) → (context : ℕ)
+      → KeepsContents context c.heap put
+  write_contents other context n o q there behind hidden clears = by_number (n == number) refl
+    where
+      by_number : (b : Bool) → (n == number) ≡ b → q.cells ≡ o.cells
+      by_number true e =
+          absurd (other o (subst (λ (k : ℕ). object_at c.heap k ≡ Some o) (eqb-true n number e) there)
+          (hidden_is_plain context o hidden).1)
+      by_number false e =
+          ap (λ (x : Object TaggedValue). x.cells)
+          (same_Some q o (sym behind ∙ (own_write law_of_accesses tt).others n
+          (λ is. both_ways (n == number) e (eq-eqb n number is)) ∙ there))
+
   pub write_part : (order : Order) → ((claims : Claims) → IsOwnWrite claims c number put
       → Leads claims order c (runtime_touch c.heap number) (with_heap c put))
       → (IsApartCard c → (o : Object TaggedValue) → object_at c.heap number ≡ Some o → o.kind.mark ≢ Plain)
@@ -211,6 +228,7 @@ module _ (laws : StepsGuarded) (number : ℕ) (words : List ℕ) (c : CardState)
       card = put_apart p;
       plain = leads law_of_plain_objects (own_write law_of_plain_objects (other p));
     };
+    out = λ p context e. write_contents (other p) context;
   }
 
 -- ---- what is cleared
@@ -337,6 +355,18 @@ module _ (w : World) (event : ClearingEvent) (context : Option ℕ) where
   pub clears_exactly : (heap : Heap TaggedValue) → Clears event context heap (zeroed_where test heap)
   clears_exactly heap = grind (arith, got_cleared)
 
+  -- what no event clears holds what it held
+  not_cleared : (o : Object TaggedValue) → o.kind.clears ≡ None → test o ≡ false
+  not_cleared o e =
+      ap (λ (x : Option ClearingEvent). option_map_or (is_same_event event) x false
+      && option_map_or (λ (n : ℕ). n == o.owner.context) context true) e
+
+  pub cleared_contents : (heap : Heap TaggedValue) (who : ℕ) → KeepsContents who heap (zeroed_where test heap)
+  cleared_contents heap who n o q there behind hidden clears =
+      ap (λ (x : Object TaggedValue). x.cells)
+      (same_Some q (one (test o) o) (sym behind ∙ clears_exactly heap n o there)
+      ∙ ap (λ (b : Bool). one b o) (not_cleared o clears))
+
   -- what was cleared holds what it may
   record WasAt (heap : Heap TaggedValue) (n : ℕ) (p : Object TaggedValue) : Type 0 where
     object : Object TaggedValue
@@ -428,6 +458,7 @@ module _ (laws : StepsGuarded) (event : ClearingEvent) (context : Option ℕ) (c
       accesses = leads law_of_accesses is_clearing;
       packages = refl;
       apart = λ p. record { card = clear_apart names p; plain = leads law_of_plain_objects is_clearing };
+      out = λ p who e. cleared_contents c.world event context c.heap who;
     }
 
 -- ---- a reset
@@ -478,6 +509,10 @@ reset_part laws c =
             (clear_apart laws events.Reset None c c.kept c.selected (λ names. names) p);
         plain = by_reset c between heap touches more first next;
       };
+      out = λ p who e.
+          (heap_both who c.heap between heap
+          (record { objects = first.work.kept; contents = cleared_contents c.world events.Reset None c.heap who })
+          (record { objects = next.work.kept; contents = cleared_contents c.world events.Deselect None between who })).contents;
     }
 
 pub all_cleared : (c : CardState) → IfSome (reset_command c) (λ l. AllCleared c.heap l.card.heap)

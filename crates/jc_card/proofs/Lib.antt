@@ -34,5 +34,6 @@ mod Cut
 mod Tokens
 mod Packages
 mod Accepting
+mod ContentsKept
 mod AnsweredCommands
 mod RegisteredInstances

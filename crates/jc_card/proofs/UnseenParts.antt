@@ -1,10 +1,8 @@
 -- A part of a command sees nothing of what a context keeps in which none of its steps runs.
 use Rattle.std.specs.Prelude.{⊤}
-use Rattle.std.proofs.Common.{◌≡◌, ℕ, suc, ◌==◌, ◌&&◌, Bool, true, false, cond, not, List, [], ◌∷◌, ◌++◌, map}
+use Rattle.std.proofs.Common.{◌≡◌, ℕ, suc, ◌&&◌, Bool, true, false, cond, List, [], ◌∷◌, ◌++◌, map}
 use Rattle.std.proofs.Common.{Option, Some, None, refl, sym, ap, ◌∙◌, subst}
-use Rattle.std.proofs.lemmas.Bool.{and_parts}
 use Rattle.std.proofs.lemmas.List.{length-map}
-use Rattle.std.proofs.lemmas.List.Folds.{list_all-append}
 use Rattle.std.proofs.lemmas.Option.{same_Some}
 use Rattle.std.specs.Option.{option_and_then, option_map, option_map_or}
 use Rattle.jc_machine.proofs.AlikeLaws.{AlikeAt, as_cells, at_alike, with_cells}
@@ -25,6 +23,7 @@ use Rattle.jc_safety.specs.Zeroing.{zero_or_null, zeroed, zeroed_where}
 use Rattle.jc_store.specs.Heap.{Heap, Object, is_cleared_by, object_at}
 use Rattle.jc_store.specs.declared.kind.ClearingEvent.{ClearingEvent}
 use Rattle.jc_words.specs.Values.{Ref, TaggedValue, Word}
+use Rattle.jc_card.proofs.ContentsKept.{both_out}
 use Rattle.jc_card.proofs.Owners.{selected_owner}
 use Rattle.jc_card.specs.Accesses.{IsApartCard}
 use Rattle.jc_card.specs.Card.{CardState, around, left_by, selected_instance, with_heap}
@@ -35,12 +34,6 @@ use Rattle.jc_card.specs.Parts.{member_called, write}
 use Rattle.jc_card.specs.PrivateGuarded.{StepsGuarded}
 use Rattle.jc_card.specs.Unseen.{with_objects}
 use Rattle.jc_card.specs.declared.calls.AppletCall.{AppletCall}
-
-both_out : (context : ℕ) (xs ys : List ℕ) → stays_out context (xs ++ ys) ≡ true
-    → (stays_out context xs ≡ true) × (stays_out context ys ≡ true)
-both_out context xs ys e =
-    and_parts (stays_out context xs) (stays_out context ys)
-    (sym (list_all-append (λ (n : ℕ). not (n == context)) xs ys) ∙ e)
 
 -- the object with a number is the same where it isn't hidden
 pub same_seen : (context : ℕ) (H K : Heap TaggedValue) → AreAlike context H K → (n : ℕ) → IsSeen context H n

@@ -1,9 +1,9 @@
 -- What a command doesn't see: what the plain objects of a context hold, as long as none of its steps runs in that
 -- context (Java Card Runtime Environment Specification, Applet Isolation and Object Sharing).
-use Rattle.std.specs.Prelude.{◌≡◌, ℕ, true, List, Option, Some, Result}
+use Rattle.std.specs.Prelude.{◌≡◌, ℕ, true, List, Option, Some, None, Result}
 use Rattle.jc_base.specs.declared.fault.LoadFault.{LoadFault}
-use Rattle.jc_machine.specs.Unseen.{AreAlike, stays_out}
-use Rattle.jc_store.specs.Heap.{Heap}
+use Rattle.jc_machine.specs.Unseen.{AreAlike, is_hidden, stays_out}
+use Rattle.jc_store.specs.Heap.{Heap, Object, object_at}
 use Rattle.jc_words.specs.Values.{TaggedValue}
 use Rattle.jc_card.specs.Card.{CardState, with_heap}
 use Rattle.jc_card.specs.Load.{IsLoad}
@@ -31,3 +31,14 @@ pub record IsLoadedAlike (context : ℕ) (c : CardState) (image certificate : Li
   pub heap_behind : Heap TaggedValue
   pub alike : AreAlike context after.heap heap_behind
   pub load : IsLoad (with_heap c heap) image certificate result (with_heap after heap_behind)
+
+-- ---- what stays
+
+-- each plain object of a context that no event clears has the components that it had
+abbrev pub KeepsContents : ℕ → Heap TaggedValue → Heap TaggedValue → Type 0
+KeepsContents context before after = (number : ℕ) (o p : Object TaggedValue) → object_at before number ≡ Some o
+    → object_at after number ≡ Some p → is_hidden context o ≡ true → o.kind.clears ≡ None → p.cells ≡ o.cells
+
+-- so it is behind a command, whichever context none of its steps runs in
+abbrev pub KeepsOut : {A : Type 0} → CardState → Left A → Type 0
+KeepsOut c l = (context : ℕ) → stays_out context l.ran ≡ true → KeepsContents context c.heap l.card.heap

@@ -14,7 +14,7 @@ ghost use Rattle.jc_card.specs.Load.{IsLoad};
 ghost use Rattle.jc_card.specs.New.{new_card};
 ghost use Rattle.jc_card.specs.Order.{Resets, apdu_order, install_order};
 ghost use Rattle.jc_card.specs.PrivateGuarded.{StepsGuarded};
-ghost use Rattle.jc_card.specs.Unseen.{IsLoadedAlike, SeesNothing};
+ghost use Rattle.jc_card.specs.Unseen.{IsLoadedAlike, KeepsOut, SeesNothing};
 ghost use Rattle.jc_card.specs.declared.limits.Limits.{Limits};
 ghost use Rattle.jc_machine.specs.Machine.{Touch};
 ghost use Rattle.jc_machine.specs.Unseen.{AreAlike};
@@ -93,6 +93,17 @@ pub fn commands_stay_apart()
     held_values_stay();
     runtime_objects_stay();
     new_machines_are_typed();
+}
+
+/// A command keeps what the plain objects of a context hold, as long as none of its steps runs in that context. What an
+/// event clears, the transient arrays, is left out. It does nothing.
+pub fn commands_keep_contents()
+    ensures apdu { (c : CardState) → IsApartCard c → (bytes : List ℕ) → IfSome (apdu_command c bytes) (KeepsOut c) }
+    ensures install { (c : CardState) → IsApartCard c → (applet instance incoming : List ℕ)
+        → IfSome (install_command c applet instance incoming) (KeepsOut c) }
+    ensures reset { (c : CardState) → IsApartCard c → IfSome (reset_command c) (KeepsOut c) }
+{
+    steps_are_guarded();
 }
 
 /// A command sees nothing of what the plain objects of a context hold, as long as none of its steps runs in that

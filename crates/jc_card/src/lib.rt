@@ -28,7 +28,8 @@ mod typed;
 mod writing;
 
 pub use accesses::{
-    accesses_add_up, commands_are_guarded, commands_see_no_contents, commands_stay_apart,
+    accesses_add_up, commands_are_guarded, commands_keep_contents, commands_see_no_contents,
+    commands_stay_apart,
 };
 pub use answer::{Answer, MOST_SENT};
 pub use answers::commands_are_answered;

@@ -30,6 +30,7 @@ use Rattle.jc_run.specs.Play.{IsAnswered, IsGiven}
 use Rattle.jc_run.specs.Runs.{AreGuarded}
 use Rattle.jc_script.specs.Script.{Apdu, Cells, Install, Load, Objects, Reset, ScriptCommand, Steps}
 use Rattle.jc_run.proofs.BetweenCommands.{runs_idle}
+use Rattle.jc_run.proofs.ContentsKept.{KeepLaws, runs_keep}
 
 -- what is known of each command
 pub record Laws : Type 0 where
@@ -42,6 +43,7 @@ pub record Laws : Type 0 where
       → AreAlike context c.heap heap → IsLoadedAlike context c image certificate result after heap
   pub members : (w : World) (call : NativeCall Kept) → IsRemembered w call (meaning.answer w call)
   pub answered : AreAnswered
+  pub keep : KeepLaws
 
 module _ (laws : Laws) (images certificates : List ℕ → List ℕ → Type 0)
     (guarded : AreGuarded images certificates) where
@@ -208,6 +210,8 @@ module _ (laws : Laws) (images certificates : List ℕ → List ℕ → Type 0)
   all_isolated = record {
     unseen = λ context commands c answers touches ran after p run out heap alike.
         runs_alike context run p out heap alike;
+    kept = λ context commands c answers touches ran after p run out.
+        runs_keep laws.keep images certificates guarded context run p out;
     members = laws.members;
     answers = laws.answered;
     between = λ commands c answers touches ran after idle run. runs_idle laws.answered images certificates run idle;

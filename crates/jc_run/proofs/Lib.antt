@@ -5,6 +5,7 @@ pub mod Playing
 pub mod Starting
 pub mod Running
 mod BetweenCommands
+mod ContentsKept
 mod Isolating
 mod NeverStuck
 pub mod Conversing

@@ -13,7 +13,7 @@ ghost use Rattle.jc_run.specs.Runs.{AreGuarded};
 
 use jc_card::{
     accesses_add_up, commands_are_answered, commands_are_guarded, commands_are_never_stuck,
-    commands_see_no_contents, commands_stay_apart,
+    commands_keep_contents, commands_see_no_contents, commands_stay_apart,
 };
 use jc_natives::members_keep_what_is_kept;
 use jc_source::PackageSource;
@@ -32,6 +32,7 @@ pub(crate) fn commands_are_lawful<S: PackageSource>(source: &S)
     commands_stay_apart();
     commands_see_no_contents();
     members_keep_what_is_kept();
+    commands_keep_contents();
     commands_are_answered();
     commands_are_never_stuck();
     accesses_add_up();

@@ -26,6 +26,11 @@ returns-clause-isolated g c = all_isolated (record {
   load = c.commands_see_no_contents.ensures.load;
   members = c.members_keep_what_is_kept.ensures;
   answered = c.commands_are_answered.ensures;
+  keep = record {
+    apdu = c.commands_keep_contents.ensures.apdu;
+    install = c.commands_keep_contents.ensures.install;
+    reset = c.commands_keep_contents.ensures.reset;
+  };
 }) _ _ (returns-clause-guarded g c)
 
 pub returns-clause-never_stuck : goal.returns-clause-never_stuck

@@ -1,5 +1,5 @@
 -- Rows that a byte counts are few.
-use Rattle.std.proofs.Common.{◌≡◌, ℕ, ◌≤◌, ◌==◌, List, length, Result, Ok, Err, IfOk, refl, sym, ap, arith}
+use Rattle.std.proofs.Common.{◌≡◌, ℕ, ◌≤◌, ◌==◌, List, length, Result, Ok, Err, IfOk, refl, sym, arith}
 use Rattle.jc_base.specs.Cursor.{Read, whole}
 use Rattle.jc_base.specs.Rows.{repeat}
 use Rattle.jc_base.proofs.Binding.{guard_ok, ok_err, the_ok}

@@ -1,5 +1,5 @@
 -- A header leaves no more than there was.
-use Rattle.std.proofs.Common.{◌≡◌, ℕ, ◌≤◌, ◌/◌, Bool, true, false, cond, List, [], ◌∷◌, length, Ok, ap, arith}
+use Rattle.std.proofs.Common.{◌≡◌, ℕ, ◌≤◌, ◌/◌, Bool, cond, List, [], ◌∷◌, length, Ok, arith}
 use Rattle.jc_base.specs.Cursor.{Read}
 use Rattle.jc_base.proofs.Binding.{the_ok}
 use Rattle.jc_cap.specs.MethodHeader.{next_header, next_short_header, next_extended_header, extended_flag}

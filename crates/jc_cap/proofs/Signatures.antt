@@ -1,8 +1,8 @@
 -- Signatures in nibbles.
-use Rattle.std.proofs.Common.{◌≡◌, ℕ, zero, suc, ◌+◌, ◌<◌, ◌≤◌, ◌/◌, ◌==◌, IsTrue, Bool, true, false, cond, eqb, List, [], ◌∷◌, ◌++◌, length, append-nil, take, None, Result, Ok, Err, refl, sym, ap, ◌∙◌, le_refl, append_assoc, arith}
+use Rattle.std.proofs.Common.{◌≡◌, ℕ, zero, suc, ◌+◌, ◌<◌, ◌≤◌, ◌==◌, IsTrue, Bool, true, false, cond, eqb, List, [], ◌∷◌, ◌++◌, length, append-nil, None, Result, Ok, Err, refl, sym, ap, ◌∙◌, le_refl, append_assoc, arith}
 use Rattle.std.proofs.lemmas.Bool.{eq-eqb, ne_eqb}
 use Rattle.std.proofs.lemmas.List.{nil_from_length, length-take}
-use Rattle.jc_base.specs.Cursor.{Read, next_bytes, field}
+use Rattle.jc_base.specs.Cursor.{Read}
 use Rattle.jc_base.specs.Results.{◌>>=◌}
 use Rattle.jc_base.specs.Rows.{repeat}
 use Rattle.jc_base.specs.declared.class_ref.ClassRef.{ClassRef}
@@ -13,8 +13,8 @@ use Rattle.jc_base.proofs.Repeats.{reading, nothing_read, one_behind}
 use Rattle.jc_base.specs.declared.declared_type.DeclaredType.{DeclaredType}
 use Rattle.jc_base.specs.declared.declared_type.ReturnType.{ReturnType}
 use Rattle.jc_base.specs.declared.declared_type.ReturnType.TheVariants.{Void, Value}
-use Rattle.jc_cap.specs.Nibbles.{nibbles_of, next_nibbles}
-use Rattle.jc_cap.specs.DeclaredType.{next_class, of_class, no_more, next_coded_type, next_type, next_coded_return, next_return, type_given}
+use Rattle.jc_cap.specs.Nibbles.{next_nibbles}
+use Rattle.jc_cap.specs.DeclaredType.{next_class, of_class, no_more, next_coded_type, next_type, next_coded_return, next_return}
 use Rattle.jc_base.specs.Signature.{Signature}
 use Rattle.jc_cap.specs.Descriptor.{with_parameter, signature_in, signature_of, field_type_of}
 

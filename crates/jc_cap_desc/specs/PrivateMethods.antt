@@ -10,7 +10,7 @@ use Rattle.jc_cap.specs.declared.handler.Handler.{Handler}
 use Rattle.jc_cap_desc.specs.Across.{has_code, is_described, is_interface_row, stands_inside, stays_inside}
 use Rattle.jc_cap_desc.specs.declared.class_row.ClassRow.{ClassRow}
 use Rattle.jc_cap_desc.specs.declared.class_row.MethodRow.{MethodRow}
-use Rattle.jc_cap_desc.specs.declared.standing.Standing.{Standing}
+use Rattle.jc_cap_desc.specs.declared.standing.MethodTests.{MethodTests}
 
 -- the handlers that a method names, where the table has them, stay inside its code
 abbrev pub handlers_are_inside : MethodRow → Method → Option (List Handler) → Bool
@@ -29,7 +29,7 @@ code_is_described m found =
     option_map_or (λ found. if found.header.is_abstract then not (has_code m) else has_code m) found true
 
 -- what both tests say of methods that were looked at before and of these
-pub record IsStandingOf (before : Standing) (methods : Methods) (rows : List MethodRow) (all : Standing) : Type 0 where
+pub record IsStandingOf (before : MethodTests) (methods : Methods) (rows : List MethodRow) (all : MethodTests) : Type 0 where
   pub inside : all.inside ≡ (before.inside && list_all (stands_inside methods) rows)
   pub described : all.described ≡ (before.described && list_all (is_described methods) rows)
 

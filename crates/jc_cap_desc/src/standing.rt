@@ -84,7 +84,7 @@ fn code_is_described(row: &MethodRow, found: &Option<Method>) -> bool
 
 /// What the tests say of methods that were looked at.
 #[derive(Clone, Copy)]
-pub(crate) struct Standing {
+pub(crate) struct MethodTests {
     /// Header, code and handlers of each stand where they may.
     pub(crate) inside: bool,
     /// Each has no code where it is abstract and some where it isn't, and the table has the handlers that it names.
@@ -93,20 +93,20 @@ pub(crate) struct Standing {
 
 /// What the tests say with one method more, whose header and handlers are looked up once. A test that failed before
 /// isn't made again.
-fn with_method(before: Standing, methods: &MethodInfo, row: &MethodRow) -> Standing
+fn with_method(before: MethodTests, methods: &MethodInfo, row: &MethodRow) -> MethodTests
     ensures inside { result.inside ≡ (before.inside && stands_inside methods.now row.now) }
     ensures described { result.described ≡ (before.described && is_described methods.now row.now) }
 {
     let found = methods.method_at(row.offset);
     let handlers = methods.handlers(row.handler_index, row.handler_count);
-    Standing {
+    MethodTests {
         inside: before.inside && is_inside(row, &found, &handlers),
         described: before.described && code_is_described(row, &found) && handlers.is_some(),
     }
 }
 
 /// What the tests say with the methods of a class.
-fn with_methods(before: Standing, methods: &MethodInfo, rows: &MethodRows) -> Standing
+fn with_methods(before: MethodTests, methods: &MethodInfo, rows: &MethodRows) -> MethodTests
     ensures { IsStandingOf before methods.now rows.now result }
 {
     let mut standing = before;
@@ -122,13 +122,13 @@ pub(crate) fn methods_standing(
     interfaces: &NumberSet,
     rows: &ClassRows,
     methods: &MethodInfo,
-) -> Standing
+) -> MethodTests
     ensures inside { (records : List (Placed Record)) → HoldsInterfaces interfaces.now records
         → result.inside ≡ list_all (stands_inside methods.now) (class_methods records rows.now) }
     ensures described { (records : List (Placed Record)) → HoldsInterfaces interfaces.now records
         → result.described ≡ list_all (is_described methods.now) (class_methods records rows.now) }
 {
-    let mut standing = Standing {
+    let mut standing = MethodTests {
         inside: true,
         described: true,
     };

@@ -38,7 +38,7 @@ pub thrown_has : (c : CardState) (done number : ℕ) (at : Option CodePoint)
 thrown_has c done number at = by_object (object_at c.heap number) refl
   where
     by_class : (o : Object TaggedValue) → object_at c.heap number ≡ Some o → (b : Bool)
-        → is_of_class c.world.shapes (Api IsoException) o.kind.object ≡ b
+        → is_of_class c.world.shapes (Api IsoException) o.kind.object_type ≡ b
         → HasStatus c done (Uncaught number at) (cond b (reason_of o) unknown_error)
     by_class o e true f = by_reason number at o e f
     by_class o e false f = by_another number at o e f
@@ -46,7 +46,7 @@ thrown_has c done number at = by_object (object_at c.heap number) refl
     by_object : (o : Option (Object TaggedValue)) → object_at c.heap number ≡ o
         → HasStatus c done (Uncaught number at) (option_map_or (status_of_thrown c) o unknown_error)
     by_object None e = by_none number at e
-    by_object (Some o) e = by_class o e (is_of_class c.world.shapes (Api IsoException) o.kind.object) refl
+    by_object (Some o) e = by_class o e (is_of_class c.world.shapes (Api IsoException) o.kind.object_type) refl
 
 status_has : (c : CardState) (k : Kept) (ended : Ended)
     → HasStatus c 0x9000 ended (commands.status_of (with_kept c k) ended)

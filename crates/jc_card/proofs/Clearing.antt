@@ -13,7 +13,7 @@ use Rattle.jc_safety.specs.Zeroing.{zero_or_null, zeroed, zeroed_where}
 use Rattle.jc_store.specs.Heap.{Heap, Object, blanked, cleared, is_cleared_by, is_same_event}
 use Rattle.jc_store.specs.Store.{Store, with_objects}
 use Rattle.jc_store.specs.declared.kind.ClearingEvent.{ClearingEvent}
-use Rattle.jc_store.specs.declared.kind.Kind.{Kind}
+use Rattle.jc_store.specs.declared.kind.ObjectKind.{ObjectKind}
 use Rattle.jc_words.specs.Values.{TaggedValue}
 use Rattle.jc_card.proofs.TypedCards.{cleared_typed}
 use Rattle.jc_card.specs.PrivateTyped.{ZeroedTyped}
@@ -35,12 +35,12 @@ module _ (event : ClearingEvent) (context : Option ℕ) where
   abbrev test : {V : Type 0} → Object V → Bool
   test object = is_cleared_by event context object
 
-  abbrev by_kind : Kind → Owner → Bool
+  abbrev by_kind : ObjectKind → Owner → Bool
   by_kind kind owner =
       option_map_or (is_same_event event) kind.clears false && option_map_or (λ c. c == owner.context) context true
 
   same_test : (o : Object ℕ) (p : Object TaggedValue) → ReadsObject o p → test o ≡ test p
-  same_test o p r = ap (λ (k : Kind). by_kind k o.owner) r.kind ∙ ap (by_kind p.kind) r.owner
+  same_test o p r = ap (λ (k : ObjectKind). by_kind k o.owner) r.kind ∙ ap (by_kind p.kind) r.owner
 
   abbrev one : Bool → Object ℕ → Object ℕ
   one b o = cond b (blanked (λ kind. 0) o) o
@@ -88,7 +88,7 @@ module _ (event : ClearingEvent) (context : Option ℕ) where
   numbered_still names store h (suc n) x e =
       let w = was store.objects n x e in
       let k = h (suc n) w.object w.found in
-      subst (λ (kind : Kind). IsNumbered names (after_in store) (suc n) (class_of kind.object)) (sym w.kind)
+      subst (λ (kind : ObjectKind). IsNumbered names (after_in store) (suc n) (class_of kind.object_type)) (sym w.kind)
       (record { named = k.named; kept = k.kept })
 
   -- ---- the card

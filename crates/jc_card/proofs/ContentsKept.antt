@@ -28,7 +28,7 @@ use Rattle.jc_natives.specs.Apart.{names_applets}
 use Rattle.jc_natives.specs.Kept.{Kept}
 use Rattle.jc_natives.specs.Meaning.{meaning}
 use Rattle.jc_store.specs.Heap.{Heap, Object}
-use Rattle.jc_store.specs.declared.kind.Kind.{Kind}
+use Rattle.jc_store.specs.declared.kind.ObjectKind.{ObjectKind}
 use Rattle.jc_store.specs.declared.kind.Mark.{Mark}
 use Rattle.jc_store.specs.declared.kind.Mark.TheVariants.{Plain}
 use Rattle.jc_words.specs.Values.{TaggedValue}
@@ -90,8 +90,8 @@ heap_both context a b c k l = record {
       let s = k.objects n o e in
       l.contents n s.object p s.found f
       (ap (λ (w : Owner). w.context == context && is_plain s.object.kind.mark) s.owner
-      ∙ ap (λ (x : Kind). o.owner.context == context && is_plain x.mark) s.kind ∙ hidden)
-      (ap (λ (x : Kind). x.clears) s.kind ∙ clears) ∙ k.contents n o s.object e s.found hidden clears;
+      ∙ ap (λ (x : ObjectKind). o.owner.context == context && is_plain x.mark) s.kind ∙ hidden)
+      (ap (λ (x : ObjectKind). x.clears) s.kind ∙ clears) ∙ k.contents n o s.object e s.found hidden clears;
 }
 
 -- where plain objects change in another context alone

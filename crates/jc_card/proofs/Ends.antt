@@ -83,8 +83,8 @@ reason_is k c h number thrown e =
     let t = object_typed c.world.shapes c.heap c.heap h.typed.beside.heap number thrown e in
     ap (λ (o : Option (Object ℕ)). get_or (option_map_or (λ (y : Object ℕ). y.cells) o []) 0 0) x.there
     ∙ first_bits (x.object).cells thrown.cells (x.reads).cells
-    (λ v rest is. first_written c.world.shapes c.heap thrown.kind.object v rest
-    (subst (λ (vs : List TaggedValue). CellsTyped c.world.shapes c.heap vs thrown.kind.object) is t.cells))
+    (λ v rest is. first_written c.world.shapes c.heap thrown.kind.object_type v rest
+    (subst (λ (vs : List TaggedValue). CellsTyped c.world.shapes c.heap vs thrown.kind.object_type) is t.cells))
 
 -- ---- the status of what is thrown
 
@@ -127,7 +127,7 @@ module _ (k : CardWords) (c : CardState) (h : Holds k c) (number : ℕ) where
 
     pub status_of_iso : (iso : Bool) → iso ≡ true
         → ((thrown : Object TaggedValue) → object_at c.heap number ≡ Some thrown
-        → iso ≡ is_of_class c.world.shapes (Api IsoException) thrown.kind.object)
+        → iso ≡ is_of_class c.world.shapes (Api IsoException) thrown.kind.object_type)
         → (reason : ℕ)
         → ((thrown : Object TaggedValue) → object_at c.heap number ≡ Some thrown → reason ≡ reason_of thrown)
         → reason ≡ status (object_at c.heap number)
@@ -138,6 +138,6 @@ module _ (k : CardWords) (c : CardState) (h : Holds k c) (number : ℕ) where
 
     pub status_of_other : (iso : Bool) → iso ≡ false
         → ((thrown : Object TaggedValue) → object_at c.heap number ≡ Some thrown
-        → iso ≡ is_of_class c.world.shapes (Api IsoException) thrown.kind.object)
+        → iso ≡ is_of_class c.world.shapes (Api IsoException) thrown.kind.object_type)
         → unknown_error ≡ status (object_at c.heap number)
     status_of_other iso other is = grind arith

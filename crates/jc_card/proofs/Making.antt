@@ -60,7 +60,7 @@ count_until (suc n) =
 -- the numbers of the others stay, and the new one has that of its class
 numbered_more : (names : List ClassName) (store : Store) (o : Object ℕ) (class : ℕ)
     → length store.classes ≡ length store.objects → AreNumbered names store
-    → (named : HasNumber names (class_of o.kind.object)) → named.number ≡ class
+    → (named : HasNumber names (class_of o.kind.object_type)) → named.number ≡ class
     → AreNumbered names (with_made store o class)
 numbered_more names store o class same numbered named is zero y e = absurd cc
 numbered_more names store o class same numbered named is (suc k) y e =
@@ -69,14 +69,14 @@ numbered_more names store o class same numbered named is (suc k) y e =
     wanted : ClassName → Type 0
     wanted c = IsNumbered names (with_made store o class) (suc k) c
 
-    last : k ≡ length store.objects → wanted (class_of o.kind.object)
+    last : k ≡ length store.objects → wanted (class_of o.kind.object_type)
     last at = record {
       named = named;
       kept = ap (slice_get (store.classes ++ class ∷ [])) (at ∙ sym same) ∙ get_last store.classes class
           ∙ ap Some (sym is);
     }
 
-    before : slice_get store.objects k ≡ Some y → wanted (class_of y.kind.object)
+    before : slice_get store.objects k ≡ Some y → wanted (class_of y.kind.object_type)
     before there =
         let n = numbered (suc k) y there in record {
           named = n.named;
@@ -84,8 +84,8 @@ numbered_more names store o class same numbered named is (suc k) y e =
         }
 
     by_case : ((k ≡ length store.objects) × (o ≡ y)) ⊎ (slice_get store.objects k ≡ Some y)
-        → wanted (class_of y.kind.object)
-    by_case (inl a) = subst (λ (z : Object ℕ). wanted (class_of z.kind.object)) a.1 (last a.0)
+        → wanted (class_of y.kind.object_type)
+    by_case (inl a) = subst (λ (z : Object ℕ). wanted (class_of z.kind.object_type)) a.1 (last a.0)
     by_case (inr there) = before there
 
 one_more : (classes : List ℕ) (class n : ℕ) → length classes ≡ n → length (classes ++ class ∷ []) ≡ suc n

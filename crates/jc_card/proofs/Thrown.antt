@@ -21,7 +21,7 @@ use Rattle.jc_names.specs.declared.name.ClassName.{ClassName}
 use Rattle.jc_names.specs.declared.name.ClassName.TheVariants.{Api}
 use Rattle.jc_store.specs.Heap.{Heap, Object, object_at}
 use Rattle.jc_store.specs.Store.{class_number_at}
-use Rattle.jc_store.specs.declared.kind.Kind.{Kind}
+use Rattle.jc_store.specs.declared.kind.ObjectKind.{ObjectKind}
 use Rattle.jc_words.specs.Values.{TaggedValue}
 use Rattle.jc_card.specs.Card.{CardState}
 use Rattle.jc_card.specs.Reads.{CardWords, Holds}
@@ -79,15 +79,15 @@ module _ (laws : TableLaws) (k : CardWords) (c : CardState) (h : Holds k c) (obj
   x : Across k.machine.store.objects object thrown
   x = across k.machine.store.objects c.heap h.beside.heap object thrown found
 
-  named_class : slice_get k.program.classes class ≡ Some (class_of thrown.kind.object)
+  named_class : slice_get k.program.classes class ≡ Some (class_of thrown.kind.object_type)
   named_class =
       let n = h.beside.numbered object x.object x.there in
       ap (slice_get k.program.classes) (the_number class n.named.number (sym class_is ∙ n.kept))
-      ∙ n.named.there ∙ ap (λ (kind : Kind). Some (class_of kind.object)) (x.reads).kind
+      ∙ n.named.there ∙ ap (λ (kind : ObjectKind). Some (class_of kind.object_type)) (x.reads).kind
 
   pub listed_is : (number : ℕ) → class_number k.program.classes (Api IsoException) ≡ Some number
       → is_listed k.program.supertypes class number
-      ≡ is_of_class c.world.shapes (Api IsoException) thrown.kind.object
+      ≡ is_of_class c.world.shapes (Api IsoException) thrown.kind.object_type
   listed_is number e = grind (arith, program_of, named_class, built, no_interface, iso)
 
   pub has_number : {P : Type 0} → None ≡ class_number k.program.classes (Api IsoException) → P

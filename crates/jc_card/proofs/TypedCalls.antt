@@ -81,7 +81,7 @@ module _ (laws : CallLaws) (c : CardState) (t : IsTypedCard c) (selected : ℕ) 
 pub record HasObject (shapes : List Shape) (heap : Heap TaggedValue) (i : Instance) : Type 0 where
   pub object : Object TaggedValue
   pub there : object_at heap i.object ≡ Some object
-  pub applet : is_of_class shapes (Api Applet) object.kind.object ≡ true
+  pub applet : is_of_class shapes (Api Applet) object.kind.object_type ≡ true
 
 pub its_object : (shapes : List Shape) (heap : Heap TaggedValue) (i : Instance) → fits_instance shapes heap i ≡ true
     → HasObject shapes heap i
@@ -144,7 +144,7 @@ module _ (laws : Laws) (c : CardState) (t : IsTypedCard c) (i : Instance) (call 
   apdu_fits : is_of_type c.world.shapes c.heap (Reference (Api Apdu)) (Ref apdu_object) ≡ true
   apdu_fits =
       ap (λ (o : Option (Object TaggedValue)). option_map_or (λ (x : Object TaggedValue). is_of_class c.world.shapes
-      (Api Apdu) x.kind.object) o false) apdu_there.found
+      (Api Apdu) x.kind.object_type) o false) apdu_there.found
       ∙ ap (is_of_class c.world.shapes (Api Apdu)) apdu_there.type
       ∙ reflexive (Api Apdu)
 
@@ -161,7 +161,7 @@ module _ (laws : Laws) (c : CardState) (t : IsTypedCard c) (i : Instance) (call 
         number = i.object;
         there = its.there;
         below =
-            subst (λ (class : ApiClass). is_of_class c.world.shapes (Api class) (its.object).kind.object ≡ true)
+            subst (λ (class : ApiClass). is_of_class c.world.shapes (Api class) (its.object).kind.object_type ≡ true)
             (sym m.class) its.applet;
         arguments = arguments_of call;
         arguments_are = refl;

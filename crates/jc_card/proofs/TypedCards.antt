@@ -94,7 +94,7 @@ selected_fits c t i e = grind (arith, instance_fits)
 module _ (stays : KeepsTyped) (s : Surroundings Kept) (may : MayRun s) (number : ℕ) where
   all_typed : (bytes : List ℕ) → ((n : ℕ) → get_or bytes n 0 < 256) → (m : Machine Kept) → IsTypedBeside s m
       → (from : ℕ) (object : Object TaggedValue) → object_at m.heap number ≡ Some object
-      → object.kind.object ≡ ByteArray
+      → object.kind.object_type ≡ ByteArray
       → IsTypedBeside s (machine_with_heap m (put_all m.heap number from (map Word bytes)))
   all_typed [] are m t from object e k =
       record { heap = t.heap; statics = t.statics; runtime_objects = t.runtime_objects; fits = t.fits }
@@ -109,7 +109,7 @@ module _ (stays : KeepsTyped) (s : Surroundings Kept) (may : MayRun s) (number :
 
 pub written_typed : IsLawful meaning → KeepsTyped → (c : CardState) → IsTypedCard c → (number : ℕ) (bytes : List ℕ)
     → ((n : ℕ) → get_or bytes n 0 < 256) → (object : Object TaggedValue) → object_at c.heap number ≡ Some object
-    → object.kind.object ≡ ByteArray → IsTypedCard (with_heap c (put_all c.heap number 0 (map Word bytes)))
+    → object.kind.object_type ≡ ByteArray → IsTypedCard (with_heap c (put_all c.heap number 0 (map Word bytes)))
 written_typed lawful stays c t number bytes are object there kind =
     let may : MayRun (around c None) = record { accepted = t.accepted; natives = lawful } in
     left_typed c t None (machine_with_heap (at_rest c) (put_all c.heap number 0 (map Word bytes)))

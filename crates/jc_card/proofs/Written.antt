@@ -7,7 +7,7 @@ use Rattle.jc_natives.specs.Meaning.{meaning}
 use Rattle.jc_store.specs.Blocks.{HasCells, with_cells}
 use Rattle.jc_store.specs.Heap.{with_object}
 use Rattle.jc_store.specs.Store.{Store, with_objects}
-use Rattle.jc_store.specs.declared.kind.Kind.{Kind}
+use Rattle.jc_store.specs.declared.kind.ObjectKind.{ObjectKind}
 use Rattle.jc_card.proofs.Heaps.{read_length, was, written_reads}
 use Rattle.jc_card.proofs.Thrown.{Across, across}
 use Rattle.jc_card.proofs.TypedCards.{written_typed}
@@ -43,7 +43,7 @@ module _ (k : CardWords) (c : CardState) (h : Holds k c) (number : ℕ) (bytes :
       let w = was k.machine.store.objects number its_words.object (with_cells its_words.object 0 bytes)
       its_words.there refl other y e in
       let n = h.beside.numbered other w.object w.found in
-      subst (λ (kind : Kind). IsNumbered k.program.classes store_after other (class_of kind.object)) (sym w.kind)
+      subst (λ (kind : ObjectKind). IsNumbered k.program.classes store_after other (class_of kind.object_type)) (sym w.kind)
       (record { named = n.named; kept = n.kept })
 
   module _ (lawful : IsLawful meaning) (stays : KeepsTyped) (are : (n : ℕ) → get_or bytes n 0 < 256) where

@@ -52,7 +52,7 @@ pub record IsLawfulStep (s : Surroundings Kept) (m : Machine Kept) : Type 0 wher
   pub accesses : AccessesAreOwn s m
   pub frames : StepsOwned s m
   pub thrown : (number : ℕ) (o : Object TaggedValue) → object_at m.heap number ≡ Some o
-      → UnwindsTo s m number (class_of o.kind.object) (settled s (Throws m number))
+      → UnwindsTo s m number (class_of o.kind.object_type) (settled s (Throws m number))
   pub kept : (after : Machine Kept) → machine_of (defensive_step s m).outcome ≡ Some after
       → KeepsObjects m.heap after.heap
 

@@ -32,10 +32,10 @@ use Rattle.jc_card.specs.declared.places.AppletPlace.{AppletPlace}
 pub data HasStatus (c : CardState) (done : ℕ) : Ended → ℕ → Type 0 where
   by_itself : (value : Option TaggedValue) → HasStatus c done (Normally value) done
   by_reason : (number : ℕ) (at : Option CodePoint) (o : Object TaggedValue) → object_at c.heap number ≡ Some o
-      → is_of_class c.world.shapes (Api IsoException) o.kind.object ≡ true
+      → is_of_class c.world.shapes (Api IsoException) o.kind.object_type ≡ true
       → HasStatus c done (Uncaught number at) (reason_of o)
   by_another : (number : ℕ) (at : Option CodePoint) (o : Object TaggedValue) → object_at c.heap number ≡ Some o
-      → is_of_class c.world.shapes (Api IsoException) o.kind.object ≡ false
+      → is_of_class c.world.shapes (Api IsoException) o.kind.object_type ≡ false
       → HasStatus c done (Uncaught number at) 0x6F00
   by_none : (number : ℕ) (at : Option CodePoint) → object_at c.heap number ≡ None
       → HasStatus c done (Uncaught number at) 0x6F00

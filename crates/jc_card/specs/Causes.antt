@@ -14,7 +14,7 @@ abbrev pub reason_of : Object TaggedValue → ℕ
 reason_of object = bits (get_or object.cells 0 (Word 0))
 
 abbrev pub thrown_cause : Option CodePoint → Object TaggedValue → Cause
-thrown_cause at object = Threw object.kind.object (reason_of object) at
+thrown_cause at object = Threw object.kind.object_type (reason_of object) at
 
 -- of a command
 abbrev pub cause_of : CardState → Ended → Option Cause

@@ -36,7 +36,7 @@ status_alone status = record { sent = []; status = status; cause = None }
 -- an ISOException, or one of a subclass, that nothing caught says the status; of anything else there is no diagnosis
 abbrev pub status_of_thrown : CardState → Object TaggedValue → ℕ
 status_of_thrown c object =
-    if is_of_class c.world.shapes (Api IsoException) object.kind.object then reason_of object else unknown_error
+    if is_of_class c.world.shapes (Api IsoException) object.kind.object_type then reason_of object else unknown_error
 
 abbrev pub status_of : CardState → Ended → ℕ
 status_of c (Normally value) = normal

@@ -62,7 +62,7 @@ HaveApiNumbers names = (c : ApiClass) → HasNumber names (Api c)
 -- one as it is made
 abbrev pub made_of : {V : Type 0} → V → OwnObject → Object V
 made_of {V} blank o = record {
-  kind = record { object = o.object; mark = o.mark; clears = None };
+  kind = record { object_type = o.object; mark = o.mark; clears = None };
   owner = runtime;
   cells = replicate {A = V} o.size blank;
 }

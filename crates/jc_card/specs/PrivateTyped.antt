@@ -54,7 +54,7 @@ pub record Laws : Type 0 where
 abbrev pub KeepsTyped : Type 0
 KeepsTyped = (s : Surroundings Kept) → MayRun s → (m : Machine Kept) → IsTypedBeside s m
     → (number index byte : ℕ) (object : Object TaggedValue) → object_at m.heap number ≡ Some object
-    → object.kind.object ≡ ByteArray → byte < 256
+    → object.kind.object_type ≡ ByteArray → byte < 256
     → IsTypedBeside s (machine_with_heap m (with_object m.heap number (with_cell object index (Word byte))))
 
 -- objects of any test are zeroed, and all is typed still

@@ -24,7 +24,7 @@ install_words size = install_array ∷ 0 ∷ size ∷ []
 pub record HasBytes (heap : Heap TaggedValue) (number count : ℕ) : Type 0 where
   pub object : Object TaggedValue
   pub there : object_at heap number ≡ Some object
-  pub bytes : object.kind.object ≡ ByteArray
+  pub bytes : object.kind.object_type ≡ ByteArray
   pub within : count ≤ length object.cells
 
 -- a loaded package stands there, and at the offset an install method

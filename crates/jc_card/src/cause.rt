@@ -58,7 +58,7 @@ impl Card {
             return None;
         }
         Some(Cause::Threw {
-            object: self.machine.store.class_of(object).object,
+            object: self.machine.store.kind_of(object).object_type,
             reason: self.reason_of(object),
             at,
         })

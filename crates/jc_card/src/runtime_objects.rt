@@ -10,7 +10,7 @@ ghost use Rattle.jc_store.specs.Store.{Store};
 use jc_api::ApiClass;
 use jc_names::{ClassName, Owner};
 use jc_program::{Classes, classes_have_numbers};
-use jc_store::{Kind, Mark, ObjectType, Store};
+use jc_store::{Mark, ObjectKind, ObjectType, Store};
 
 /// One of them, as it is made: all its components are 0.
 #[derive(Clone, Copy)]
@@ -99,8 +99,8 @@ fn make(store: &mut Store, classes: &Classes, place: u16)
     classes_have_numbers();
     let own = own_object(place);
     let class = classes.number_of(class_of(own.object)).unwrap();
-    let kind = Kind {
-        object: own.object,
+    let kind = ObjectKind {
+        object_type: own.object,
         mark: own.mark,
         clears: None,
     };

@@ -63,7 +63,7 @@ impl Card {
         requires there { IsThere self.now.machine.store object }
         ensures { (c : CardState) (thrown : Object TaggedValue) → Holds self.now c
             → object_at c.heap object ≡ Some thrown
-            → result ≡ is_of_class c.world.shapes (Api IsoException) thrown.kind.object }
+            → result ≡ is_of_class c.world.shapes (Api IsoException) thrown.kind.object_type }
     {
         program_laws();
         classes_have_numbers();

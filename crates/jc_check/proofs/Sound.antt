@@ -1,8 +1,8 @@
 -- Where the check finds nothing, the states carry the method.
-use Rattle.std.proofs.Common.{◌≡◌, ℕ, ℤ, pos, ◌≤◌, ◌<◌, ◌==◌, List, [], ◌∷◌, length, map, nat_lt, Option, Some, None, Result, Ok, Err, Bool, true, false, ◌||◌, cond, ◌⊎◌, inl, inr, refl, sym, ap, ◌∙◌, subst, arith}
+use Rattle.std.proofs.Common.{◌≡◌, ℕ, ℤ, pos, ◌≤◌, ◌<◌, ◌==◌, List, [], ◌∷◌, length, map, nat_lt, Option, Some, None, Result, Ok, Err, Bool, true, false, ◌||◌, cond, inl, inr, refl, sym, ap, ◌∙◌, subst, arith}
 use Rattle.std.specs.Prelude.{⊤}
 use Rattle.std.specs.List.{AllByRecursion}
-use Rattle.std.proofs.lemmas.Bool.{ltb-true, ltb-false, eqb-true, eq-eqb, ne_eqb}
+use Rattle.std.proofs.lemmas.Bool.{ltb-true, eqb-true, eq-eqb, ne_eqb}
 use Rattle.jc_base.specs.declared.reason.Reason.{Reason}
 use Rattle.jc_base.specs.declared.reason.Reason.TheVariants.{CertMismatch, FallsOff, NoTarget}
 use Rattle.jc_base.proofs.Binding.{bind_ok, guard_ok, the_ok, the_some, none_some, choice, chosen}

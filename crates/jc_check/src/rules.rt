@@ -12,13 +12,13 @@ use jc_cert::SpelledClass;
 use jc_code::{CodeFault, Instr, Operation, decode_words, listing_laws, next_words_pc};
 use jc_effects::transfer_word;
 use jc_names::ClassName;
-use jc_types::{Classes, NoClasses, State, Ty};
+use jc_types::{ClassOrder, NoClasses, State, Ty};
 
 /// What code is checked by: how it decodes, what its instructions do to types, how its classes are ordered, and which
 /// classes the names in a certificate stand for.
 pub(crate) trait CheckRules {
     /// What orders the classes.
-    type Order: Classes;
+    type Order: ClassOrder;
 
     ghost rules: { Self → Rules };
 

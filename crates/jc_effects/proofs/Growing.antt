@@ -48,7 +48,7 @@ use Rattle.jc_effects.specs.Objects.{Setting, class_of_entry, creation_row, has_
 use Rattle.jc_effects.specs.Row.{Row, after, all_meet, applied, count_of, has_local, is_met, local_meets, meets}
 use Rattle.jc_effects.specs.Words.{word_effect}
 use Rattle.jc_effects.specs.declared.row.Demand.{Demand}
-use Rattle.jc_effects.specs.declared.row.Place.{Place}
+use Rattle.jc_effects.specs.declared.row.LocalDemand.{LocalDemand}
 
 -- ---- options
 
@@ -130,7 +130,7 @@ module _ (known : ClassName → Bool) (one other : ClassName → ClassName → B
       ∙ ap (λ b. meets other d t && b) (all_meet_same demands ts two.1)
   all_meet_same t u h = refl
 
-  local_same : (place : Place) (t : Ty) → is_known known t ≡ true → local_meets one place t ≡ local_meets other place t
+  local_same : (place : LocalDemand) (t : Ty) → is_known known t ≡ true → local_meets one place t ≡ local_meets other place t
   local_same place t h1 = grind (arith, meets_same)
 
   met_same : (row : Row) (s : Types) → AreKnown known s → is_met one row s ≡ is_met other row s

@@ -53,7 +53,7 @@ use Rattle.jc_effects.specs.declared.row.Demand.{Demand}
 use Rattle.jc_effects.specs.declared.row.Demand.TheVariants.{Reference}
 use Rattle.jc_effects.specs.declared.row.Given.{Given}
 use Rattle.jc_effects.specs.declared.row.Given.TheVariants.{Exactly}
-use Rattle.jc_effects.specs.declared.row.Place.{Place}
+use Rattle.jc_effects.specs.declared.row.LocalDemand.{LocalDemand}
 
 both : (a b : Bool) → a ≡ true → b ≡ true → (a && b) ≡ true
 both a b h1 h2 = grind arith
@@ -122,7 +122,7 @@ module _ (known : ClassName → Bool) where
       → is_known known (given_type g local taken) ≡ true
   given_known g local taken h1 h2 h3 = grind (arith, at_known, component_known, unwrap_or, slice_get)
 
-  pub local_known : (place : Place) (locals : List Ty) → all_known locals ≡ true
+  pub local_known : (place : LocalDemand) (locals : List Ty) → all_known locals ≡ true
       → is_known known (local_of place locals) ≡ true
   local_known place locals h1 = grind (arith, at_known)
 
@@ -132,7 +132,7 @@ module _ (known : ClassName → Bool) where
   put_at_known : (b : Bool) (index : ℕ) (t : Ty) (locals : List Ty) → is_known known t ≡ true → all_known locals ≡ true → all_known (cond b (slice_set locals index t) locals) ≡ true
   put_at_known b index t locals h1 h2 = grind (arith, set_known)
 
-  put_in_known : (place : Place) (g : Given) (t : Ty) (locals : List Ty) → is_known known t ≡ true → all_known locals ≡ true → all_known (put_in place g t locals) ≡ true
+  put_in_known : (place : LocalDemand) (g : Given) (t : Ty) (locals : List Ty) → is_known known t ≡ true → all_known locals ≡ true → all_known (put_in place g t locals) ≡ true
   put_in_known place g t locals h1 h2 = grind (arith, put_at_known, nat_lt)
 
   after_known : (row : Row) (s : Types) → AreKnown known s → is_known_given row.written ≡ true → is_known_given row.pushed ≡ true → AreKnown known (after row s)

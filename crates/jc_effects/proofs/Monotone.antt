@@ -12,7 +12,7 @@ use Rattle.jc_types.specs.Changes.{with_operands, drop_types, duplicate_types, s
 use Rattle.jc_types.specs.State.{Types, all_below, types_below}
 use Rattle.jc_types.specs.Ty.{is_below}
 use Rattle.jc_effects.specs.declared.row.Given.{Given}
-use Rattle.jc_effects.specs.declared.row.Place.{Place}
+use Rattle.jc_effects.specs.declared.row.LocalDemand.{LocalDemand}
 use Rattle.jc_effects.specs.Effect.{effect_of}
 use Rattle.jc_effects.specs.Laws.{IsMonotone}
 use Rattle.jc_effects.specs.Objects.{Setting}
@@ -60,15 +60,15 @@ module _ (below : ClassName → ClassName → Bool) (reflexive : IsReflexive bel
       → all_below below (taken_by row s) (taken_by row t) ≡ true
   taken_down row s t h = grind (arith, length, reverse_down, take, take_down)
 
-  local_down : (place : Place) (xs ys : List Ty) → all_below below xs ys ≡ true
+  local_down : (place : LocalDemand) (xs ys : List Ty) → all_below below xs ys ≡ true
       → is_below below (local_of place xs) (local_of place ys) ≡ true
   local_down place xs ys h1 = grind (arith, at_down)
 
-  local_meets_down : (place : Place) (x y : Ty) → is_below below x y ≡ true → local_meets below place y ≡ true
+  local_meets_down : (place : LocalDemand) (x y : Ty) → is_below below x y ≡ true → local_meets below place y ≡ true
       → local_meets below place x ≡ true
   local_meets_down place x y h1 h2 = grind (arith, meets_down)
 
-  there_down : (place : Place) (xs ys : List Ty) → length xs ≡ length ys → has_local place xs ≡ has_local place ys
+  there_down : (place : LocalDemand) (xs ys : List Ty) → length xs ≡ length ys → has_local place xs ≡ has_local place ys
   there_down place xs ys h1 = grind (arith, nat_lt)
 
   put_on_down : (g : Given) (x y : Ty) (xs ys : List Ty) → is_below below x y ≡ true → all_below below xs ys ≡ true
@@ -79,7 +79,7 @@ module _ (below : ClassName → ClassName → Bool) (reflexive : IsReflexive bel
       → all_below below (if b then slice_set xs index x else xs) (if b then slice_set ys index y else ys) ≡ true
   put_at_down index b x y xs ys h1 h2 = grind (arith, set_down)
 
-  put_in_down : (place : Place) (g : Given) (x y : Ty) (xs ys : List Ty) → is_below below x y ≡ true
+  put_in_down : (place : LocalDemand) (g : Given) (x y : Ty) (xs ys : List Ty) → is_below below x y ≡ true
       → all_below below xs ys ≡ true
       → all_below below (put_in place g x xs) (put_in place g y ys) ≡ true
   put_in_down place g x y xs ys h1 h2 = grind (arith, put_at_down, nat_lt)

@@ -22,12 +22,12 @@ use Rattle.jc_effects.specs.Row.{Row, after, applied, count_of, given_type, has_
 use Rattle.jc_effects.specs.Row.{put_in, put_on, taken_by}
 use Rattle.jc_effects.specs.Words.{shuffle_effect, word_effect}
 use Rattle.jc_effects.specs.declared.row.Given.{Given}
-use Rattle.jc_effects.specs.declared.row.Place.{Place}
-use Rattle.jc_effects.specs.declared.row.Place.TheVariants.{Nowhere, At}
+use Rattle.jc_effects.specs.declared.row.LocalDemand.{LocalDemand}
+use Rattle.jc_effects.specs.declared.row.LocalDemand.TheVariants.{Nowhere, At}
 
 -- ---- what rows put
 
-put_locals : (place : Place) (given : Given) (t : Ty) (locals : List Ty)
+put_locals : (place : LocalDemand) (given : Given) (t : Ty) (locals : List Ty)
     → length (put_in place given t locals) ≡ length locals
 put_locals Nowhere given t locals = refl
 put_locals (At index demand) given t locals = by_count (nat_lt 0 (count_of given))

@@ -18,13 +18,13 @@ use Rattle.jc_effects.specs.declared.row.Demand.{Demand}
 use Rattle.jc_effects.specs.declared.row.Demand.TheVariants.{Below, Reference, Bytes, Array}
 use Rattle.jc_effects.specs.declared.row.Given.{Given}
 use Rattle.jc_effects.specs.declared.row.Given.TheVariants.{Nothing, Exactly, OfLocal, OfOperand, ComponentOf}
-use Rattle.jc_effects.specs.declared.row.Place.{Place}
-use Rattle.jc_effects.specs.declared.row.Place.TheVariants.{Nowhere, At}
+use Rattle.jc_effects.specs.declared.row.LocalDemand.{LocalDemand}
+use Rattle.jc_effects.specs.declared.row.LocalDemand.TheVariants.{Nowhere, At}
 
 -- what an instruction does
 pub record Row : Type 0 where
   -- the local that it reads or writes, and what that has to be; or BadLocal
-  pub local : Place
+  pub local : LocalDemand
   -- what the operands that it takes have to be, the deepest first; or StackUnder
   pub operands : List Demand
   -- what has to hold beside; or WrongType, as where the local or an operand isn't what it has to be
@@ -61,16 +61,16 @@ all_meet below (d ∷ demands) (t ∷ types) = meets below d t && all_meet below
 all_meet below [] (t ∷ types) = false
 all_meet below (d ∷ demands) [] = false
 
-abbrev pub has_local : Place → List Ty → Bool
+abbrev pub has_local : LocalDemand → List Ty → Bool
 has_local Nowhere locals = true
 has_local (At index demand) locals = nat_lt index (length locals)
 
 -- the type of the local that a row is about; where it is about none, Top
-abbrev pub local_of : Place → List Ty → Ty
+abbrev pub local_of : LocalDemand → List Ty → Ty
 local_of Nowhere locals = Top
 local_of (At index demand) locals = unwrap_or (slice_get locals index) Top
 
-abbrev pub local_meets : (ClassName → ClassName → Bool) → Place → Ty → Bool
+abbrev pub local_meets : (ClassName → ClassName → Bool) → LocalDemand → Ty → Bool
 local_meets below Nowhere t = true
 local_meets below (At index demand) t = meets below demand t
 
@@ -111,7 +111,7 @@ abbrev pub put_on : Given → Ty → List Ty → List Ty
 put_on given t operands = if nat_lt 0 (count_of given) then t ∷ operands else operands
 
 -- a type in the local that a row is about, if one is given
-abbrev pub put_in : Place → Given → Ty → List Ty → List Ty
+abbrev pub put_in : LocalDemand → Given → Ty → List Ty → List Ty
 put_in Nowhere given t locals = locals
 put_in (At index demand) given t locals = if nat_lt 0 (count_of given) then slice_set locals index t else locals
 

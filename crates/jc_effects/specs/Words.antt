@@ -20,7 +20,7 @@ use Rattle.jc_effects.specs.declared.row.Demand.{Demand}
 use Rattle.jc_effects.specs.declared.row.Demand.TheVariants.{Below}
 use Rattle.jc_effects.specs.declared.row.Given.{Given}
 use Rattle.jc_effects.specs.declared.row.Given.TheVariants.{Nothing, Exactly, OfOperand}
-use Rattle.jc_effects.specs.declared.row.Place.TheVariants.{Nowhere, At}
+use Rattle.jc_effects.specs.declared.row.LocalDemand.TheVariants.{Nowhere, At}
 use Rattle.jc_effects.specs.Row.{Row, applied}
 
 -- an instruction that takes operands, and puts one

@@ -6,15 +6,15 @@ ghost use Rattle.jc_effects.specs.Coded.{row_said};
 ghost use Rattle.jc_effects.specs.Row as rows;
 
 use crate::demands::{Wanted, count_of, given_type, local_meets};
-use crate::row::{Given, Place};
+use crate::row::{Given, LocalDemand};
 use jc_base::Reason;
-use jc_types::{Classes, State, Ty};
+use jc_types::{ClassOrder, State, Ty};
 
 /// What an instruction does.
 #[derive(Clone, Copy)]
 pub struct Row<'a> {
     /// The local that it reads or writes, and what that has to be.
-    pub local: Place,
+    pub local: LocalDemand,
     /// What the operands that it takes have to be.
     pub operands: Wanted<'a>,
     /// What has to hold beside.
@@ -27,19 +27,19 @@ pub struct Row<'a> {
 
 /// The type of the local that a row is about, if there is such a local; where it is about none, Top.
 #[inline(always)]
-fn local_of(place: Place, state: &State) -> Option<Ty>
+fn local_of(place: LocalDemand, state: &State) -> Option<Ty>
     ensures { result ≡ (if rows.has_local place state.now.types.locals
         then Some (rows.local_of place state.now.types.locals) else None) }
 {
     match place {
-        Place::Nowhere => Some(Ty::Top),
-        Place::At { index, .. } => state.local_type(index),
+        LocalDemand::Nowhere => Some(Ty::Top),
+        LocalDemand::At { index, .. } => state.local_type(index),
     }
 }
 
 /// Puts a type in the local that a row is about, if one is given.
 #[inline(always)]
-fn put_in(place: Place, given: Given, ty: Ty, state: &mut State)
+fn put_in(place: LocalDemand, given: Given, ty: Ty, state: &mut State)
     requires { rows.has_local place state.old.types.locals ≡ true }
     ensures locals { state.new.types.locals ≡ rows.put_in place given ty state.old.types.locals }
     ensures operands { state.new.types.operands ≡ state.old.types.operands }
@@ -47,8 +47,8 @@ fn put_in(place: Place, given: Given, ty: Ty, state: &mut State)
     ensures count { length state.new.types.locals ≡ length state.old.types.locals }
 {
     match place {
-        Place::Nowhere => {}
-        Place::At { index, .. } => {
+        LocalDemand::Nowhere => {}
+        LocalDemand::At { index, .. } => {
             if 0 < count_of(given) {
                 state.put_local(index, ty);
             }
@@ -86,7 +86,7 @@ fn overflows(operands: usize, given: Given, max_stack: u8) -> bool
 /// first reason against it, in the order of `applied`. The state isn't to be used after a reason.
 #[tactic(auto, unfolding(crate::specs::Row::applied, crate::specs::Row::after))]
 #[inline(always)]
-pub fn apply<C: Classes>(
+pub fn apply<C: ClassOrder>(
     row: Row<'_>,
     state: &mut State,
     max_stack: u8,

@@ -4,12 +4,12 @@ ghost use Rattle.std.specs.Prelude.{◌≡◌, ◌≤◌, length, map, slice_get
 ghost use Rattle.jc_effects.specs.Row as rows;
 ghost use Rattle.jc_effects.specs.Coded.{argument, argument_spelled, demands_of};
 
-use crate::row::{Demand, Given, Place};
+use crate::row::{Demand, Given, LocalDemand};
 use jc_base::{ClassRef, DeclaredType};
 use jc_classes::ClassTable;
 use jc_link::type_found;
 use jc_names::{ClassName, PackagePlace};
-use jc_types::{Classes, Ty, is_below};
+use jc_types::{ClassOrder, Ty, is_below};
 
 /// What operands have to be, the deepest first.
 #[derive(Clone, Copy)]
@@ -69,7 +69,7 @@ fn is_array(ty: Ty) -> bool
 
 /// Whether a type is what it has to be.
 #[inline(always)]
-fn meets<C: Classes>(demand: Demand, ty: Ty, classes: &C) -> bool
+fn meets<C: ClassOrder>(demand: Demand, ty: Ty, classes: &C) -> bool
     ensures { result ≡ rows.meets (C.lies_below classes.now) demand ty }
 {
     match demand {
@@ -82,17 +82,17 @@ fn meets<C: Classes>(demand: Demand, ty: Ty, classes: &C) -> bool
 
 /// Whether the local that a row is about is what it has to be.
 #[inline(always)]
-pub(crate) fn local_meets<C: Classes>(place: Place, ty: Ty, classes: &C) -> bool
+pub(crate) fn local_meets<C: ClassOrder>(place: LocalDemand, ty: Ty, classes: &C) -> bool
     ensures { result ≡ rows.local_meets (C.lies_below classes.now) place ty }
 {
     match place {
-        Place::Nowhere => true,
-        Place::At { demand, .. } => meets(demand, ty, classes),
+        LocalDemand::Nowhere => true,
+        LocalDemand::At { demand, .. } => meets(demand, ty, classes),
     }
 }
 
 /// Whether types lie below what is declared.
-fn arguments_meet<C: Classes>(
+fn arguments_meet<C: ClassOrder>(
     arguments: &[DeclaredType<ClassName>],
     types: &[Ty],
     classes: &C,
@@ -109,7 +109,7 @@ fn arguments_meet<C: Classes>(
 }
 
 /// Whether a type lies below what is spelled in the package that stands there.
-fn spelled_meets<C: Classes>(
+fn spelled_meets<C: ClassOrder>(
     table: &ClassTable,
     home: PackagePlace,
     spelled: DeclaredType<ClassRef>,
@@ -125,7 +125,7 @@ fn spelled_meets<C: Classes>(
 }
 
 /// Whether types lie below what is spelled in the package that stands there.
-fn all_spelled_meet<C: Classes>(
+fn all_spelled_meet<C: ClassOrder>(
     table: &ClassTable,
     home: PackagePlace,
     parameters: &[DeclaredType<ClassRef>],
@@ -163,7 +163,7 @@ impl<'a> Wanted<'a> {
 
     /// Whether as many types are what they have to be.
     #[inline(always)]
-    pub(crate) fn are_met<C: Classes>(self, types: &[Ty], classes: &C) -> bool
+    pub(crate) fn are_met<C: ClassOrder>(self, types: &[Ty], classes: &C) -> bool
         requires { length (demands_of self) ≡ length types.now }
         ensures { result ≡ rows.all_meet (C.lies_below classes.now) (demands_of self.entry) types.now }
     {

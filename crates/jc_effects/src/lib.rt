@@ -20,6 +20,6 @@ pub use laws::{
     api_classes_have_objects, effects_are_monotone, effects_keep_shapes, effects_name_classes,
     growing_keeps_effects,
 };
-pub use row::{Demand, Given, Place};
+pub use row::{Demand, Given, LocalDemand};
 pub use setting::Setting;
 pub use words::transfer_word;

@@ -17,7 +17,7 @@ pub enum Demand {
 
 /// The local that a row is about, and what it has to be.
 #[derive(Clone, Copy, Debug, PartialEq, Eq)]
-pub enum Place {
+pub enum LocalDemand {
     /// The row is about no local.
     Nowhere,
     /// The local with an index.

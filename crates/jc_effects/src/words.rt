@@ -9,10 +9,10 @@ ghost use Rattle.jc_effects.specs.Words as words;
 
 use crate::applying::{Row, apply};
 use crate::demands::Wanted;
-use crate::row::{Demand, Given, Place};
+use crate::row::{Demand, Given, LocalDemand};
 use jc_base::Reason;
 use jc_code::{Shuffle, When, WordOperation};
-use jc_types::{Classes, State, Ty};
+use jc_types::{ClassOrder, State, Ty};
 
 /// Any word.
 pub(crate) const WORD: Demand = Demand::Below(Ty::Word);
@@ -23,7 +23,7 @@ pub(crate) fn takes(operands: Wanted<'_>, pushed: Given) -> Row<'_>
     ensures { row_said result ≡ words.takes (demands_of operands.entry) pushed }
 {
     Row {
-        local: Place::Nowhere,
+        local: LocalDemand::Nowhere,
         operands,
         fits: true,
         written: Given::Nothing,
@@ -37,7 +37,7 @@ pub(crate) fn reads(index: u8, demand: Demand, operands: Wanted<'_>, pushed: Giv
     ensures { row_said result ≡ words.reads index demand (demands_of operands.entry) pushed }
 {
     Row {
-        local: Place::At { index, demand },
+        local: LocalDemand::At { index, demand },
         operands,
         fits: true,
         written: Given::Nothing,
@@ -51,7 +51,7 @@ pub(crate) fn writes<'a>(index: u8, demand: Demand) -> Row<'a>
     ensures { row_said result ≡ words.writes index demand }
 {
     Row {
-        local: Place::At {
+        local: LocalDemand::At {
             index,
             demand: Demand::Below(Ty::Top),
         },
@@ -116,7 +116,7 @@ fn transfer_shuffle(shuffle: Shuffle, state: &mut State, max_stack: u8) -> Resul
 /// that returns a value of the type `returned`, or none. Of several reasons against it the first is told, in the order
 /// of `applied`. The state isn't to be used after a reason.
 #[tactic(auto, unfolding(crate::specs::Words::word_effect))]
-pub fn transfer_word<C: Classes>(
+pub fn transfer_word<C: ClassOrder>(
     operation: &WordOperation,
     state: &mut State,
     max_stack: u8,

@@ -29,7 +29,7 @@ use Rattle.jc_code.specs.declared.object.ObjectOperation.{ObjectOperation}
 use Rattle.jc_follow.specs.Following.{ComesTo, FollowsTagged, GoesAlong, ReadsTop, WordsFollow}
 use Rattle.jc_loop.specs.Loop.{MayRun, MayRunBy, Ran, ReadReady, frame_behind, next_frame, onward, ran, ran_by}
 use Rattle.jc_loop.specs.Moves.{IsRead, WordsAreDecoded, word_at, word_for}
-use Rattle.jc_loop.specs.Words.{Continues, Divides, IsReady, Outcome as WordOutcome, WordFrame, Yields, done_by}
+use Rattle.jc_loop.specs.Words.{Continues, Divides, Outcome as WordOutcome, WordFrame, Yields, done_by}
 use Rattle.jc_loop.specs.Words as words
 use Rattle.jc_machine.specs.Going.{Here, check, moved, on_some, with_top}
 use Rattle.jc_machine.specs.Machine.{Frame, Machine, Next, Outcome, Stepped, Stuck, Throws, Ends}

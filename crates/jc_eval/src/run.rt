@@ -12,7 +12,7 @@ use crate::carried_code_is_safe;
 use jc_check::{CheckedWords, WORD_LOCALS, WORD_MAX_STACK};
 use jc_code::decode_words;
 use jc_follow::words_follow;
-use jc_loop::{Place, run_words, words_are_decoded};
+use jc_loop::{FramePosition, run_words, words_are_decoded};
 use jc_machine::IdleNatives;
 
 /// How a run of code alone ends.
@@ -38,7 +38,7 @@ fn top_of(slots: &[u16], depth: u8) -> u16
 }
 
 /// How code ends where the loop over words has stopped with steps left: it returns, or divides by 0.
-fn end_at(code: &[u8], slots: &[u16], place: Place) -> CodeEnd
+fn end_at(code: &[u8], slots: &[u16], place: FramePosition) -> CodeEnd
     requires held { place.depth ≤ length slots.now }
     ensures { result ≡ end_of (word_instr_at code.now place.pc) (slice_index (reverse (take place.depth slots.now)) 0) }
 {
@@ -65,7 +65,7 @@ pub fn run_code(checked: &CheckedWords<'_>, steps: u32) -> CodeEnd
     let code = checked.code();
     let mut locals = [0; WORD_LOCALS];
     let mut slots = [0; WORD_MAX_STACK];
-    let start = Place { pc: 0, depth: 0 };
+    let start = FramePosition { pc: 0, depth: 0 };
     let stopped = run_words(code, &mut locals, &mut slots, start, steps);
     if stopped.left == 0 {
         return CodeEnd::UsedUp;

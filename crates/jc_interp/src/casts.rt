@@ -20,7 +20,7 @@ use jc_store::{ObjectType, Store};
 
 /// What a reference is tested against.
 #[derive(Clone, Copy)]
-pub(crate) enum Test {
+pub(crate) enum TypeTest {
     OfClass(ClassName),
     OfWordArray(WordKind),
     OfReferenceArray(ClassName),
@@ -52,14 +52,14 @@ pub(crate) fn is_shared_interface(program: &Program, class: ClassName) -> bool
     }
 }
 
-pub(crate) fn test_of(here: &Here<'_>, type_: TestedType) -> Option<Test>
+pub(crate) fn test_of(here: &Here<'_>, type_: TestedType) -> Option<TypeTest>
     ensures { result ≡ test_of here.now type_ }
 {
     match type_ {
-        TestedType::Class { index } => class_named(here, index).map(Test::OfClass),
-        TestedType::WordArray(kind) => Some(Test::OfWordArray(kind)),
+        TestedType::Class { index } => class_named(here, index).map(TypeTest::OfClass),
+        TestedType::WordArray(kind) => Some(TypeTest::OfWordArray(kind)),
         TestedType::ReferenceArray { index } => class_named(here, index).map(
-            Test::OfReferenceArray,
+            TypeTest::OfReferenceArray,
         ),
     }
 }
@@ -97,30 +97,30 @@ fn is_reference_array(program: &Program, class: ClassName, object: ObjectType) -
 }
 
 /// Whether an object is of a type.
-fn passes(here: &Here<'_>, test: Test, object: Seen) -> bool
+fn passes(here: &Here<'_>, test: TypeTest, object: Seen) -> bool
     ensures { result ≡ passes here.now test object }
 {
     match test {
-        Test::OfClass(class) => is_below(here.program, object.class, class),
-        Test::OfWordArray(kind) => is_word_array(kind, object.kind.object),
-        Test::OfReferenceArray(class) => is_reference_array(
+        TypeTest::OfClass(class) => is_below(here.program, object.class, class),
+        TypeTest::OfWordArray(kind) => is_word_array(kind, object.kind.object_type),
+        TypeTest::OfReferenceArray(class) => is_reference_array(
             here.program,
             class,
-            object.kind.object,
+            object.kind.object_type,
         ),
     }
 }
 
-pub(crate) fn is_shared(here: &Here<'_>, test: Test) -> bool
+pub(crate) fn is_shared(here: &Here<'_>, test: TypeTest) -> bool
     ensures { result ≡ is_shared here.now test }
 {
     match test {
-        Test::OfClass(class) => is_shared_interface(here.program, class),
-        Test::OfWordArray(_) | Test::OfReferenceArray(_) => false,
+        TypeTest::OfClass(class) => is_shared_interface(here.program, class),
+        TypeTest::OfWordArray(_) | TypeTest::OfReferenceArray(_) => false,
     }
 }
 
-fn cast_by(here: &Here<'_>, store: &Store, access: Access, test: Test, word: u16) -> Cast
+fn cast_by(here: &Here<'_>, store: &Store, access: Access, test: TypeTest, word: u16) -> Cast
     ensures { result ≡ cast_by here.now store.now access test word }
 {
     let Some(object) = look_at(store, word) else {

@@ -17,7 +17,7 @@ use crate::seen::{class_named, put};
 use crate::top::Running;
 use jc_code::{Creation, WordKind};
 use jc_names::{ClassName, Owner};
-use jc_store::{Kind, Mark, ObjectType, Store};
+use jc_store::{Mark, ObjectKind, ObjectType, Store};
 
 /// The number of Object, whose class arrays are of: it is the first of a world's classes.
 pub(crate) const OBJECT: u16 = 0;
@@ -46,8 +46,8 @@ fn is_count(word: u16) -> bool
 fn make(store: &mut Store, object: ObjectType, owner: Owner, len: usize, class: u16) -> Option<u16>
     ensures { made store.new result ≡ made_in store.old object owner len class }
 {
-    let kind = Kind {
-        object,
+    let kind = ObjectKind {
+        object_type: object,
         mark: Mark::Plain,
         clears: None,
     };

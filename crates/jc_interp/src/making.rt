@@ -12,7 +12,7 @@ use crate::creation::OBJECT;
 use crate::seen::put;
 use jc_link::{ArrayKind, InitialArray, LinkedBody};
 use jc_names::Owner;
-use jc_store::{Kind, Mark, ObjectType, Store};
+use jc_store::{Mark, ObjectKind, ObjectType, Store};
 
 /// The context of the runtime.
 const RUNTIME: u8 = 0;
@@ -61,15 +61,15 @@ fn type_of(array: &InitialArray) -> ObjectType
     }
 }
 
-fn kind_of(body: &LinkedBody, array: &InitialArray) -> Kind
+fn kind_of(body: &LinkedBody, array: &InitialArray) -> ObjectKind
     ensures { result ≡ kind_of_array body.now array.now }
 {
     let mark = match &body.kept().applets {
         Some(_) => Mark::Plain,
         None => Mark::GlobalArray,
     };
-    Kind {
-        object: type_of(array),
+    ObjectKind {
+        object_type: type_of(array),
         mark,
         clears: None,
     }

@@ -8,12 +8,12 @@ use crate::here::Here;
 use jc_firewall::{Access, Facts, Verdict, decide};
 use jc_names::{ClassName, Owner};
 use jc_program::{ClassNumber, Entry, Program};
-use jc_store::{Kind, Mark, ObjectType, Store};
+use jc_store::{Mark, ObjectKind, ObjectType, Store};
 
 /// What is seen of an object.
 #[derive(Clone, Copy)]
 pub(crate) struct Seen {
-    pub(crate) kind: Kind,
+    pub(crate) kind: ObjectKind,
     pub(crate) owner: Owner,
     /// How many components it has.
     pub(crate) len: u16,
@@ -30,7 +30,7 @@ pub(crate) fn look_at(store: &Store, number: u16) -> Option<Seen>
         return None;
     }
     Some(Seen {
-        kind: store.class_of(number),
+        kind: store.kind_of(number),
         owner: store.owner_of(number),
         len: store.len(number),
         class: store.class_number(number),
@@ -128,7 +128,7 @@ pub(crate) fn facts(
     Facts {
         owner: object.owner,
         mark: object.kind.mark,
-        is_array: is_array(object.kind.object),
+        is_array: is_array(object.kind.object_type),
         clears: object.kind.clears,
         stored,
         is_shareable: here

@@ -23,7 +23,7 @@ use Rattle.jc_store.specs.Heap.{Object, object_at}
 use Rattle.jc_words.specs.Shorts.{holds}
 use Rattle.jc_words.specs.Values.{Null, Ref, TaggedValue, Unset, Word, is_tagged_reference}
 use Rattle.jc_machine.specs.Accessing.{AreCalledBack, AreFurther, AreOwn, IsByRow, Operand}
-use Rattle.jc_machine.specs.Accessing.{Place, Row, by_row}
+use Rattle.jc_machine.specs.Accessing.{FramePlace, Row, by_row}
 use Rattle.jc_machine.specs.Accessing.{no_native, none, of_null, row_of}
 use Rattle.jc_machine.specs.Accessing.{value_at, where_stuck, without_row}
 use Rattle.jc_machine.specs.Arrays.{is_there}
@@ -31,7 +31,7 @@ use Rattle.jc_machine.specs.Arrays.{loaded_as, loads}
 use Rattle.jc_machine.specs.Calls.{accepts}
 use Rattle.jc_machine.specs.Calls.{takes}
 use Rattle.jc_machine.specs.Calls.{enters}
-use Rattle.jc_machine.specs.Going.{Here, branches, by_verdict, check, facts_of, storing, gives, goes_to, judged}
+use Rattle.jc_machine.specs.Going.{StepContext, branches, by_verdict, check, facts_of, storing, gives, goes_to, judged}
 use Rattle.jc_machine.specs.Going.{jumps, leaves_operands, on_object, on_reference, on_reference_local, on_some, on_top}
 use Rattle.jc_machine.specs.Going.{on_word, on_word_local, plain, require, stuck, touch_of}
 use Rattle.jc_machine.specs.Going.{throws}
@@ -52,18 +52,18 @@ pub data Stage : Type 0 where
   called : (end : NativeEnd) → Stage
   still : Stage
 
-abbrev Says : {C : Type 0} → Here C → Operation → Stage → List Touch → Outcome C → Type 0
+abbrev Says : {C : Type 0} → StepContext C → Operation → Stage → List Touch → Outcome C → Type 0
 Says h op whole touches outcome = AreOwn h.around h.machine outcome touches
 Says h op behind touches outcome = AreFurther h.around h.machine op touches
 Says h op (called end) touches outcome = AreCalledBack end touches
 Says h op still touches outcome = touches ≡ []
 
-pub record Own {C : Type 0} (h : Here C) (op : Operation) (stage : Stage) (s : Stepped C) : Type 0 where
+pub record Own {C : Type 0} (h : StepContext C) (op : Operation) (stage : Stage) (s : Stepped C) : Type 0 where
   pub says : Says h op stage s.touches s.outcome
 
 -- ---- tests
 
-module _ {C : Type 0} {h : Here C} {op : Operation} where
+module _ {C : Type 0} {h : StepContext C} {op : Operation} where
   pub stops : (stage : Stage) → Own h op stage stuck
   stops whole = record { says = where_stuck refl }
   stops behind = record { says = none op }
@@ -137,14 +137,14 @@ module _ {C : Type 0} {h : Here C} {op : Operation} where
     at_reference_local None go k = stops stage
     at_reference_local (Some v) go k = at_check (is_tagged_reference v) (go v) (k v refl)
 
-    pub at_require : (at : Here C) (exception : ℕ) (b : Bool) (s : Stepped C) → Own h op stage (throws at exception)
+    pub at_require : (at : StepContext C) (exception : ℕ) (b : Bool) (s : Stepped C) → Own h op stage (throws at exception)
         → Own h op stage s → Own h op stage (require at exception b s)
     at_require at exception true s thrown k = k
     at_require at exception false s thrown k = thrown
 
 -- ---- what makes no access
 
-module _ {C : Type 0} {h : Here C} {op : Operation} (at : Here C) where
+module _ {C : Type 0} {h : StepContext C} {op : Operation} (at : StepContext C) where
   pub leaves : (vs : List TaggedValue) → Own h op still (leaves_operands at vs)
   leaves vs = ends _
 
@@ -216,7 +216,7 @@ module _ {C : Type 0} {h : Here C} {op : Operation} (at : Here C) where
         returns_own,
       )
 
-module _ {C : Type 0} {h : Here C} {op : Operation} (at : Here C) where
+module _ {C : Type 0} {h : StepContext C} {op : Operation} (at : StepContext C) where
   at_known : (vs : List TaggedValue) (go : TaggedValue → List TaggedValue → Stepped C)
       → ((v : TaggedValue) (rest : List TaggedValue) → Own h op still (go v rest)) → Own h op still (on_known at vs go)
   at_known vs go k = at_reference vs _ (λ v rest e. at_check (is_there at v) _ (k v rest))
@@ -242,7 +242,7 @@ module _ {C : Type 0} {h : Here C} {op : Operation} (at : Here C) where
 -- ---- the access by a row
 
 -- an instruction stands there that has a row, at whose place this value is
-pub record Named {C : Type 0} (h : Here C) (op : Operation) (row : Row) (v : TaggedValue) : Type 0 where
+pub record Named {C : Type 0} (h : StepContext C) (op : Operation) (row : Row) (v : TaggedValue) : Type 0 where
   pub stands : StandsAt h.around h.machine op
   pub is_row : row_of h.around h.machine op ≡ Some row
   pub there : value_at h.machine.top row.object ≡ Some v
@@ -256,7 +256,7 @@ asked_by f row n = record {
   wanted = row.wanted;
 }
 
-module _ {C : Type 0} {h : Here C} {op : Operation} {row : Row} where
+module _ {C : Type 0} {h : StepContext C} {op : Operation} {row : Row} where
   pub at_named : (v : TaggedValue) (go : ℕ → Object TaggedValue → Stepped C) → Named h op row v
       → ((n : ℕ) (o : Object TaggedValue) → Named h op row (Ref n) → Own h op whole (go n o))
       → Own h op whole (on_object h v go)
@@ -307,7 +307,7 @@ pub top : {vs rest : List TaggedValue} {v : TaggedValue} → vs ≡ v ∷ rest �
 top e = ap (λ (xs : List TaggedValue). slice_get xs 0) e
 
 -- what stores the top operand asks by its row
-pub stores_it : (f : Frame) (access : Access) (place : Place) (n : ℕ) (v : TaggedValue)
+pub stores_it : (f : Frame) (access : Access) (place : FramePlace) (n : ℕ) (v : TaggedValue)
     → slice_get f.operands 0 ≡ Some v
     → storing access n v
     ≡ asked_by f (record { access = access; object = place; stored = Some (Operand 0); wanted = None }) n

@@ -40,7 +40,7 @@ use Rattle.jc_store.specs.declared.kind.ObjectType.TheVariants.{Instance, Refere
 use Rattle.jc_words.specs.Shorts.{short}
 use Rattle.jc_words.specs.Values.{Null, Ref, TaggedValue, Unset, Word}
 use Rattle.jc_machine.specs.Accessing.{AccessesAreOwn, AreOwn, Local, Operand}
-use Rattle.jc_machine.specs.Accessing.{Place, Row, by_native, by_row, by_runtime, cast_row, class_named, field_row}
+use Rattle.jc_machine.specs.Accessing.{FramePlace, Row, by_native, by_row, by_runtime, cast_row, class_named, field_row}
 use Rattle.jc_machine.specs.Accessing.{store_row, of_null, of_receiver, names, row_of, stores, uses}
 use Rattle.jc_machine.specs.Accessing.{virtual_row, where_stuck, without_row}
 use Rattle.jc_machine.specs.Arrays.{is_array_of, is_in_bounds, is_there, stored_as, act_length, act_load, act_store}
@@ -54,7 +54,7 @@ use Rattle.jc_machine.specs.Calls.{with_given, with_receiver, is_member_or_loade
 use Rattle.jc_machine.specs.Fields.{put_static, putting, static_at, FieldTarget, InstanceField, act_field, act_instance}
 use Rattle.jc_machine.specs.Fields.{act_on_target, act_static, gets, of_class, of_objects, puts, stored_in_static}
 use Rattle.jc_machine.specs.Fields.{act_put_static}
-use Rattle.jc_machine.specs.Going.{Here, asking, storing, gives, judged}
+use Rattle.jc_machine.specs.Going.{StepContext, asking, storing, gives, judged}
 use Rattle.jc_machine.specs.Going.{leaves_operands, on_object, on_some}
 use Rattle.jc_machine.specs.Going.{require, stored_in, throws_system}
 use Rattle.jc_machine.specs.Going.{touched, wanting}
@@ -65,7 +65,7 @@ use Rattle.jc_machine.specs.Lookup.{are_of_types}
 use Rattle.jc_machine.specs.Machine.{Callback, Calls, Gives, IsStuck, Machine, NativeAnswer}
 use Rattle.jc_machine.specs.Machine.{NativeEnd, Outcome, Stepped, Surroundings, ThrowsObject, Touch}
 use Rattle.jc_machine.specs.Natives.{AreNativesGuarded, IsOfReceiver, shareable_member}
-use Rattle.jc_machine.specs.Objects.{bit, cells_of, word_array, Test, act_check_cast, act_create}
+use Rattle.jc_machine.specs.Objects.{bit, cells_of, word_array, InstanceTest, act_check_cast, act_create}
 use Rattle.jc_machine.specs.Objects.{act_instance_of, act_object, act_throw, creates, creates_array, has_space, made}
 use Rattle.jc_machine.specs.Objects.{on_test, tested}
 use Rattle.jc_machine.specs.Runtime.{array_index_exception, array_store_exception, class_cast_exception}
@@ -79,13 +79,13 @@ use Rattle.jc_machine.proofs.AccessingRules.{at_named, at_judged, at_asked, seco
 
 -- ---- instructions on arrays
 
-module _ {C : Type 0} (h : Here C) where
+module _ {C : Type 0} (h : StepContext C) where
   load_own : (form : Form) → StandsAt h.around h.machine (operations.Object (objects.LoadComponent form))
       → Own h (operations.Object (objects.LoadComponent form)) whole (act_load h form)
   load_own form stands =
       at_word h.machine.top.operands _ (λ index us d. at_reference us _ (λ array vs e.
       at_named array _ (record { stands = stands; is_row = refl; there = second d e }) (λ n o x.
-      at_check (is_array_of form o.kind.object) _ (at_asked n (asking accesses.LoadComponent n) o _ x refl (λ sw.
+      at_check (is_array_of form o.kind.object_type) _ (at_asked n (asking accesses.LoadComponent n) o _ x refl (λ sw.
       at_require h array_index_exception (is_in_bounds index o) _ (ends _)
       (at_some (slice_get o.cells index) _ (λ v g. loads_own h form v vs)))))))
 
@@ -94,7 +94,7 @@ module _ {C : Type 0} (h : Here C) where
   length_own stands =
       at_reference h.machine.top.operands _ (λ array vs e.
       at_named array _ (record { stands = stands; is_row = refl; there = top e }) (λ n o x.
-      at_check (is_array o.kind.object) _ (at_asked n (asking accesses.ArrayLength n) o _ x refl (λ sw.
+      at_check (is_array o.kind.object_type) _ (at_asked n (asking accesses.ArrayLength n) o _ x refl (λ sw.
       gives_own h (Word (length o.cells)) vs))))
 
   store_word_own : (form : Form) → store_row form ≡ uses accesses.StoreComponent (Operand 2)
@@ -103,7 +103,7 @@ module _ {C : Type 0} (h : Here C) where
   store_word_own form is stands =
       at_word h.machine.top.operands _ (λ w ts c. at_word ts _ (λ index us d. at_reference us _ (λ array vs e.
       at_named array _ (record { stands = stands; is_row = is; there = third c d e }) (λ n o x.
-      at_check (is_array_of form o.kind.object) _ (at_asked n (asking accesses.StoreComponent n) o _ x refl (λ sw.
+      at_check (is_array_of form o.kind.object_type) _ (at_asked n (asking accesses.StoreComponent n) o _ x refl (λ sw.
       at_require h array_index_exception (is_in_bounds index o) _ (ends _)
       (leaves (stored_in h n o index (stored_as form (Word w))) vs)))))))
 
@@ -113,7 +113,7 @@ module _ {C : Type 0} (h : Here C) where
       at_reference h.machine.top.operands _ (λ v ts c. at_check (is_there h v) _ (at_word ts _ (λ index us d.
       at_reference us _ (λ array vs e.
       at_named array _ (record { stands = stands; is_row = refl; there = third c d e }) (λ n o x.
-      at_some (component_class o.kind.object) _ (λ class f.
+      at_some (component_class o.kind.object_type) _ (λ class f.
       at_asked n (storing accesses.StoreReference n v) o _ x
       (stores_it h.machine.top accesses.StoreReference (Operand 2) n v (top c)) (λ sw.
       at_require h array_index_exception (is_in_bounds index o) _ (ends _)
@@ -147,22 +147,22 @@ no_reference : (world : List Shape) (heap : Heap TaggedValue) (form : Form) (d :
     → field_row Put Holders.Class form ≡ None → is_form_of form d ≡ true → is_of_type world heap d (Ref n) ≡ true → ⊥
 no_reference world heap form d n h1 h2 h3 = grind arith
 
-module _ {C : Type 0} (h : Here C) where
-  gets_own : {op : Operation} {place : Place} (form : Form) (field : InstanceField) (v : TaggedValue)
+module _ {C : Type 0} (h : StepContext C) where
+  gets_own : {op : Operation} {place : FramePlace} (form : Form) (field : InstanceField) (v : TaggedValue)
       (vs : List TaggedValue)
       → Named h op (record { access = accesses.GetField; object = place; stored = None; wanted = None }) v
       → Own h op whole (gets h form field v vs)
   gets_own form field v vs x =
-      at_named v _ x (λ n o y. at_check (is_of_class h.around.world.shapes field.class o.kind.object) _
+      at_named v _ x (λ n o y. at_check (is_of_class h.around.world.shapes field.class o.kind.object_type) _
       (at_asked n (asking accesses.GetField n) o _ y refl (λ sw.
       at_some (slice_get o.cells field.cell) _ (λ value e. loads_own h form value vs))))
 
-  puts_own : {op : Operation} {place : Place} (form : Form) (field : InstanceField) (v value : TaggedValue)
+  puts_own : {op : Operation} {place : FramePlace} (form : Form) (field : InstanceField) (v value : TaggedValue)
       (vs : List TaggedValue) → slice_get h.machine.top.operands 0 ≡ Some value
       → Named h op (record { access = putting form; object = place; stored = Some (Operand 0); wanted = None }) v
       → Own h op whole (puts h form field v value vs)
   puts_own {place = place} form field v value vs e x =
-      at_named v _ x (λ n o y. at_check (is_of_class h.around.world.shapes field.class o.kind.object) _
+      at_named v _ x (λ n o y. at_check (is_of_class h.around.world.shapes field.class o.kind.object_type) _
       (at_asked n (storing (putting form) n value) o _ y (stores_it h.machine.top (putting form) place n value e) (λ sw.
       at_check (nat_lt field.cell (length o.cells)) _
       (leaves (stored_in h n o field.cell (stored_as form value)) vs))))
@@ -269,13 +269,13 @@ module _ {C : Type 0} (h : Here C) where
 -- ---- objects that are made
 
 -- the class that an entry of the pool names, to the code that runs
-abbrev class_in : {C : Type 0} → Here C → ℕ → Option ClassName
+abbrev class_in : {C : Type 0} → StepContext C → ℕ → Option ClassName
 class_in h index = class_named h.around.world h.machine.top.method.number index
 
-abbrev cast_in : {C : Type 0} → Here C → Access → TestedType → Option Row
+abbrev cast_in : {C : Type 0} → StepContext C → Access → TestedType → Option Row
 cast_in h access type = cast_row h.around.world h.machine.top.method.number access type
 
-module _ {C : Type 0} (h : Here C) (creation : Creation) where
+module _ {C : Type 0} (h : StepContext C) (creation : Creation) where
   abbrev op : Operation
   op = operations.Object (objects.Create creation)
 
@@ -294,7 +294,7 @@ module _ {C : Type 0} (h : Here C) (creation : Creation) where
       at_require h negative_size_exception (not (int_lt (short count) (pos 0))) _ (further _ (ends _))
       (creates_own object (replicate count v) vs)
 
-create_own : {C : Type 0} (h : Here C) (creation : Creation)
+create_own : {C : Type 0} (h : StepContext C) (creation : Creation)
     → Own h (operations.Object (objects.Create creation)) behind (act_create h creation)
 create_own h (Creations.Object index) =
     at_some (class_in h index) _ (λ c e.
@@ -310,14 +310,14 @@ create_own h (Creations.ReferenceArray index) =
 
 -- ---- casts, and objects that are thrown
 
-module _ {C : Type 0} (h : Here C) where
+module _ {C : Type 0} (h : StepContext C) where
   gives_null : {op : Operation} {row : Row} (v : TaggedValue) (vs : List TaggedValue) → Named h op row Null
       → Own h op whole (gives h v vs)
   gives_null {op} {row} v vs x =
       at_check (nat_lt (length vs) h.max_stack) _ (record { says = of_null op row x.stands x.is_row x.there })
 
-  at_test : {op : Operation} (access : Access) (type : TestedType) (go : Test → Stepped C)
-      → ((test : Test)
+  at_test : {op : Operation} (access : Access) (type : TestedType) (go : InstanceTest → Stepped C)
+      → ((test : InstanceTest)
       → cast_in h access type ≡ names access (Operand 0) test.wanted
       → Own h op whole (go test)) → Own h op whole (on_test h type go)
   at_test access (Tested.Class index) go k =
@@ -334,9 +334,9 @@ module _ {C : Type 0} (h : Here C) where
   tested_own access type (Word n) w vs go stands is e k = stops whole
   tested_own access type (Ref n) w vs go stands is e k =
       at_test access type _ (λ test d. at_named (Ref n)
-      (λ number o. judged h (wanting access number test.wanted) o (λ switch. go (test.passes o.kind.object)))
+      (λ number o. judged h (wanting access number test.wanted) o (λ switch. go (test.passes o.kind.object_type)))
       (record { stands = stands; is_row = is ∙ d; there = e }) (λ number o x.
-      at_asked number (wanting access number test.wanted) o _ x refl (λ switch. k (test.passes o.kind.object))))
+      at_asked number (wanting access number test.wanted) o _ x refl (λ switch. k (test.passes o.kind.object_type))))
   tested_own access type Null w vs go stands is e k =
       at_test access type _ (λ test d. gives_null w vs (record { stands = stands; is_row = is ∙ d; there = e }))
   tested_own access type Unset w vs go stands is e k = stops whole
@@ -360,19 +360,19 @@ module _ {C : Type 0} (h : Here C) where
   throw_own stands =
       at_reference h.machine.top.operands _ (λ v vs e.
       at_named v _ (record { stands = stands; is_row = refl; there = top e }) (λ n o x.
-      at_check (is_throwable h.around.world.shapes o.kind.object) _
+      at_check (is_throwable h.around.world.shapes o.kind.object_type) _
       (at_asked n (asking accesses.Throw n) o _ x refl (λ sw. ends _))))
 
 -- ---- native members
 
-at_object : {C : Type 0} (h : Here C) {op : Operation} (v : TaggedValue) (go : ℕ → Object TaggedValue → Stepped C)
+at_object : {C : Type 0} (h : StepContext C) {op : Operation} (v : TaggedValue) (go : ℕ → Object TaggedValue → Stepped C)
     → ((n : ℕ) (o : Object TaggedValue) → Own h op behind (go n o)) → Own h op behind (on_object h v go)
 at_object h (Word n) go k = stops behind
 at_object h (Ref n) go k = at_some (object_at h.machine.heap n) (go n) (λ o e. k n o)
 at_object h Null go k = further _ (ends _)
 at_object h Unset go k = stops behind
 
-module _ {C : Type 0} {h : Here C} {op : Operation} (at : Here C) where
+module _ {C : Type 0} {h : StepContext C} {op : Operation} (at : StepContext C) where
   native_gives_own : (signature : Signature ClassName) (value : Option TaggedValue) (vs : List TaggedValue)
       → Own h op still (native_gives at signature value vs)
   native_gives_own signature value vs =
@@ -389,7 +389,7 @@ module _ {C : Type 0} {h : Here C} {op : Operation} (at : Here C) where
   inner_own signature vs (Calls callback) = ends _
   inner_own signature vs IsStuck = ends _
 
-module _ {C : Type 0} (h : Here C) (guarded : AreNativesGuarded h.around.natives) (invocation : Invocation)
+module _ {C : Type 0} (h : StepContext C) (guarded : AreNativesGuarded h.around.natives) (invocation : Invocation)
     (member : ℕ) (arguments : List TaggedValue) where
   abbrev call_op : Operation
   call_op = operations.Object (objects.Invoke invocation)
@@ -439,7 +439,7 @@ module _ {C : Type 0} (h : Here C) (guarded : AreNativesGuarded h.around.natives
       at_some (type_of_member h.around.world.shapes callback.member) _ (λ signature f.
       at_some (virtual_member h.around.world.shapes callback.member) _ (λ found g.
       at_check (callback_fits (after_native h a) given signature found.class object callback.arguments) _
-      (at_some (virtual_method_of h.around.world.shapes (class_of object.kind.object) found.token 0) _ (λ method d.
+      (at_some (virtual_method_of h.around.world.shapes (class_of object.kind.object_type) found.token 0) _ (λ method d.
       at_checked (is_in_place_of h.around.world.shapes callback.member found.class signature method) _ (λ in_place.
       called_as_own callback e object.owner method
       (first_part (is_member_or_loaded callback.member method) _ _ in_place) vs))))))
@@ -465,7 +465,7 @@ module _ {C : Type 0} (h : Here C) (guarded : AreNativesGuarded h.around.natives
 
 -- ---- calls
 
-module _ {C : Type 0} (h : Here C) (guarded : AreNativesGuarded h.around.natives) (invocation : Invocation) where
+module _ {C : Type 0} (h : StepContext C) (guarded : AreNativesGuarded h.around.natives) (invocation : Invocation) where
   invokes_own : (switch : Option Owner) (method : MethodName) (arguments vs : List TaggedValue)
       → Own h (operations.Object (objects.Invoke invocation)) behind (invokes h switch method arguments vs)
   invokes_own switch (Loaded number offset) arguments vs =
@@ -479,7 +479,7 @@ below zero us vs v e = top e
 below (suc count) [] vs v e = absurd cc
 below (suc count) (u ∷ us) vs v e = below count us vs v e
 
-module _ {C : Type 0} (h : Here C) (guarded : AreNativesGuarded h.around.natives) where
+module _ {C : Type 0} (h : StepContext C) (guarded : AreNativesGuarded h.around.natives) where
   at_arguments : {op : Operation} {stage : Stage} (signature : Signature ClassName)
       (go : List TaggedValue → List TaggedValue → Stepped C)
       → ((arguments vs : List TaggedValue) → drop (length signature.parameters) h.machine.top.operands ≡ vs
@@ -511,7 +511,7 @@ module _ {C : Type 0} (h : Here C) (guarded : AreNativesGuarded h.around.natives
       → Own h (operations.Object (objects.Invoke (Special index))) behind (act_special h target)
   special_own index target =
       at_arguments target.signature _ (λ arguments us d. at_reference us _ (λ receiver vs e.
-      at_object h receiver _ (λ n o. at_check (is_of_class h.around.world.shapes target.class o.kind.object) _
+      at_object h receiver _ (λ n o. at_check (is_of_class h.around.world.shapes target.class o.kind.object_type) _
       (invokes_own h guarded (Special index) None target.method (receiver ∷ arguments) vs))))
 
   virtual_own : (index : ℕ) (target : VirtualTarget)
@@ -521,7 +521,7 @@ module _ {C : Type 0} (h : Here C) (guarded : AreNativesGuarded h.around.natives
   virtual_own index target stands e =
       at_receiver accesses.InvokeVirtual None target.signature _ stands
       (ap (λ (t : Option VirtualTarget). option_and_then virtual_row t) e) (λ arguments n o vs x.
-      at_check (is_of_class h.around.world.shapes target.class o.kind.object) _
+      at_check (is_of_class h.around.world.shapes target.class o.kind.object_type) _
       (at_judged n (asking accesses.InvokeVirtual n) o _ x refl (λ switch.
       at_some (found_for h target.token o) _ (λ method d.
       invokes_own h guarded (Virtual index) switch method arguments vs))))
@@ -539,7 +539,7 @@ module _ {C : Type 0} (h : Here C) (guarded : AreNativesGuarded h.around.natives
       ∙ ap (names accesses.InvokeInterface (Operand (length signature.parameters))) e) (λ arguments n o vs x.
       at_judged n (wanting accesses.InvokeInterface n (Some interface)) o _ x refl (λ switch.
       at_require h class_cast_exception (has_interface h.around.world.shapes interface o) _ (further _ (ends _))
-      (at_some (interface_method_of h.around.world.shapes (class_of o.kind.object) interface token) _ (λ method d.
+      (at_some (interface_method_of h.around.world.shapes (class_of o.kind.object_type) interface token) _ (λ method d.
       invokes_own h guarded (Interface count index token) switch method arguments vs))))
 
   call_own : (invocation : Invocation) → StandsAt h.around h.machine (operations.Object (objects.Invoke invocation))

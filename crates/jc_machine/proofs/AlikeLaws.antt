@@ -21,7 +21,7 @@ use Rattle.jc_names.specs.declared.name.MethodName.TheVariants.{Api}
 use Rattle.jc_names.specs.declared.name.ClassName.{ClassName}
 use Rattle.jc_names.specs.declared.owner.Owner.{Owner}
 use Rattle.jc_store.specs.Heap.{Heap, Object, cells_in, object_at, with_cell, with_new, with_object}
-use Rattle.jc_store.specs.declared.kind.Kind.{Kind}
+use Rattle.jc_store.specs.declared.kind.ObjectKind.{ObjectKind}
 use Rattle.jc_store.specs.declared.kind.ObjectType.{ObjectType}
 use Rattle.jc_machine.specs.Lookup.{are_of_instance, are_of_types, is_given, is_object_of, is_of_class, is_of_type}
 use Rattle.jc_machine.specs.Lookup.{leads_to}
@@ -38,7 +38,7 @@ with_cells o cells = record { kind = o.kind; owner = o.owner; cells = cells }
 
 pub as_cells : (context : ℕ) (o p : Object TaggedValue) → IsAlike context o p → p ≡ with_cells o p.cells
 as_cells context o p a =
-    ap (λ (k : Kind). record { kind = k; owner = p.owner; cells = p.cells }) (sym a.kind)
+    ap (λ (k : ObjectKind). record { kind = k; owner = p.owner; cells = p.cells }) (sym a.kind)
     ∙ ap (λ (w : Owner). record { kind = o.kind; owner = w; cells = p.cells }) (sym a.owner)
 
 abbrev pub AlikeAt : ℕ → Option (Object TaggedValue) → Option (Object TaggedValue) → Type 0
@@ -113,7 +113,7 @@ as_large context (o ∷ os) [] a = absurd a
 -- ---- types and marks
 
 module _ (context : ℕ) (H K : Heap TaggedValue) (a : AreAlike context H K) where
-  kinds_both : {A : Type 0} (f : Kind → A) (d : A) (x y : Option (Object TaggedValue)) → AlikeAt context x y
+  kinds_both : {A : Type 0} (f : ObjectKind → A) (d : A) (x y : Option (Object TaggedValue)) → AlikeAt context x y
       → option_map_or (λ (o : Object TaggedValue). f o.kind) x d
       ≡ option_map_or (λ (o : Object TaggedValue). f o.kind) y d
   kinds_both f d None None b = refl
@@ -124,7 +124,7 @@ module _ (context : ℕ) (H K : Heap TaggedValue) (a : AreAlike context H K) whe
   pub leads_both : (test : ObjectType → Bool) (v : TaggedValue) → leads_to H test v ≡ leads_to K test v
   leads_both test (Word n) = refl
   leads_both test (Ref n) =
-      kinds_both (λ (k : Kind). test k.object) false (object_at H n) (object_at K n) (at_alike context H K a n)
+      kinds_both (λ (k : ObjectKind). test k.object_type) false (object_at H n) (object_at K n) (at_alike context H K a n)
   leads_both test Null = refl
   leads_both test Unset = refl
 
@@ -149,7 +149,7 @@ module _ (context : ℕ) (H K : Heap TaggedValue) (a : AreAlike context H K) whe
       → option_map (λ (o : Object TaggedValue). o.kind.mark) x
       ≡ option_map (λ (o : Object TaggedValue). o.kind.mark) y
   marks_both None None b = refl
-  marks_both (Some o) (Some p) b = ap (λ (k : Kind). Some k.mark) b.kind
+  marks_both (Some o) (Some p) b = ap (λ (k : ObjectKind). Some k.mark) b.kind
   marks_both None (Some p) b = absurd b
   marks_both (Some o) None b = absurd b
 

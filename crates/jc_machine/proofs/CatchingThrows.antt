@@ -138,8 +138,8 @@ module _ {C : Type 0} (s : Surroundings C) (m : Machine C) (object : ℕ) (class
       (code_at s.world f.method) refl
 
 pub throws_unwind : {C : Type 0} (s : Surroundings C) (m : Machine C) (object : ℕ) (o : Object TaggedValue)
-    → object_at m.heap object ≡ Some o → UnwindsTo s m object (class_of o.kind.object) (settled s (Throws m object))
+    → object_at m.heap object ≡ Some o → UnwindsTo s m object (class_of o.kind.object_type) (settled s (Throws m object))
 throws_unwind s m object o there =
-    subst (λ found. UnwindsTo s m object (class_of o.kind.object) (settled_object s m object found)) (sym there)
-    (unless_stuck s m object (class_of o.kind.object) (is_throwable s.world.shapes o.kind.object) _
-    (frames_unwind s m object (class_of o.kind.object) [] (m.top ∷ m.waiting) refl tt))
+    subst (λ found. UnwindsTo s m object (class_of o.kind.object_type) (settled_object s m object found)) (sym there)
+    (unless_stuck s m object (class_of o.kind.object_type) (is_throwable s.world.shapes o.kind.object_type) _
+    (frames_unwind s m object (class_of o.kind.object_type) [] (m.top ∷ m.waiting) refl tt))

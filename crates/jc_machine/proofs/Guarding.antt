@@ -15,7 +15,7 @@ use Rattle.jc_store.specs.Heap.{Heap, Object, object_at}
 use Rattle.jc_names.specs.declared.owner.Owner.{Owner}
 use Rattle.jc_machine.specs.Apart.{SparesPlain, IsApart}
 use Rattle.jc_machine.specs.Arrays.{loaded_as, loads}
-use Rattle.jc_machine.specs.Going.{Here, accessed, accessed_to_store, asking, branches, by_verdict, check, facts_of}
+use Rattle.jc_machine.specs.Going.{StepContext, accessed, accessed_to_store, asking, branches, by_verdict, check, facts_of}
 use Rattle.jc_machine.specs.Going.{gives, goes_on, goes_to, judged, jumps, leaves_operands, on_object, on_operands}
 use Rattle.jc_machine.specs.Going.{on_reference, on_reference_local, on_some, on_target, on_top, on_word, on_word_local}
 use Rattle.jc_machine.specs.Going.{plain, pushed, require, storing, stuck, throws, touch_of, touched}
@@ -90,7 +90,7 @@ pub still_kept : {C : Type 0} {around : Surroundings C} {m x y : Machine C} → 
 still_kept (as_they_were e) f = as_they_were (e ∙ f)
 still_kept (one_written place v names e) f = one_written place v names (e ∙ f)
 
-pub goes : {C : Type 0} {around : Surroundings C} {m : Machine C} {before : List Touch} (h : Here C) (pc : ℕ)
+pub goes : {C : Type 0} {around : Surroundings C} {m : Machine C} {before : List Touch} (h : StepContext C) (pc : ℕ)
     (locals operands : List TaggedValue)
     → KeepsHeap m.top.active before m.heap h.machine.heap → LeadsApart around m h.machine
     → KeepsLaw around m before (goes_to h pc locals operands)
@@ -102,28 +102,28 @@ goes h pc locals operands changes a =
       statics = still_kept a.statics refl;
     })
 
-pub goes_still : {C : Type 0} {before : List Touch} (h : Here C) (pc : ℕ) (locals operands : List TaggedValue)
+pub goes_still : {C : Type 0} {before : List Touch} (h : StepContext C) (pc : ℕ) (locals operands : List TaggedValue)
     → KeepsLaw h.around h.machine before (goes_to h pc locals operands)
 goes_still h pc locals operands = search (arith, goes, nothing_changes, is_apart_itself)
 
-pub goes_behind : {C : Type 0} {before : List Touch} (h : Here C) (locals operands : List TaggedValue)
+pub goes_behind : {C : Type 0} {before : List Touch} (h : StepContext C) (locals operands : List TaggedValue)
     → KeepsLaw h.around h.machine before (goes_on h locals operands)
 goes_behind h locals operands = goes_still h h.next_pc locals operands
 
-pub leaves_still : {C : Type 0} {before : List Touch} (h : Here C) (operands : List TaggedValue)
+pub leaves_still : {C : Type 0} {before : List Touch} (h : StepContext C) (operands : List TaggedValue)
     → KeepsLaw h.around h.machine before (leaves_operands h operands)
 leaves_still h operands = goes_still h h.next_pc h.machine.top.locals operands
 
-pub throws_still : {C : Type 0} {before : List Touch} (h : Here C) (object : ℕ)
+pub throws_still : {C : Type 0} {before : List Touch} (h : StepContext C) (object : ℕ)
     → KeepsLaw h.around h.machine before (throws h object)
 throws_still h object = stays (Throws h.machine object) h.machine refl refl (is_apart_itself h.around h.machine)
 
-jumps_still : {C : Type 0} {before : List Touch} (h : Here C) (to : ℤ) (operands : List TaggedValue)
+jumps_still : {C : Type 0} {before : List Touch} (h : StepContext C) (to : ℤ) (operands : List TaggedValue)
     → KeepsLaw h.around h.machine before (jumps h to operands)
 jumps_still h (pos pc) operands = goes_still h pc h.machine.top.locals operands
 jumps_still h (negsuc n) operands = is_stuck
 
-pub branches_still : {C : Type 0} {before : List Touch} (h : Here C) (taken : Bool) (offset : ℤ)
+pub branches_still : {C : Type 0} {before : List Touch} (h : StepContext C) (taken : Bool) (offset : ℤ)
     (vs : List TaggedValue) → KeepsLaw h.around h.machine before (branches h taken offset vs)
 branches_still h true offset vs = jumps_still h (target_of h.machine.top.pc offset) vs
 branches_still h false offset vs = leaves_still h vs
@@ -147,21 +147,21 @@ pub at_some : {A C : Type 0} {around : Surroundings C} {m : Machine C} {before :
 at_some None go k = is_stuck
 at_some (Some x) go k = k x refl
 
-pub at_pushed : {C : Type 0} {around : Surroundings C} {m : Machine C} {before : List Touch} (h : Here C)
+pub at_pushed : {C : Type 0} {around : Surroundings C} {m : Machine C} {before : List Touch} (h : StepContext C)
     (v : TaggedValue)
     (operands : List TaggedValue) (go : List TaggedValue → Stepped C) → KeepsLaw around m before (go (v ∷ operands))
     → KeepsLaw around m before (pushed h v operands go)
 at_pushed h v operands go k = at_check (nat_lt (length operands) h.max_stack) (go (v ∷ operands)) k
 
-pub gives_still : {C : Type 0} {before : List Touch} (h : Here C) (v : TaggedValue) (operands : List TaggedValue)
+pub gives_still : {C : Type 0} {before : List Touch} (h : StepContext C) (v : TaggedValue) (operands : List TaggedValue)
     → KeepsLaw h.around h.machine before (gives h v operands)
 gives_still h v operands = at_pushed h v operands (leaves_operands h) (leaves_still h (v ∷ operands))
 
-pub loads_still : {C : Type 0} {before : List Touch} (h : Here C) (form : Form) (held : TaggedValue)
+pub loads_still : {C : Type 0} {before : List Touch} (h : StepContext C) (form : Form) (held : TaggedValue)
     (operands : List TaggedValue) → KeepsLaw h.around h.machine before (loads h form held operands)
 loads_still h form held operands = at_some (loaded_as form held) _ (λ v e. gives_still h v operands)
 
-pub gives_changed : {C : Type 0} {around : Surroundings C} {m : Machine C} {before : List Touch} (h : Here C)
+pub gives_changed : {C : Type 0} {around : Surroundings C} {m : Machine C} {before : List Touch} (h : StepContext C)
     (v : TaggedValue)
     (operands : List TaggedValue) → KeepsHeap m.top.active before m.heap h.machine.heap
     → LeadsApart around m h.machine → KeepsLaw around m before (gives h v operands)
@@ -196,7 +196,7 @@ pub at_operands : {C : Type 0} {around : Surroundings C} {m : Machine C} {before
     (s : Stepped C) → KeepsLaw around m before s → KeepsLaw around m before (on_operands count vs s)
 at_operands count vs s k = at_check _ s k
 
-pub at_target : {A C : Type 0} {around : Surroundings C} {m : Machine C} {before : List Touch} (h : Here C) (index : ℕ)
+pub at_target : {A C : Type 0} {around : Surroundings C} {m : Machine C} {before : List Touch} (h : StepContext C) (index : ℕ)
     (wanted : PoolTarget → Option A) (go : A → Stepped C) → ((x : A) → KeepsLaw around m before (go x))
     → KeepsLaw around m before (on_target h index wanted go)
 at_target h index wanted go k = search (arith, at_some)
@@ -219,12 +219,12 @@ at_reference_local (Some v) go k = at_check (is_tagged_reference v) (go v) (k v)
 
 -- ---- tests that throw
 
-pub at_require : {C : Type 0} {before : List Touch} (h : Here C) (exception : ℕ) (b : Bool) (s : Stepped C)
+pub at_require : {C : Type 0} {before : List Touch} (h : StepContext C) (exception : ℕ) (b : Bool) (s : Stepped C)
     → KeepsLaw h.around h.machine before s → KeepsLaw h.around h.machine before (require h exception b s)
 at_require h exception true s k = k
 at_require h exception false s k = throws_still h exception
 
-pub at_object : {C : Type 0} {before : List Touch} (h : Here C) (v : TaggedValue)
+pub at_object : {C : Type 0} {before : List Touch} (h : StepContext C) (v : TaggedValue)
     (go : ℕ → Object TaggedValue → Stepped C)
     → ((n : ℕ) (o : Object TaggedValue) → object_at h.machine.heap n ≡ Some o
     → KeepsLaw h.around h.machine before (go n o))
@@ -283,7 +283,7 @@ pub behind_allowed : {C : Type 0} {around : Surroundings C} {m : Machine C} {bef
     → KeepsLaw around m (before ++ t ∷ []) s → KeepsLaw around m before (touched (t ∷ []) s)
 behind_allowed t s judges h spares k = behind (t ∷ []) s (judges, tt) (allowed h) (λ keeps p. (spares keeps p, tt)) k
 
-denied_still : {C : Type 0} {before : List Touch} (h : Here C) (t : Touch)
+denied_still : {C : Type 0} {before : List Touch} (h : StepContext C) (t : Touch)
     → IsJudged (setting_of h.around h.machine) t
     → is_allowed t.verdict ≡ false → t.active ≡ h.machine.top.active.context
     → KeepsLaw h.around h.machine before (touched (t ∷ []) (throws h security_exception))
@@ -292,7 +292,7 @@ denied_still h t judges e own =
     (λ keeps p. (own_spares h.around h.machine t own keeps p, tt)) (throws_still h security_exception)
 
 -- a verdict: what goes on knows that the access was allowed, and whether it switches
-pub at_verdict : {C : Type 0} {before : List Touch} (h : Here C) (asked : Asked) (v : Verdict)
+pub at_verdict : {C : Type 0} {before : List Touch} (h : StepContext C) (asked : Asked) (v : Verdict)
     (go : Option Owner → Stepped C) → IsJudged (setting_of h.around h.machine) (touch_of h asked v)
     → (is_allowed v ≡ true → (switch : Option Owner) → switch ≡ switched_by v
     → KeepsLaw h.around h.machine (before ++ touch_of h asked v ∷ []) (go switch))
@@ -306,13 +306,13 @@ at_verdict h asked (AllowedSwitch owner) go judges k =
 at_verdict h asked (Denied rule) go judges k = denied_still h (touch_of h asked (Denied rule)) judges refl refl
 
 -- the firewall's verdict on what is asked in a place, and the access with it
-abbrev pub verdict_in : {C : Type 0} → Here C → Asked → Object TaggedValue → Verdict
+abbrev pub verdict_in : {C : Type 0} → StepContext C → Asked → Object TaggedValue → Verdict
 verdict_in h asked object = verdict_of asked.access h.machine.top.active.context (facts_of h asked object)
 
-abbrev pub touch_in : {C : Type 0} → Here C → Asked → Object TaggedValue → Touch
+abbrev pub touch_in : {C : Type 0} → StepContext C → Asked → Object TaggedValue → Touch
 touch_in h asked object = touch_of h asked (verdict_in h asked object)
 
-pub at_judged : {C : Type 0} {before : List Touch} (h : Here C) (asked : Asked)
+pub at_judged : {C : Type 0} {before : List Touch} (h : StepContext C) (asked : Asked)
     (object : Object TaggedValue) → object_at h.machine.heap asked.object ≡ Some object
     → (go : Option Owner → Stepped C)
     → (is_allowed (verdict_in h asked object) ≡ true → (switch : Option Owner)
@@ -321,7 +321,7 @@ pub at_judged : {C : Type 0} {before : List Touch} (h : Here C) (asked : Asked)
     → KeepsLaw h.around h.machine before (judged h asked object go)
 at_judged h asked object there go k = search (arith, at_verdict)
 
-pub at_stored : {C : Type 0} {before : List Touch} (h : Here C) (access : Access) (number : ℕ)
+pub at_stored : {C : Type 0} {before : List Touch} (h : StepContext C) (access : Access) (number : ℕ)
     (object : Object TaggedValue) → object_at h.machine.heap number ≡ Some object → (v : TaggedValue)
     (s : Stepped C)
     → (is_allowed (verdict_in h (storing access number v) object) ≡ true
@@ -329,7 +329,7 @@ pub at_stored : {C : Type 0} {before : List Touch} (h : Here C) (access : Access
     → KeepsLaw h.around h.machine before (accessed_to_store h access number object v s)
 at_stored h access number object there v s k = search (arith, at_judged)
 
-pub at_accessed : {C : Type 0} {before : List Touch} (h : Here C) (access : Access) (number : ℕ)
+pub at_accessed : {C : Type 0} {before : List Touch} (h : StepContext C) (access : Access) (number : ℕ)
     (object : Object TaggedValue) → object_at h.machine.heap number ≡ Some object → (s : Stepped C)
     → (is_allowed (verdict_in h (asking access number) object) ≡ true
     → KeepsLaw h.around h.machine (before ++ touch_in h (asking access number) object ∷ []) s)

@@ -16,7 +16,7 @@ use Rattle.jc_machine.specs.Calls.{VirtualMember, active_in, after_native, calle
 use Rattle.jc_machine.specs.Calls.{entered, enters, inner_native_ends, is_in_place_of, is_member_or_loaded}
 use Rattle.jc_machine.specs.Calls.{native_answer, native_call, native_ends, native_gives, native_may_begin, on_native}
 use Rattle.jc_machine.specs.Calls.{type_of_member, virtual_member, with_given}
-use Rattle.jc_machine.specs.Going.{Here, check, moved, plain, stuck, throws, touched}
+use Rattle.jc_machine.specs.Going.{StepContext, check, moved, plain, stuck, throws, touched}
 use Rattle.jc_machine.specs.Guarded.{AreGuarded, AreMade, IsCalledBack, IsJudged, as_owner, as_they_were, by_callback}
 use Rattle.jc_machine.specs.Guarded.{by_frame, frame_answer, setting_of}
 use Rattle.jc_machine.specs.Lookup.{are_of_types, class_of, is_of_class}
@@ -36,7 +36,7 @@ use Rattle.jc_machine.proofs.Switching.{called_runs}
 
 -- ---- frames
 
-abbrev above : {C : Type 0} → Here C → Frame → List TaggedValue → Machine C
+abbrev above : {C : Type 0} → StepContext C → Frame → List TaggedValue → Machine C
 above h f operands = record {
   heap = h.machine.heap;
   statics = h.machine.statics;
@@ -46,7 +46,7 @@ above h f operands = record {
 }
 
 -- a frame that is active as an applet
-above_apart : {C : Type 0} (h : Here C) (f : Frame) (operands : List TaggedValue)
+above_apart : {C : Type 0} (h : StepContext C) (f : Frame) (operands : List TaggedValue)
     → RunsApplets h.around h.machine f.active → LeadsApart h.around h.machine (above h f operands)
 above_apart h f operands runs = record {
   apart = λ keeps p. record {
@@ -61,19 +61,19 @@ above_apart h f operands runs = record {
   statics = as_they_were refl;
 }
 
-by_room : {C : Type 0} {before : List Touch} (h : Here C) (f : Frame) (operands : List TaggedValue) (room : Bool)
+by_room : {C : Type 0} {before : List Touch} (h : StepContext C) (f : Frame) (operands : List TaggedValue) (room : Bool)
     → RunsApplets h.around h.machine f.active
     → KeepsLaw h.around h.machine before (cond room (plain (Next (above h f operands))) (plain (UsedUp h.machine)))
 by_room h f operands true runs =
     stays (Next (above h f operands)) (above h f operands) refl refl (above_apart h f operands runs)
 by_room h f operands false runs = stays (UsedUp h.machine) h.machine refl refl (is_apart_itself h.around h.machine)
 
-entered_keeps : {C : Type 0} {before : List Touch} (h : Here C) (f : Frame) (max_stack : ℕ)
+entered_keeps : {C : Type 0} {before : List Touch} (h : StepContext C) (f : Frame) (max_stack : ℕ)
     (operands : List TaggedValue) → RunsApplets h.around h.machine f.active
     → KeepsLaw h.around h.machine before (entered h f max_stack operands)
 entered_keeps h f max_stack operands runs = search (arith, by_room, length)
 
-pub enters_keeps : {C : Type 0} {before : List Touch} (h : Here C) (switch : Option Owner) (place : MethodPlace)
+pub enters_keeps : {C : Type 0} {before : List Touch} (h : StepContext C) (switch : Option Owner) (place : MethodPlace)
     (arguments operands : List TaggedValue)
     → RunsApplets h.around h.machine (active_in h.machine.top switch)
     → KeepsLaw h.around h.machine before (enters h switch place arguments operands)
@@ -104,7 +104,7 @@ record IsFineAnswer {C : Type 0} (around : Surroundings C) (m : Machine C) (befo
   apart : (keeps : C → Bool) → IsApartIn keeps around m → IsFineApart keeps m a
   remembers : (keeps : C → Bool) → IsKeptIn keeps around m → keeps a.runtime ≡ true
 
-refused_as : {C : Type 0} (h : Here C) (active : Owner) (previous : Option Owner) (member : ℕ)
+refused_as : {C : Type 0} (h : StepContext C) (active : Owner) (previous : Option Owner) (member : ℕ)
     (arguments : List TaggedValue)
     → IsGuardedAnswer h.around.natives h.around.world (native_call h.around h.machine active previous member arguments)
     (native_answer h active previous member arguments)
@@ -112,7 +112,7 @@ refused_as : {C : Type 0} (h : Here C) (active : Owner) (previous : Option Owner
     (IsNativeRefusal h.machine (native_answer h active previous member arguments))
 refused_as h active previous member arguments h1 = grind (arith, mapped)
 
-apart_as : {C : Type 0} (h : Here C) (active : Owner) (previous : Option Owner) (member : ℕ)
+apart_as : {C : Type 0} (h : StepContext C) (active : Owner) (previous : Option Owner) (member : ℕ)
     (arguments : List TaggedValue) → RunsApplets h.around h.machine active
     → IsGuardedAnswer h.around.natives h.around.world (native_call h.around h.machine active previous member arguments)
     (native_answer h active previous member arguments) → (keeps : C → Bool) → IsApartIn keeps h.around h.machine
@@ -129,7 +129,7 @@ apart_as {C = C} h active previous member arguments runs g keeps p =
     }
 
 -- one that the frame calls
-frame_fine : {C : Type 0} (h : Here C) → AreNativesGuarded h.around.natives → (before : List Touch) (member : ℕ)
+frame_fine : {C : Type 0} (h : StepContext C) → AreNativesGuarded h.around.natives → (before : List Touch) (member : ℕ)
     (arguments : List TaggedValue)
     → IsFineAnswer h.around h.machine before (frame_answer h.around h.machine member arguments)
 frame_fine {C = C} h natives before member arguments =
@@ -150,7 +150,7 @@ frame_fine {C = C} h natives before member arguments =
     }
 
 -- the frame's call of one that makes this call, with its accesses behind others
-record IsCalling {C : Type 0} (h : Here C) (before : List Touch) (callback : Callback) : Type 0 where
+record IsCalling {C : Type 0} (h : StepContext C) (before : List Touch) (callback : Callback) : Type 0 where
   member : ℕ
   arguments : List TaggedValue
   first : List Touch
@@ -165,7 +165,7 @@ both_all P Q R [] f h k = tt
 both_all P Q R (x ∷ xs) f h k = (f x h.0 k.0, both_all P Q R xs f h.1 k.1)
 
 -- one that is called so on an object
-callee_fine : {C : Type 0} (h : Here C) → AreNativesGuarded h.around.natives → (before : List Touch)
+callee_fine : {C : Type 0} (h : StepContext C) → AreNativesGuarded h.around.natives → (before : List Touch)
     (callback : Callback) → IsCalling h before callback → (object : Object TaggedValue)
     → object_at h.machine.heap callback.object ≡ Some object → RunsApplets h.around h.machine object.owner
     → (member : ℕ) → member ≡ callback.member
@@ -205,7 +205,7 @@ callee_fine {C = C} h natives before callback calling object there runs member i
     }
 
 -- the machine behind it
-answer_apart : {C : Type 0} {before : List Touch} (h : Here C) (a : NativeAnswer C)
+answer_apart : {C : Type 0} {before : List Touch} (h : StepContext C) (a : NativeAnswer C)
     → IsFineAnswer h.around h.machine before a → LeadsApart h.around h.machine (after_native h a).machine
 answer_apart h a fine = record {
   apart = λ keeps p. record {
@@ -218,12 +218,12 @@ answer_apart h a fine = record {
   statics = as_they_were refl;
 }
 
-same_place : {C : Type 0} (h : Here C) (a : NativeAnswer C) → IsAsWas h.machine a → after_native h a ≡ h
+same_place : {C : Type 0} (h : StepContext C) (a : NativeAnswer C) → IsAsWas h.machine a → after_native h a ≡ h
 same_place h a h1 = grind arith
 
-same_machine : {C : Type 0} (h : Here C) (a : NativeAnswer C) → IsAsWas h.machine a
+same_machine : {C : Type 0} (h : StepContext C) (a : NativeAnswer C) → IsAsWas h.machine a
     → (after_native h a).machine ≡ h.machine
-same_machine {C = C} h a same = ap (λ (x : Here C). x.machine) (same_place h a same)
+same_machine {C = C} h a same = ap (λ (x : StepContext C). x.machine) (same_place h a same)
 
 -- what an end that isn't an exception says of a refusal
 not_given : (ends : NativeEnd) (value : Option TaggedValue) → ends ≡ Gives value
@@ -246,18 +246,18 @@ same_thrown ends number e f = cc
 check_none : {C : Type 0} (b : Bool) (s : Stepped C) → s.touches ≡ [] → (check b s).touches ≡ []
 check_none b s h1 = grind arith
 
-given_none : {C : Type 0} (h : Here C) (value : Option TaggedValue) (operands : List TaggedValue)
+given_none : {C : Type 0} (h : StepContext C) (value : Option TaggedValue) (operands : List TaggedValue)
     → (with_given h value operands).touches ≡ []
 given_none h value operands = grind (arith, check_none)
 
-gives_none : {C : Type 0} (h : Here C) (signature : Signature ClassName) (value : Option TaggedValue)
+gives_none : {C : Type 0} (h : StepContext C) (signature : Signature ClassName) (value : Option TaggedValue)
     (operands : List TaggedValue) → (native_gives h signature value operands).touches ≡ []
 gives_none h signature value operands = grind (arith, check_none, given_none)
 
 -- ---- behind an answer
 
 -- what makes no access
-ends_behind : {C : Type 0} {before : List Touch} (h : Here C) (a : NativeAnswer C) (s : Stepped C)
+ends_behind : {C : Type 0} {before : List Touch} (h : StepContext C) (a : NativeAnswer C) (s : Stepped C)
     → s.touches ≡ [] → IsFineAnswer h.around h.machine before a
     → AreGuarded a.touches (s ≡ plain (Throws h.machine security_exception))
     → KeepsLaw h.around h.machine (before ++ a.touches) s → KeepsLaw h.around h.machine before (touched a.touches s)
@@ -267,27 +267,27 @@ ends_behind {before = before} h a s none fine guarded k =
     (sym (ap (λ (l : List Touch). a.touches ++ l) none ∙ append-nil a.touches)) (fine.made all))
 
 -- one that isn't a refusal
-unrefused : {C : Type 0} {before : List Touch} (h : Here C) (a : NativeAnswer C) (s : Stepped C)
+unrefused : {C : Type 0} {before : List Touch} (h : StepContext C) (a : NativeAnswer C) (s : Stepped C)
     → IsFineAnswer h.around h.machine before a → (a.ends ≡ ThrowsObject security_exception → ⊥)
     → AreGuarded a.touches (s ≡ plain (Throws h.machine security_exception))
 unrefused h a s fine other = grind (arith, mapped)
 
 -- it gives what it gives
-given_keeps : {C : Type 0} {around : Surroundings C} {m : Machine C} {before : List Touch} (h : Here C)
+given_keeps : {C : Type 0} {around : Surroundings C} {m : Machine C} {before : List Touch} (h : StepContext C)
     (value : Option TaggedValue)
     (operands : List TaggedValue) → KeepsHeap m.top.active before m.heap h.machine.heap
     → LeadsApart around m h.machine → KeepsLaw around m before (with_given h value operands)
 given_keeps h None operands changes apart = goes h h.next_pc h.machine.top.locals operands changes apart
 given_keeps h (Some v) operands changes apart = gives_changed h v operands changes apart
 
-gives_keeps : {C : Type 0} {around : Surroundings C} {m : Machine C} {before : List Touch} (h : Here C)
+gives_keeps : {C : Type 0} {around : Surroundings C} {m : Machine C} {before : List Touch} (h : StepContext C)
     (signature : Signature ClassName)
     (value : Option TaggedValue) (operands : List TaggedValue)
     → KeepsHeap m.top.active before m.heap h.machine.heap
     → LeadsApart around m h.machine → KeepsLaw around m before (native_gives h signature value operands)
 gives_keeps h signature value operands changes apart = search (arith, at_check, given_keeps)
 
-gave_keeps : {C : Type 0} {before : List Touch} (h : Here C) (a : NativeAnswer C) (signature : Signature ClassName)
+gave_keeps : {C : Type 0} {before : List Touch} (h : StepContext C) (a : NativeAnswer C) (signature : Signature ClassName)
     (value : Option TaggedValue) (operands : List TaggedValue) → IsFineAnswer h.around h.machine before a
     → a.ends ≡ Gives value
     → KeepsLaw h.around h.machine before (touched a.touches (native_gives (after_native h a) signature value operands))
@@ -299,7 +299,7 @@ gave_keeps {before = before} h a signature value operands fine e =
     (changes_later h.machine.top.active before a.touches h.machine.heap a.heap fine.changes) (answer_apart h a fine))
 
 -- it throws, as where an access of its own was denied
-threw_keeps : {C : Type 0} {before : List Touch} (h : Here C) (a : NativeAnswer C) (number : ℕ)
+threw_keeps : {C : Type 0} {before : List Touch} (h : StepContext C) (a : NativeAnswer C) (number : ℕ)
     → IsFineAnswer h.around h.machine before a → a.ends ≡ ThrowsObject number
     → KeepsLaw h.around h.machine before (touched a.touches (throws (after_native h a) number))
 threw_keeps {C = C} {before = before} h a number fine e =
@@ -311,14 +311,14 @@ threw_keeps {C = C} {before = before} h a number fine e =
     (leaves (Throws (after_native h a).machine number) (after_native h a).machine refl
     (changes_later h.machine.top.active before a.touches h.machine.heap a.heap fine.changes) (answer_apart h a fine))
 
-stuck_keeps : {C : Type 0} {before : List Touch} (h : Here C) (a : NativeAnswer C)
+stuck_keeps : {C : Type 0} {before : List Touch} (h : StepContext C) (a : NativeAnswer C)
     → IsFineAnswer h.around h.machine before a → (a.ends ≡ ThrowsObject security_exception → ⊥)
     → KeepsLaw h.around h.machine before (touched a.touches stuck)
 stuck_keeps h a fine other = ends_behind h a stuck refl fine (unrefused h a stuck fine other) is_stuck
 
 -- ---- a native member that another one called
 
-inner_end_keeps : {C : Type 0} {before : List Touch} (h : Here C) (a : NativeAnswer C)
+inner_end_keeps : {C : Type 0} {before : List Touch} (h : StepContext C) (a : NativeAnswer C)
     (signature : Signature ClassName) (operands : List TaggedValue) → IsFineAnswer h.around h.machine before a
     → (ends : NativeEnd) → a.ends ≡ ends
     → KeepsLaw h.around h.machine before
@@ -328,13 +328,13 @@ inner_end_keeps h a signature operands fine (ThrowsObject number) e = threw_keep
 inner_end_keeps h a signature operands fine (Calls callback) e = stuck_keeps h a fine (not_called a.ends callback e)
 inner_end_keeps h a signature operands fine IsStuck e = stuck_keeps h a fine (not_stuck a.ends e)
 
-inner_keeps : {C : Type 0} {before : List Touch} (h : Here C) (active : Owner) (previous : Option Owner) (member : ℕ)
+inner_keeps : {C : Type 0} {before : List Touch} (h : StepContext C) (active : Owner) (previous : Option Owner) (member : ℕ)
     (arguments operands : List TaggedValue)
     → IsFineAnswer h.around h.machine before (native_answer h active previous member arguments)
     → KeepsLaw h.around h.machine before (on_native h active previous member arguments (inner_native_ends operands))
 inner_keeps h active previous member arguments operands fine = search (arith, at_check, at_some, inner_end_keeps)
 
-called_as_keeps : {C : Type 0} {before : List Touch} (h : Here C) → AreNativesGuarded h.around.natives
+called_as_keeps : {C : Type 0} {before : List Touch} (h : StepContext C) → AreNativesGuarded h.around.natives
     → (callback : Callback) → IsCalling h before callback → (object : Object TaggedValue)
     → object_at h.machine.heap callback.object ≡ Some object → RunsApplets h.around h.machine object.owner
     → (method : MethodName) → is_member_or_loaded callback.member method ≡ true → (operands : List TaggedValue)
@@ -347,7 +347,7 @@ called_as_keeps {before = before} h natives callback calling object there runs (
     inner_keeps h object.owner (Some h.machine.top.active) member (Ref callback.object ∷ callback.arguments) operands
     (callee_fine h natives before callback calling object there runs member (eqb-true member callback.member is))
 
-called_owner : {C : Type 0} (h : Here C) (given signature : Signature ClassName) (callback : Callback)
+called_owner : {C : Type 0} (h : StepContext C) (given signature : Signature ClassName) (callback : Callback)
     → callback.member ≡ shareable_member → (object : Object TaggedValue)
     → object_at h.machine.heap callback.object ≡ Some object
     → (member : VirtualMember) → virtual_member h.around.world.shapes callback.member ≡ Some member
@@ -356,14 +356,14 @@ called_owner : {C : Type 0} (h : Here C) (given signature : Signature ClassName)
 called_owner h given signature callback asks object there member e fits keeps p =
     called_runs h.around.world.shapes p.members h.machine.heap p.machine.objects callback asks object there
     member e
-    (and_parts (is_of_class h.around.world.shapes member.class object.kind.object)
+    (and_parts (is_of_class h.around.world.shapes member.class object.kind.object_type)
     (is_same_return given.result signature.result)
     (and_parts
-    (is_of_class h.around.world.shapes member.class object.kind.object
+    (is_of_class h.around.world.shapes member.class object.kind.object_type
     && is_same_return given.result signature.result)
     (are_of_types h.around.world.shapes h.machine.heap signature.parameters callback.arguments) fits).0).0
 
-calls_back_keeps : {C : Type 0} {before : List Touch} (h : Here C) → AreNativesGuarded h.around.natives
+calls_back_keeps : {C : Type 0} {before : List Touch} (h : StepContext C) → AreNativesGuarded h.around.natives
     → (given : Signature ClassName) (callback : Callback) (operands : List TaggedValue)
     → IsCalling h before callback → KeepsLaw h.around h.machine before (calls_back h given callback operands)
 calls_back_keeps h natives given callback operands calling =
@@ -371,7 +371,7 @@ calls_back_keeps h natives given callback operands calling =
     at_some (type_of_member h.around.world.shapes callback.member) _ (λ signature e.
     at_some (virtual_member h.around.world.shapes callback.member) _ (λ member is.
     at_checked (callback_fits h given signature member.class object callback.arguments) _ (λ fits.
-    at_some (virtual_method_of h.around.world.shapes (class_of object.kind.object) member.token 0) _ (λ method e.
+    at_some (virtual_method_of h.around.world.shapes (class_of object.kind.object_type) member.token 0) _ (λ method e.
     at_checked (is_in_place_of h.around.world.shapes callback.member member.class signature method) _ (λ in_place.
     called_as_keeps h natives callback calling object there
     (called_owner h given signature callback calling.asks object there member is fits) method
@@ -381,17 +381,17 @@ calls_back_keeps h natives given callback operands calling =
     first_part a b c e = (and_parts a b (and_parts (a && b) c e).0).0
 
 -- a native member that makes a call has changed nothing
-called_back_keeps : {C : Type 0} {before : List Touch} (h : Here C) → AreNativesGuarded h.around.natives
+called_back_keeps : {C : Type 0} {before : List Touch} (h : StepContext C) → AreNativesGuarded h.around.natives
     → (a : NativeAnswer C) (given : Signature ClassName) (callback : Callback) (operands : List TaggedValue)
     → IsAsWas h.machine a → IsCalling h before callback
     → KeepsLaw h.around h.machine before (calls_back (after_native h a) given callback operands)
 called_back_keeps {C = C} {before = before} h natives a given callback operands same calling =
-    subst (λ (x : Here C). KeepsLaw h.around h.machine before (calls_back x given callback operands))
+    subst (λ (x : StepContext C). KeepsLaw h.around h.machine before (calls_back x given callback operands))
     (sym (same_place h a same)) (calls_back_keeps h natives given callback operands calling)
 
 -- ---- a native member that the frame calls
 
-module _ {C : Type 0} (h : Here C) (natives : AreNativesGuarded h.around.natives) (member : ℕ)
+module _ {C : Type 0} (h : StepContext C) (natives : AreNativesGuarded h.around.natives) (member : ℕ)
     (arguments operands : List TaggedValue) where
   abbrev a : NativeAnswer C
   a = frame_answer h.around h.machine member arguments

@@ -22,11 +22,11 @@ use Rattle.jc_store.specs.declared.kind.ObjectType.{ObjectType}
 use Rattle.jc_store.specs.declared.kind.ObjectType.TheVariants.{Instance, ReferenceArray}
 use Rattle.jc_words.specs.Values.{Null, Ref, TaggedValue, Unset, Word}
 use Rattle.jc_machine.specs.Apart.{SparesPlain}
-use Rattle.jc_machine.specs.Going.{Here, gives, no_resource, runtime_touch, stored_in, throws, throws_system}
+use Rattle.jc_machine.specs.Going.{StepContext, gives, no_resource, runtime_touch, stored_in, throws, throws_system}
 use Rattle.jc_machine.specs.Guarded.{IsAccessed, StandsAt, is_blank}
 use Rattle.jc_machine.specs.Machine.{Machine, Stepped, Surroundings, Throws, Touch}
 use Rattle.jc_machine.specs.Natives.{AreNativesGuarded}
-use Rattle.jc_machine.specs.Objects.{Test, act_branch, act_check_cast, act_create, act_instance_of, act_object}
+use Rattle.jc_machine.specs.Objects.{InstanceTest, act_branch, act_check_cast, act_create, act_instance_of, act_object}
 use Rattle.jc_machine.specs.Objects.{act_throw, cells_of, creates, creates_array, has_space, is_array_of_words}
 use Rattle.jc_machine.specs.Objects.{made, on_class, on_known, on_test, tested, word_array}
 use Rattle.jc_machine.specs.Arrays.{is_there}
@@ -69,7 +69,7 @@ reason_accessed active object = record {
 reason_spares : (heap : Heap TaggedValue) → HasRuntimeObjects heap → SparesPlain heap reason_touch
 reason_spares heap own e o there plain = grind (arith, not_plain_too, same_Some)
 
-system_keeps : {C : Type 0} (h : Here C) (reason : ℕ) → KeepsLaw h.around h.machine [] (throws_system h reason)
+system_keeps : {C : Type 0} (h : StepContext C) (reason : ℕ) → KeepsLaw h.around h.machine [] (throws_system h reason)
 system_keeps h reason =
     at_some (object_at h.machine.heap system_exception) _ (λ object there.
     behind_allowed reason_touch (throws (stored_in h system_exception object 0 (Word reason)) system_exception)
@@ -90,40 +90,40 @@ system_keeps h reason =
 abbrev AreBlank : List TaggedValue → Type 0
 AreBlank cells = AllByRecursion (λ (v : TaggedValue). is_blank v ≡ true) cells
 
-made_keeps : {C : Type 0} (h : Here C) (object : ObjectType) (cells vs : List TaggedValue) → AreBlank cells
+made_keeps : {C : Type 0} (h : StepContext C) (object : ObjectType) (cells vs : List TaggedValue) → AreBlank cells
     → KeepsLaw h.around h.machine [] (gives (made h object cells) (Ref (next_number h.machine.heap)) vs)
 made_keeps h object cells vs blank =
     gives_changed (made h object cells) (Ref (next_number h.machine.heap)) vs
     (more_changes h.machine.top.active [] h.machine.heap (record {
-      kind = record { object = object; mark = Plain; clears = None };
+      kind = record { object_type = object; mark = Plain; clears = None };
       owner = h.machine.top.active;
       cells = cells;
     }) (record { whose = refl; plain = refl; blank = blank })) (new_apart h (record {
-      kind = record { object = object; mark = Plain; clears = None };
+      kind = record { object_type = object; mark = Plain; clears = None };
       owner = h.machine.top.active;
       cells = cells;
     }) (record { whose = refl; plain = refl; blank = blank }) (blanks_held _ cells blank))
 
-by_space : {C : Type 0} (h : Here C) (object : ObjectType) (cells vs : List TaggedValue) (space : Bool) → AreBlank cells
+by_space : {C : Type 0} (h : StepContext C) (object : ObjectType) (cells vs : List TaggedValue) (space : Bool) → AreBlank cells
     → KeepsLaw h.around h.machine []
     (cond space (gives (made h object cells) (Ref (next_number h.machine.heap)) vs) (throws_system h no_resource))
 by_space h object cells vs true blank = made_keeps h object cells vs blank
 by_space h object cells vs false blank = system_keeps h no_resource
 
-creates_keeps : {C : Type 0} (h : Here C) (object : ObjectType) (cells vs : List TaggedValue) → AreBlank cells
+creates_keeps : {C : Type 0} (h : StepContext C) (object : ObjectType) (cells vs : List TaggedValue) → AreBlank cells
     → KeepsLaw h.around h.machine [] (creates h object cells vs)
 creates_keeps h object cells vs blank = by_space h object cells vs (has_space h cells) blank
 
-array_keeps : {C : Type 0} (h : Here C) (object : ObjectType) (v : TaggedValue) (count : ℕ) (vs : List TaggedValue)
+array_keeps : {C : Type 0} (h : StepContext C) (object : ObjectType) (v : TaggedValue) (count : ℕ) (vs : List TaggedValue)
     → is_blank v ≡ true → KeepsLaw h.around h.machine [] (creates_array h object v count vs)
 array_keeps h object v count vs blank = search (arith, at_require, not, int_lt, creates_keeps, replicate, all_replicate)
 
-at_class : {C : Type 0} {around : Surroundings C} {m : Machine C} {before : List Touch} (h : Here C) (index : ℕ)
+at_class : {C : Type 0} {around : Surroundings C} {m : Machine C} {before : List Touch} (h : StepContext C) (index : ℕ)
     (go : ClassName → Stepped C)
     → ((c : ClassName) → KeepsLaw around m before (go c)) → KeepsLaw around m before (on_class h index go)
 at_class h index go k = at_target h index class_target go k
 
-create_keeps : {C : Type 0} (h : Here C) (creation : Creation) → KeepsLaw h.around h.machine [] (act_create h creation)
+create_keeps : {C : Type 0} (h : StepContext C) (creation : Creation) → KeepsLaw h.around h.machine [] (act_create h creation)
 create_keeps h (Creations.Object index) =
     at_class h index _ (λ c. at_check (has_objects h.around.world.shapes c) _
     (creates_keeps h (Instance c) (cells_of h.around.world.shapes c) h.machine.top.operands
@@ -136,14 +136,14 @@ create_keeps h (Creations.ReferenceArray index) =
 
 -- ---- casts
 
-at_test : {C : Type 0} {around : Surroundings C} {m : Machine C} {before : List Touch} (h : Here C) (type : TestedType)
-    (go : Test → Stepped C)
-    → ((test : Test) → KeepsLaw around m before (go test)) → KeepsLaw around m before (on_test h type go)
+at_test : {C : Type 0} {around : Surroundings C} {m : Machine C} {before : List Touch} (h : StepContext C) (type : TestedType)
+    (go : InstanceTest → Stepped C)
+    → ((test : InstanceTest) → KeepsLaw around m before (go test)) → KeepsLaw around m before (on_test h type go)
 at_test h (Tested.Class index) go k = search (arith, at_class)
 at_test h (Tested.WordArray kind) go k = k (record { wanted = None; passes = is_array_of_words kind })
 at_test h (Tested.ReferenceArray index) go k = search (arith, at_class)
 
-at_tested : {C : Type 0} (h : Here C) (access : Access) (type : TestedType) (v : TaggedValue) (of_null : Stepped C)
+at_tested : {C : Type 0} (h : StepContext C) (access : Access) (type : TestedType) (v : TaggedValue) (of_null : Stepped C)
     (go : Bool → Stepped C) → KeepsLaw h.around h.machine [] of_null
     → ((before : List Touch) (passes : Bool) → KeepsLaw h.around h.machine before (go passes))
     → KeepsLaw h.around h.machine [] (tested h access type v of_null go)
@@ -152,28 +152,28 @@ at_tested h access type (Ref n) of_null go k l = search (arith, is_stuck, at_tes
 at_tested h access type Null of_null go k l = at_test h type _ (λ test. k)
 at_tested h access type Unset of_null go k l = is_stuck
 
-check_cast_keeps : {C : Type 0} (h : Here C) (type : TestedType) → KeepsLaw h.around h.machine []
+check_cast_keeps : {C : Type 0} (h : StepContext C) (type : TestedType) → KeepsLaw h.around h.machine []
     (act_check_cast h type)
 check_cast_keeps h type = search (arith, at_reference, at_tested, gives_still, at_require)
 
-instance_of_keeps : {C : Type 0} (h : Here C) (type : TestedType) → KeepsLaw h.around h.machine []
+instance_of_keeps : {C : Type 0} (h : StepContext C) (type : TestedType) → KeepsLaw h.around h.machine []
     (act_instance_of h type)
 instance_of_keeps h type = search (arith, at_reference, at_tested, gives_still)
 
 -- ---- exceptions
 
-throw_keeps : {C : Type 0} (h : Here C) → KeepsLaw h.around h.machine [] (act_throw h)
+throw_keeps : {C : Type 0} (h : StepContext C) → KeepsLaw h.around h.machine [] (act_throw h)
 throw_keeps h = search (arith, at_reference, at_object, at_check, at_accessed, throws_still)
 
 -- ---- references that are moved and compared
 
-at_known : {C : Type 0} {around : Surroundings C} {m : Machine C} {before : List Touch} (h : Here C)
+at_known : {C : Type 0} {around : Surroundings C} {m : Machine C} {before : List Touch} (h : StepContext C)
     (vs : List TaggedValue) (go : TaggedValue → List TaggedValue → Stepped C)
     → ((v : TaggedValue) (rest : List TaggedValue) → KeepsLaw around m before (go v rest))
     → KeepsLaw around m before (on_known h vs go)
 at_known h vs go k = at_reference vs _ (λ v rest. at_check (is_there h v) (go v rest) (k v rest))
 
-branch_keeps : {C : Type 0} (h : Here C) (when : ReferenceCondition) (offset : ℤ)
+branch_keeps : {C : Type 0} (h : StepContext C) (when : ReferenceCondition) (offset : ℤ)
     → KeepsLaw h.around h.machine [] (act_branch h when offset)
 branch_keeps h Conditions.Null offset = search (arith, at_known, branches_still, not)
 branch_keeps h Conditions.NotNull offset = search (arith, at_known, branches_still, not)
@@ -182,7 +182,7 @@ branch_keeps h Conditions.Different offset = search (arith, at_known, branches_s
 
 -- ---- instructions on references
 
-pub object_keeps : {C : Type 0} (h : Here C) → AreNativesGuarded h.around.natives → (operation : ObjectOperation)
+pub object_keeps : {C : Type 0} (h : StepContext C) → AreNativesGuarded h.around.natives → (operation : ObjectOperation)
     → StandsAt h.around h.machine (operations.Object operation)
     → KeepsLaw h.around h.machine [] (act_object h operation)
 unfolding act_object

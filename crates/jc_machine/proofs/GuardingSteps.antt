@@ -15,7 +15,7 @@ use Rattle.jc_names.specs.declared.name.ClassName.{ClassName}
 use Rattle.jc_names.specs.declared.owner.Owner.{Owner}
 use Rattle.jc_store.specs.Heap.{Heap, Object, object_at}
 use Rattle.jc_machine.specs.Apart.{AreNativesApart, HaveApiMembers, IsApart, SparesPlain, StaysApart, is_applets}
-use Rattle.jc_machine.specs.Going.{Here, moved}
+use Rattle.jc_machine.specs.Going.{StepContext, moved}
 use Rattle.jc_machine.specs.Guarded.{AreGuarded, ChangesAccessed, IsAccessed, IsGuarded, IsRefused, KeepsPlain}
 use Rattle.jc_machine.specs.Guarded.{KeepsStatics, StandsAt, are_allowed, machine_of}
 use Rattle.jc_machine.specs.Keeping.{MembersKeep}
@@ -35,7 +35,7 @@ use Rattle.jc_machine.proofs.StayingApart.{IsApartPart, are_applets}
 
 -- ---- one instruction
 
-act_keeps : {C : Type 0} (h : Here C) → AreNativesGuarded h.around.natives → (operation : Operation)
+act_keeps : {C : Type 0} (h : StepContext C) → AreNativesGuarded h.around.natives → (operation : Operation)
     → StandsAt h.around h.machine operation → KeepsLaw h.around h.machine [] (act h operation)
 act_keeps h natives (operations.Word operation) at = word_keeps h operation
 act_keeps h natives (operations.Object operation) at = object_keeps h natives operation at
@@ -123,9 +123,9 @@ object_leaves : {C : Type 0} (s : Surroundings C) (m : Machine C) (number : ℕ)
     → LeavesHeap m (settled_object s m number o)
 object_leaves s m number None = of_stuck m
 object_leaves s m number (Some o) =
-    either m (is_throwable s.world.shapes o.kind.object)
-    (unwound s m number (class_of o.kind.object) (m.top ∷ m.waiting)) Stuck
-    (unwound_leaves s m number (class_of o.kind.object) (m.top ∷ m.waiting) (λ keeps p. p.frames)) (of_stuck m)
+    either m (is_throwable s.world.shapes o.kind.object_type)
+    (unwound s m number (class_of o.kind.object_type) (m.top ∷ m.waiting)) Stuck
+    (unwound_leaves s m number (class_of o.kind.object_type) (m.top ∷ m.waiting) (λ keeps p. p.frames)) (of_stuck m)
 
 -- what an outcome changes is what it changes when it is settled
 settled_changes : {C : Type 0} (s : Surroundings C) (owner : Owner) (touches : List Touch) (heap : Heap TaggedValue)

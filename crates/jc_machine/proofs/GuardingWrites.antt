@@ -12,7 +12,7 @@ use Rattle.jc_firewall.specs.declared.access.Verdict.{Verdict}
 use Rattle.jc_firewall.specs.declared.access.Verdict.TheVariants.{Allowed, Denied}
 use Rattle.jc_store.specs.Heap.{Heap, Object, object_at, with_cell, with_new, with_object}
 use Rattle.jc_store.specs.declared.kind.Mark.TheVariants.{Plain}
-use Rattle.jc_machine.specs.Going.{Here, facts_of, leaves_operands, stored_in, with_heap}
+use Rattle.jc_machine.specs.Going.{StepContext, facts_of, leaves_operands, stored_in, with_heap}
 use Rattle.jc_machine.specs.Guarded.{ChangesAccessed, IsAccessed, IsNewOf, as_they_were, is_allowed, may_change}
 use Rattle.jc_machine.specs.Machine.{Asked, Touch}
 use Rattle.jc_names.specs.declared.owner.Owner.{Owner}
@@ -67,7 +67,7 @@ pub own_thrown : (active : ℕ) (f : Facts) → is_allowed (verdict_of Throw act
 own_thrown active f fine plain = grind (arith, by_table, eqb-true, by_throw)
 
 -- an allowed access that writes
-pub is_accessed : {C : Type 0} (h : Here C) (asked : Asked) (object : Object TaggedValue)
+pub is_accessed : {C : Type 0} (h : StepContext C) (asked : Asked) (object : Object TaggedValue)
     → may_change asked.access ≡ true → IsWritten asked.access (facts_of h asked object)
     → is_allowed (verdict_in h asked object) ≡ true
     → IsAccessed h.machine.top.active.context (touch_in h asked object ∷ []) asked.object object
@@ -156,7 +156,7 @@ more_changes owner touches heap new plain = search (arith, more_changes_only, al
 
 -- ---- what is apart
 
-pub stored_apart : {C : Type 0} (h : Here C) (number : ℕ) (object : Object TaggedValue) (index : ℕ) (v : TaggedValue)
+pub stored_apart : {C : Type 0} (h : StepContext C) (number : ℕ) (object : Object TaggedValue) (index : ℕ) (v : TaggedValue)
     → object_at h.machine.heap number ≡ Some object → IsHeld h.around h.machine v
     → LeadsApart h.around h.machine (stored_in h number object index v).machine
 stored_apart h number object index v there held = record {
@@ -181,7 +181,7 @@ stored_apart h number object index v there held = record {
 }
 
 -- a plain object of the owner that is active
-pub new_apart : {C : Type 0} (h : Here C) (new : Object TaggedValue) → IsNewOf h.machine.top.active new
+pub new_apart : {C : Type 0} (h : StepContext C) (new : Object TaggedValue) → IsNewOf h.machine.top.active new
     → AllByRecursion (λ (v : TaggedValue). may_be_held (with_new h.machine.heap new) v ≡ true) new.cells
     → LeadsApart h.around h.machine (with_heap h.machine (with_new h.machine.heap new))
 new_apart h new plain held = record {
@@ -202,7 +202,7 @@ new_apart h new plain held = record {
 }
 
 -- a component is stored, and the frame goes on
-pub stores : {C : Type 0} (h : Here C) (asked : Asked) (object : Object TaggedValue)
+pub stores : {C : Type 0} (h : StepContext C) (asked : Asked) (object : Object TaggedValue)
     (index : ℕ) (v : TaggedValue) (vs : List TaggedValue)
     → object_at h.machine.heap asked.object ≡ Some object → may_change asked.access ≡ true
     → IsWritten asked.access (facts_of h asked object)

@@ -53,7 +53,7 @@ use Rattle.jc_machine.specs.Arrays.{act_length, act_load, act_store, act_store_r
 use Rattle.jc_machine.specs.Arrays.{loads}
 use Rattle.jc_machine.specs.Fields.{FieldTarget, InstanceField, act_instance, act_on_target, act_static}
 use Rattle.jc_machine.specs.Fields.{of_class, of_objects, on_holder, stored_in_static}
-use Rattle.jc_machine.specs.Going.{Here, accessed, accessed_to_store, asking, branches, by_verdict, check, facts_of}
+use Rattle.jc_machine.specs.Going.{StepContext, accessed, accessed_to_store, asking, branches, by_verdict, check, facts_of}
 use Rattle.jc_machine.specs.Going.{storing, gives, goes_to, judged, jumps, leaves_operands, moved, on_object}
 use Rattle.jc_machine.specs.Going.{on_reference}
 use Rattle.jc_machine.specs.Going.{on_reference_local, on_some, on_top, on_word, on_word_local, plain}
@@ -62,7 +62,7 @@ use Rattle.jc_machine.specs.Going.{stored_in, throws_system, touch_of, touched, 
 use Rattle.jc_machine.specs.Machine.{Asked, Frame, Machine}
 use Rattle.jc_machine.specs.Machine.{Next, Stepped, Surroundings}
 use Rattle.jc_machine.specs.Machine.{Touch}
-use Rattle.jc_machine.specs.Objects.{Test, act_branch, act_create}
+use Rattle.jc_machine.specs.Objects.{InstanceTest, act_branch, act_create}
 use Rattle.jc_machine.specs.Objects.{creates, creates_array, has_space, made, on_class, on_test, tested}
 use Rattle.jc_machine.specs.Owning.{FramesGo, IsOfCall, OwnersGo}
 use Rattle.jc_machine.specs.Owning.{back, runs, switch_in, switch_of}
@@ -70,7 +70,7 @@ use Rattle.jc_machine.specs.Returns.{pc_behind_call, result_of, resumed, returns
 use Rattle.jc_machine.specs.Words.{act_word, on_result, shuffled}
 use Rattle.jc_words.specs.Values.{Null, Ref, TaggedValue, Unset, Word, is_tagged_reference}
 
-pub record Owned {C : Type 0} (h : Here C) (before : List Touch) (s : Stepped C) : Type 0 where
+pub record Owned {C : Type 0} (h : StepContext C) (before : List Touch) (s : Stepped C) : Type 0 where
   pub owned : OwnersGo h.around h.machine (before ++ s.touches) s.outcome
 
 pub same_call : {f g : Frame} → g.method ≡ f.method → g.active ≡ f.active → g.previous ≡ f.previous → IsOfCall f g
@@ -82,7 +82,7 @@ pub stays : {C : Type 0} {s : Surroundings C} {m : Machine C} {ts : List Touch} 
     → FramesGo s m ts (moved m.top pc locals operands ∷ m.waiting)
 stays pc locals operands = runs _ (same_call refl refl refl)
 
-module _ {C : Type 0} (h : Here C) (before : List Touch) where
+module _ {C : Type 0} (h : StepContext C) (before : List Touch) where
   pub at_check : (b : Bool) (s : Stepped C) → Owned h before s → Owned h before (check b s)
   at_check true s k = k
   at_check false s k = record { owned = tt }
@@ -162,7 +162,7 @@ module _ {C : Type 0} (h : Here C) (before : List Touch) where
         k.owned;
   }
 
-module _ {C : Type 0} (h : Here C) (before : List Touch) where
+module _ {C : Type 0} (h : StepContext C) (before : List Touch) where
   at_verdict : (asked : Asked) (v : Verdict) (go : Option Owner → Stepped C)
       → ((switch : Option Owner) → switch ≡ switch_of v → Owned h (before ++ touch_of h asked v ∷ []) (go switch))
       → Owned h before (by_verdict h asked v go)
@@ -186,7 +186,7 @@ module _ {C : Type 0} (h : Here C) (before : List Touch) where
   at_stored access n o v s k = at_used (storing access n v) o (λ switch. s) (λ ts switch. k ts)
 
 -- a call's
-pub at_called : {C : Type 0} (h : Here C) (asked : Asked) (o : Object TaggedValue) (go : Option Owner → Stepped C)
+pub at_called : {C : Type 0} (h : StepContext C) (asked : Asked) (o : Object TaggedValue) (go : Option Owner → Stepped C)
     → ((ts : List Touch) (switch : Option Owner) → switch_in ts ≡ switch → Owned h ts (go switch))
     → Owned h [] (judged h asked o go)
 at_called h asked o go k =
@@ -195,11 +195,11 @@ at_called h asked o go k =
 
 -- ---- rules without frames
 
-module _ {C : Type 0} (h : Here C) where
+module _ {C : Type 0} (h : StepContext C) where
   pub load_owned : (form : Form) → Owned h [] (act_load h form)
   load_owned form =
       at_word h [] h.machine.top.operands _ (λ index us. at_reference h [] us _ (λ array vs.
-      at_object h [] array _ (λ n o. at_check h [] (is_array_of form o.kind.object) _
+      at_object h [] array _ (λ n o. at_check h [] (is_array_of form o.kind.object_type) _
       (at_accessed h [] accesses.LoadComponent n o _ (λ ts.
       at_require h ts array_index_exception (is_in_bounds index o) _
       (at_some h ts (slice_get o.cells index) _ (λ v e. loads_owned h ts form v vs)))))))
@@ -207,13 +207,13 @@ module _ {C : Type 0} (h : Here C) where
   pub length_owned : Owned h [] (act_length h)
   length_owned =
       at_reference h [] h.machine.top.operands _ (λ array vs. at_object h [] array _ (λ n o.
-      at_check h [] (is_array o.kind.object) _ (at_accessed h [] accesses.ArrayLength n o _ (λ ts.
+      at_check h [] (is_array o.kind.object_type) _ (at_accessed h [] accesses.ArrayLength n o _ (λ ts.
       gives_owned h ts (Word (length o.cells)) vs))))
 
   store_word_owned : (form : Form) → Owned h [] (act_store_word h form)
   store_word_owned form =
       at_word h [] h.machine.top.operands _ (λ w ts. at_word h [] ts _ (λ index us. at_reference h [] us _ (λ array vs.
-      at_object h [] array _ (λ n o. at_check h [] (is_array_of form o.kind.object) _
+      at_object h [] array _ (λ n o. at_check h [] (is_array_of form o.kind.object_type) _
       (at_accessed h [] accesses.StoreComponent n o _ (λ before.
       at_require h before array_index_exception (is_in_bounds index o) _
       (stored_owned h before n o index (stored_as form (Word w)) vs)))))))
@@ -222,7 +222,7 @@ module _ {C : Type 0} (h : Here C) where
   store_reference_owned =
       at_reference h [] h.machine.top.operands _ (λ v ts. at_check h [] (is_there h v) _ (at_word h [] ts _ (λ index us.
       at_reference h [] us _ (λ array vs. at_object h [] array _ (λ n o.
-      at_some h [] (component_class o.kind.object) _ (λ class e.
+      at_some h [] (component_class o.kind.object_type) _ (λ class e.
       at_stored h [] accesses.StoreReference n o v _ (λ before.
       at_require h before array_index_exception (is_in_bounds index o) _
       (at_require h before array_store_exception (leads_to h.machine.heap (is_instance h.around.world.shapes class) v) _
@@ -253,14 +253,14 @@ module _ {C : Type 0} (h : Here C) where
       → Owned h [] (act_instance h access field action)
   instance_owned access field Get =
       at_holder access.holder h.machine.top.operands _ (λ v vs. at_object h [] v _ (λ n o.
-      at_check h [] (is_of_class h.around.world.shapes field.class o.kind.object) _
+      at_check h [] (is_of_class h.around.world.shapes field.class o.kind.object_type) _
       (at_accessed h [] accesses.GetField n o _ (λ ts.
       at_some h ts (slice_get o.cells field.cell) _ (λ value e. loads_owned h ts access.form value vs)))))
   instance_owned access field Put =
       at_top h [] h.machine.top.operands _ (λ value us.
       at_check h [] (is_of_type h.around.world.shapes h.machine.heap field.declared value) _
       (at_holder access.holder us _ (λ v vs. at_object h [] v _ (λ n o.
-      at_check h [] (is_of_class h.around.world.shapes field.class o.kind.object) _
+      at_check h [] (is_of_class h.around.world.shapes field.class o.kind.object_type) _
       (at_stored h [] (putting access.form) n o value _ (λ ts.
       at_check h ts (nat_lt field.cell (length o.cells)) _
       (stored_owned h ts n o field.cell (stored_as access.form value) vs)))))))
@@ -324,7 +324,7 @@ module _ {C : Type 0} (h : Here C) where
       at_class index _ (λ c. at_word h [] h.machine.top.operands _ (λ count vs.
       array_owned (ReferenceArray c) Null count vs))
 
-  at_test : (type : TestedType) (go : Test → Stepped C) → ((t : Test) → Owned h [] (go t))
+  at_test : (type : TestedType) (go : InstanceTest → Stepped C) → ((t : InstanceTest) → Owned h [] (go t))
       → Owned h [] (on_test h type go)
   at_test (Tested.Class index) go k = at_some h [] _ _ (λ c e. k _)
   at_test (Tested.WordArray kind) go k = k _
@@ -335,8 +335,8 @@ module _ {C : Type 0} (h : Here C) where
   tested_owned access type (Word n) s go k l = record { owned = tt }
   tested_owned access type (Ref n) s go k l =
       at_test type _ (λ t. at_object h [] (Ref n)
-      (λ number o. judged h (wanting access number t.wanted) o (λ switch. go (t.passes o.kind.object)))
-      (λ number o. at_used h [] (wanting access number t.wanted) o _ (λ ts switch. l ts (t.passes o.kind.object))))
+      (λ number o. judged h (wanting access number t.wanted) o (λ switch. go (t.passes o.kind.object_type)))
+      (λ number o. at_used h [] (wanting access number t.wanted) o _ (λ ts switch. l ts (t.passes o.kind.object_type))))
   tested_owned access type Null s go k l = at_test type _ (λ t. k)
   tested_owned access type Unset s go k l = record { owned = tt }
 

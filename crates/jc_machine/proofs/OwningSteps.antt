@@ -42,7 +42,7 @@ use Rattle.jc_machine.specs.Calls.{enters, frame_of, has_room, inner_native_ends
 use Rattle.jc_machine.specs.Calls.{native_ends, native_gives, on_native, previous_in, special_target, static_target}
 use Rattle.jc_machine.specs.Calls.{virtual_target, with_arguments, with_given, with_receiver}
 use Rattle.jc_machine.specs.Fields.{field_target}
-use Rattle.jc_machine.specs.Going.{Here, asking}
+use Rattle.jc_machine.specs.Going.{StepContext, asking}
 use Rattle.jc_machine.specs.Going.{gives, moved, on_object}
 use Rattle.jc_machine.specs.Going.{on_reference}
 use Rattle.jc_machine.specs.Going.{on_some, on_target, plain}
@@ -70,7 +70,7 @@ use Rattle.jc_machine.proofs.OwningRules.{tested_owned, branch_owned, returns_ow
 -- ---- frames
 
 -- the caller waits with operands below its own
-waits_at : {C : Type 0} (h : Here C) (taken : ℕ) (vs : List TaggedValue) → vs ≡ drop taken h.machine.top.operands
+waits_at : {C : Type 0} (h : StepContext C) (taken : ℕ) (vs : List TaggedValue) → vs ≡ drop taken h.machine.top.operands
     → Waits h.machine.top (moved h.machine.top h.machine.top.pc h.machine.top.locals vs)
 waits_at h taken vs e =
     record { call = same_call refl refl refl; pc = refl; locals = refl; taken = taken; operands = e }
@@ -82,7 +82,7 @@ called_so f None place header arguments = record { active = refl; previous = ref
 called_so f (Some owner) place header arguments = record { active = refl; previous = refl }
 
 -- a place with other objects, and with something else that the runtime keeps, has the same frames
-abbrev beside : {C : Type 0} → Here C → Heap TaggedValue → C → Here C
+abbrev beside : {C : Type 0} → StepContext C → Heap TaggedValue → C → StepContext C
 beside h heap runtime = with_machine h (record {
   heap = heap;
   statics = h.machine.statics;
@@ -91,7 +91,7 @@ beside h heap runtime = with_machine h (record {
   waiting = h.machine.waiting;
 })
 
-module _ {C : Type 0} (h : Here C) (before : List Touch) (heap : Heap TaggedValue) (runtime : C) where
+module _ {C : Type 0} (h : StepContext C) (before : List Touch) (heap : Heap TaggedValue) (runtime : C) where
   entered_owned : (f : Frame) (max_stack : ℕ) (vs : List TaggedValue)
       → FramesGo h.around h.machine before
       (f ∷ moved h.machine.top h.machine.top.pc h.machine.top.locals vs ∷ h.machine.waiting)
@@ -127,7 +127,7 @@ module _ {C : Type 0} (h : Here C) (before : List Touch) (heap : Heap TaggedValu
 
 -- ---- native members: a place with other objects, and with something else that the runtime keeps, has the same frames
 
-module _ {C : Type 0} (h : Here C) (before : List Touch) (a : NativeAnswer C) where
+module _ {C : Type 0} (h : StepContext C) (before : List Touch) (a : NativeAnswer C) where
   gave_owned : (signature : Signature ClassName) (value : Option TaggedValue) (vs : List TaggedValue)
       → Owned h before (native_gives (after_native h a) signature value vs)
   gave_owned signature value vs =
@@ -144,7 +144,7 @@ module _ {C : Type 0} (h : Here C) (before : List Touch) (a : NativeAnswer C) wh
   inner_owned signature vs (Calls callback) = record { owned = tt }
   inner_owned signature vs IsStuck = record { owned = tt }
 
-module _ {C : Type 0} (h : Here C) (guarded : AreNativesGuarded h.around.natives) (member : ℕ)
+module _ {C : Type 0} (h : StepContext C) (guarded : AreNativesGuarded h.around.natives) (member : ℕ)
     (arguments : List TaggedValue) where
   abbrev a : NativeAnswer C
   a = frame_answer h.around h.machine member arguments
@@ -177,7 +177,7 @@ module _ {C : Type 0} (h : Here C) (guarded : AreNativesGuarded h.around.natives
       at_some h before (type_of_member h.around.world.shapes callback.member) _ (λ signature f.
       at_some h before (virtual_member h.around.world.shapes callback.member) _ (λ found g.
       at_check h before (callback_fits (after_native h a) given signature found.class object callback.arguments) _
-      (at_some h before (virtual_method_of h.around.world.shapes (class_of object.kind.object) found.token 0) _
+      (at_some h before (virtual_method_of h.around.world.shapes (class_of object.kind.object_type) found.token 0) _
       (λ method d.
       at_check h before (is_in_place_of h.around.world.shapes callback.member found.class signature method) _
       (called_as_owned before object.owner (asks object (was object there)) method
@@ -234,7 +234,7 @@ rest_of {A = A} zero (y ∷ ys) x xs e = ap rest e
 rest_of (suc k) [] x xs e = absurd cc
 rest_of (suc k) (y ∷ ys) x xs e = rest_of k ys x xs e
 
-module _ {C : Type 0} (h : Here C) (guarded : AreNativesGuarded h.around.natives) where
+module _ {C : Type 0} (h : StepContext C) (guarded : AreNativesGuarded h.around.natives) where
   invokes_owned : (before : List Touch) (switch : Option Owner) → switch_in before ≡ switch → (method : MethodName)
       (arguments vs : List TaggedValue) (taken : ℕ) → vs ≡ drop taken h.machine.top.operands
       → Owned h before (invokes h switch method arguments vs)
@@ -274,7 +274,7 @@ module _ {C : Type 0} (h : Here C) (guarded : AreNativesGuarded h.around.natives
   virtual_owned : (target : VirtualTarget) → Owned h [] (act_virtual h target)
   virtual_owned target =
       receiver_owned target.signature _ (λ arguments n o vs taken rest.
-      at_check h [] (is_of_class h.around.world.shapes target.class o.kind.object) _
+      at_check h [] (is_of_class h.around.world.shapes target.class o.kind.object_type) _
       (at_called h (asking accesses.InvokeVirtual n) o _ (λ ts switch e.
       at_some h ts (found_for h target.token o) _ (λ method d.
       invokes_owned ts switch e method arguments vs taken rest))))
@@ -282,7 +282,7 @@ module _ {C : Type 0} (h : Here C) (guarded : AreNativesGuarded h.around.natives
   special_owned : (target : MethodTarget) → Owned h [] (act_special h target)
   special_owned target =
       receiver_owned target.signature _ (λ arguments n o vs taken rest.
-      at_check h [] (is_of_class h.around.world.shapes target.class o.kind.object) _
+      at_check h [] (is_of_class h.around.world.shapes target.class o.kind.object_type) _
       (invokes_owned [] None refl target.method arguments vs taken rest))
 
   static_call_owned : (target : MethodTarget) → Owned h [] (act_static_call h target)
@@ -296,7 +296,7 @@ module _ {C : Type 0} (h : Here C) (guarded : AreNativesGuarded h.around.natives
       receiver_owned signature _ (λ arguments n o vs taken rest.
       at_called h (wanting accesses.InvokeInterface n (Some interface)) o _ (λ ts switch e.
       at_require h ts class_cast_exception (has_interface h.around.world.shapes interface o) _
-      (at_some h ts (interface_method_of h.around.world.shapes (class_of o.kind.object) interface token) _ (λ method d.
+      (at_some h ts (interface_method_of h.around.world.shapes (class_of o.kind.object_type) interface token) _ (λ method d.
       invokes_owned ts switch e method arguments vs taken rest))))
 
   interface_owned : (count token : ℕ) (interface : ClassName) → Owned h [] (act_interface h count token interface)
@@ -341,7 +341,7 @@ module _ {C : Type 0} (h : Here C) (guarded : AreNativesGuarded h.around.natives
       (gives_owned h [] (bit false) vs) (λ ts passes. gives_owned h ts (bit passes) vs))
   object_owned objects.Throw =
       at_reference h [] h.machine.top.operands _ (λ v vs. at_object h [] v _ (λ n o.
-      at_check h [] (is_throwable h.around.world.shapes o.kind.object) _
+      at_check h [] (is_throwable h.around.world.shapes o.kind.object_type) _
       (at_accessed h [] accesses.Throw n o _ (λ ts. record { owned = refl }))))
   object_owned objects.ReturnReference = at_reference h [] h.machine.top.operands _ (λ v vs. returns_owned h (Some v))
   object_owned objects.ReturnVoid = returns_owned h None
@@ -385,8 +385,8 @@ module _ {C : Type 0} (s : Surroundings C) (m0 : Machine C) (touches : List Touc
       (o : Option (Object TaggedValue)) → OwnersGo s m0 touches (settled_object s m object o)
   object_owned_by m same object None = tt
   object_owned_by m same object (Some o) =
-      either_owned (is_throwable s.world.shapes o.kind.object) _
-      (unwound_owned m same object (class_of o.kind.object) (m.top ∷ m.waiting) 0 same)
+      either_owned (is_throwable s.world.shapes o.kind.object_type) _
+      (unwound_owned m same object (class_of o.kind.object_type) (m.top ∷ m.waiting) 0 same)
 
   settles_owned : (o : Outcome C) → OwnersGo s m0 touches o → OwnersGo s m0 touches (settled s o)
   settles_owned (Next m) k = k

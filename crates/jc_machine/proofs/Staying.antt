@@ -2,7 +2,7 @@
 use Rattle.std.proofs.Common.{List, [], ◌∷◌, ap, ◌∙◌}
 use Rattle.std.specs.List.{AllByRecursion}
 use Rattle.jc_store.specs.Heap.{Heap}
-use Rattle.jc_store.specs.declared.kind.Kind.{Kind}
+use Rattle.jc_store.specs.declared.kind.ObjectKind.{ObjectKind}
 use Rattle.jc_machine.specs.Natives.{KeepsObjects}
 use Rattle.jc_machine.specs.Runtime.{HasRuntimeObject, HasRuntimeObjects, RuntimeObject, runtime_objects}
 use Rattle.jc_words.specs.Values.{TaggedValue}
@@ -13,9 +13,9 @@ module _ (before after : Heap TaggedValue) (kept : KeepsObjects before after) wh
       let s = kept wanted.number h.object h.found in record {
         object = s.object;
         found = s.found;
-        type = ap (λ (k : Kind). k.object) s.kind ∙ h.type;
-        mark = ap (λ (k : Kind). k.mark) s.kind ∙ h.mark;
-        clears = ap (λ (k : Kind). k.clears) s.kind ∙ h.clears;
+        type = ap (λ (k : ObjectKind). k.object_type) s.kind ∙ h.type;
+        mark = ap (λ (k : ObjectKind). k.mark) s.kind ∙ h.mark;
+        clears = ap (λ (k : ObjectKind). k.clears) s.kind ∙ h.clears;
         owner = s.owner ∙ h.owner;
         size = s.size ∙ h.size;
       }

@@ -7,7 +7,7 @@ use Rattle.std.specs.List.{AllByRecursion, list_all}
 use Rattle.jc_firewall.specs.Verdict.{runtime_context}
 use Rattle.jc_names.specs.declared.owner.Owner.{Owner}
 use Rattle.jc_store.specs.Heap.{Heap, Object, object_at, with_new, with_object}
-use Rattle.jc_store.specs.declared.kind.Kind.{Kind}
+use Rattle.jc_store.specs.declared.kind.ObjectKind.{ObjectKind}
 use Rattle.jc_store.specs.declared.kind.Mark.TheVariants.{Plain}
 use Rattle.jc_machine.specs.Apart.{AreNativesApart, HaveApiMembers, IsApart, IsRuntimes, IsSetApart, SparesPlain}
 use Rattle.jc_machine.specs.Apart.{has_no_code, is_applets}
@@ -64,7 +64,7 @@ module _ (before after : Heap TaggedValue) (owner : Owner) (apart : IsSetApart b
   others_by number o e c (Some p) f =
       let r = apart.others number p f (sym (old_context number o p e f) ∙ c) in record {
         instance = ap (λ (x : Owner). x.instance) (old_owner number o p e f) ∙ r.instance;
-        codeless = ap (λ (x : Kind). has_no_code x.object) (old_kind number o p e f) ∙ r.codeless;
+        codeless = ap (λ (x : ObjectKind). has_no_code x.object) (old_kind number o p e f) ∙ r.codeless;
       }
 
   marked_by : (number : ℕ) (o : Object TaggedValue) → object_at after number ≡ Some o → o.kind.mark ≢ Plain

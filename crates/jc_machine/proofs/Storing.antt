@@ -21,12 +21,12 @@ use Rattle.jc_names.specs.Names.{number_at}
 use Rattle.jc_names.specs.declared.name.ClassName.{ClassName}
 use Rattle.jc_effects.specs.Objects.{is_form_of}
 use Rattle.jc_store.specs.Heap.{Heap, Object, object_at, with_cell, with_new, with_object}
-use Rattle.jc_store.specs.declared.kind.Kind.{Kind}
+use Rattle.jc_store.specs.declared.kind.ObjectKind.{ObjectKind}
 use Rattle.jc_store.specs.declared.kind.Mark.{Mark}
 use Rattle.jc_store.specs.declared.kind.ObjectType.{ObjectType}
 use Rattle.jc_machine.specs.Arrays.{stored_as}
 use Rattle.jc_machine.specs.Fields.{with_static, with_value, with_value_in}
-use Rattle.jc_machine.specs.Going.{Here, facts_of, storing}
+use Rattle.jc_machine.specs.Going.{StepContext, facts_of, storing}
 use Rattle.jc_machine.specs.Guarded.{is_allowed, is_blank}
 use Rattle.jc_machine.specs.Lookup.{is_of_type, leads_to, mark_of, of_package, with_package, fields_of}
 use Rattle.jc_machine.specs.Machine.{StaticValue}
@@ -48,7 +48,7 @@ module _ (before after : Heap TaggedValue) (kept : KeepsObjects before after) wh
       let s = kept number o found in
       ap (λ (x : Option (Object TaggedValue)). option_map_or (λ (y : Object TaggedValue). test y.kind.mark) x false)
       s.found
-      ∙ ap (λ (k : Kind). test k.mark) s.kind ∙ e
+      ∙ ap (λ (k : ObjectKind). test k.mark) s.kind ∙ e
 
   pub held_still : (v : TaggedValue) → may_be_held before v ≡ true → may_be_held after v ≡ true
   held_still (Word n) e = refl
@@ -251,8 +251,8 @@ leads_any heap test (Word n) e = e
 leads_any heap test (Ref n) e = by_object (object_at heap n) e
   where
     by_object : (o : Option (Object TaggedValue))
-        → option_map_or (λ (x : Object TaggedValue). test x.kind.object) o false ≡ true
-        → option_map_or (λ (x : Object TaggedValue). any_type x.kind.object) o false ≡ true
+        → option_map_or (λ (x : Object TaggedValue). test x.kind.object_type) o false ≡ true
+        → option_map_or (λ (x : Object TaggedValue). any_type x.kind.object_type) o false ≡ true
     by_object o h1 = grind arith
 leads_any heap test Null e = refl
 leads_any heap test Unset e = e
@@ -281,7 +281,7 @@ allowed_stores : (access : Access) (active : ℕ) (f : Facts) → ((active == ru
     → option_map_or is_never_stored f.stored false ≡ false
 allowed_stores access active f applets stores fine = grind (arith, not_denied)
 
-pub asked_held : {C : Type 0} (h : Here C) (access : Access) (number : ℕ) (v : TaggedValue) (o : Object TaggedValue)
+pub asked_held : {C : Type 0} (h : StepContext C) (access : Access) (number : ℕ) (v : TaggedValue) (o : Object TaggedValue)
     → ((h.machine.top.active.context == runtime_context) ≡ true → ⊥) → stores_reference access ≡ true
     → leads_to h.machine.heap any_type v ≡ true
     → is_allowed (verdict_of access h.machine.top.active.context (facts_of h (storing access number v) o)) ≡ true
@@ -291,7 +291,7 @@ asked_held h access number v o applets stores leads fine =
     (allowed_stores access h.machine.top.active.context (facts_of h (storing access number v) o) applets stores fine)
   where
     by_object : (x : Option (Object TaggedValue))
-        → option_map_or (λ (y : Object TaggedValue). any_type y.kind.object) x false ≡ true
+        → option_map_or (λ (y : Object TaggedValue). any_type y.kind.object_type) x false ≡ true
         → option_map_or is_never_stored (option_map (λ (y : Object TaggedValue). y.kind.mark) x) false ≡ false
         → option_map_or is_storable x false ≡ true
     by_object x h1 h2 = grind (arith, not)

@@ -126,12 +126,12 @@ listed_has_code world api t interface token name e loaded h = grind (arith, of_i
 
 -- the owner of an object with code
 owner_with_code : (heap : Heap TaggedValue) → IsSetApart heap → (number : ℕ) (o : Object TaggedValue)
-    → object_at heap number ≡ Some o → (has_no_code o.kind.object ≡ true → ⊥) → is_applets o.owner ≡ true
+    → object_at heap number ≡ Some o → (has_no_code o.kind.object_type ≡ true → ⊥) → is_applets o.owner ≡ true
 owner_with_code heap apart number o there code = grind (arith, applets_or)
 
 -- where a call switches to one that becomes active, of a method that a package has, that one is an applet's
 pub switched_runs : (heap : Heap TaggedValue) → IsSetApart heap → (number : ℕ) (o : Object TaggedValue)
-    → object_at heap number ≡ Some o → (has_no_code o.kind.object ≡ true → ⊥) → (active : Owner)
+    → object_at heap number ≡ Some o → (has_no_code o.kind.object_type ≡ true → ⊥) → (active : Owner)
     → is_applets active ≡ true → (access : Access) (f : Facts) → f.owner ≡ o.owner → f.mark ≡ o.kind.mark
     → (switch : Option Owner) → switch ≡ switched_by (verdict_of access active.context f)
     → is_applets (unwrap_or switch active) ≡ true
@@ -171,11 +171,11 @@ of_applet number is m found = grind arith
 pub called_runs : (world : List Shape) → HaveApiMembers world → (heap : Heap TaggedValue) → IsSetApart heap
     → (callback : Callback) → callback.member ≡ shareable_member → (o : Object TaggedValue)
     → object_at heap callback.object ≡ Some o → (v : VirtualMember) → virtual_member world callback.member ≡ Some v
-    → is_of_class world v.class o.kind.object ≡ true → is_applets o.owner ≡ true
+    → is_of_class world v.class o.kind.object_type ≡ true → is_applets o.owner ≡ true
 called_runs world api heap apart callback asks o there v e below =
     let m : IsOfMember callback.member v.class =
     of_declared world callback.member v (member_of callback.member) refl e in
     owner_with_code heap apart callback.object o there (λ h.
-    no_applet world api o.kind.object h
-    (subst (λ (c : ClassName). is_of_class world c o.kind.object ≡ true)
+    no_applet world api o.kind.object_type h
+    (subst (λ (c : ClassName). is_of_class world c o.kind.object_type ≡ true)
     (m.is ∙ ap (λ (c : ApiClass). classes.Api c) (of_applet callback.member asks m.declared m.found)) below))

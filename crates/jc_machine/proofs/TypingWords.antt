@@ -30,7 +30,7 @@ use Rattle.jc_types.specs.declared.ty.Ty.TheVariants as types
 use Rattle.jc_words.specs.Laws.{WordLaws}
 use Rattle.jc_words.specs.Shorts.{binary_of, holds, incremented, lookup_offset, short, stable_offset, unary_of, word_of}
 use Rattle.jc_words.specs.Values.{TaggedValue, Word, all_written}
-use Rattle.jc_machine.specs.Going.{Here, branches, check, gives, leaves_operands, on_operands, on_word, on_word_local}
+use Rattle.jc_machine.specs.Going.{StepContext, branches, check, gives, leaves_operands, on_operands, on_word, on_word_local}
 use Rattle.jc_machine.specs.Machine.{Stepped}
 use Rattle.jc_machine.specs.Reading.{Pointwise}
 use Rattle.jc_machine.specs.Typed.{HaveTypes, HoldTypes, IsOperand, has_type}
@@ -194,7 +194,7 @@ module _ (world : List Shape) (heap : Heap TaggedValue) (below : ClassName → C
 -- ---- the ways on
 
 module _ {C : Type 0} (laws : WordLaws) (world : List Shape) (heap : Heap TaggedValue)
-    (below : ClassName → ClassName → Bool) (h : Here C) (returned : Option Ty) (s t : Types)
+    (below : ClassName → ClassName → Bool) (h : StepContext C) (returned : Option Ty) (s t : Types)
     (has : HaveTypes world heap h.machine.top.locals s.locals)
     (held : HoldTypes world heap h.machine.top.operands s.operands) where
   abbrev vs : List TaggedValue

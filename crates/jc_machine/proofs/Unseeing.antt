@@ -19,7 +19,7 @@ use Rattle.jc_store.specs.Heap.{Heap, Object, object_at, with_cell, with_object}
 use Rattle.jc_store.specs.declared.kind.Mark.{Mark}
 use Rattle.jc_store.specs.declared.kind.Mark.TheVariants.{Plain}
 use Rattle.jc_machine.specs.Arrays.{loaded_as, loads}
-use Rattle.jc_machine.specs.Going.{Here, accessed, accessed_to_store, asking, branches, by_verdict, check, facts_in}
+use Rattle.jc_machine.specs.Going.{StepContext, accessed, accessed_to_store, asking, branches, by_verdict, check, facts_in}
 use Rattle.jc_machine.specs.Going.{facts_of, gives, goes_to, judged, jumps, leaves_operands, moved, on_object}
 use Rattle.jc_machine.specs.Going.{on_reference, on_reference_local, on_some, on_target, on_top, on_word}
 use Rattle.jc_machine.specs.Going.{on_word_local, require, stored_in, storing, stuck, throws, touch_of, touched}
@@ -121,14 +121,14 @@ unhidden context active f own applet other =
 
 -- ---- two places with other objects
 
-abbrev pub at_heap : {C : Type 0} → Here C → Heap TaggedValue → Here C
+abbrev pub at_heap : {C : Type 0} → StepContext C → Heap TaggedValue → StepContext C
 at_heap h heap = with_machine h (with_heap h.machine heap)
 
-module _ {C : Type 0} (context : ℕ) (h : Here C) (H K : Heap TaggedValue) (alike : AreAlike context H K) where
-  abbrev one : Here C
+module _ {C : Type 0} (context : ℕ) (h : StepContext C) (H K : Heap TaggedValue) (alike : AreAlike context H K) where
+  abbrev one : StepContext C
   one = at_heap h H
 
-  abbrev two : Here C
+  abbrev two : StepContext C
   two = at_heap h K
 
   pub throws_both : (object : ℕ) → IsSeen context H object → StepsAlike context (throws one object) (throws two object)
@@ -182,12 +182,12 @@ module _ {C : Type 0} (context : ℕ) (h : Here C) (H K : Heap TaggedValue) (ali
       by_objects (Some o) None e a = absurd a
 
 -- tests that throw objects of the runtime's
-module _ {C : Type 0} (context : ℕ) (h : Here C) (H K : Heap TaggedValue) (alike : AreAlike context H K)
+module _ {C : Type 0} (context : ℕ) (h : StepContext C) (H K : Heap TaggedValue) (alike : AreAlike context H K)
     (own : HasRuntimeObjects H) where
-  abbrev first : Here C
+  abbrev first : StepContext C
   first = at_heap h H
 
-  abbrev second : Here C
+  abbrev second : StepContext C
   second = at_heap h K
 
   pub throws_own : (exception : ℕ) → is_seen_in runtime_objects exception ≡ true
@@ -286,7 +286,7 @@ module _ {C : Type 0} (context : ℕ) (h : Here C) (H K : Heap TaggedValue) (ali
 
 -- ---- what is stored
 
-pub stored_both : {C : Type 0} (context : ℕ) (h : Here C) (H K : Heap TaggedValue) → AreAlike context H K → (n : ℕ)
+pub stored_both : {C : Type 0} (context : ℕ) (h : StepContext C) (H K : Heap TaggedValue) → AreAlike context H K → (n : ℕ)
     (o : Object TaggedValue) (cells : List TaggedValue) (index : ℕ) (v : TaggedValue) (vs : List TaggedValue)
     → IsAlike context o (with_cells o cells)
     → StepsAlike context (leaves_operands (stored_in (at_heap h H) n o index v) vs)
@@ -297,7 +297,7 @@ stored_both context h H K alike n o cells index v vs a =
     (with_both context H K alike n (with_cell o index v) (with_cell (with_cells o cells) index v)
     (cell_both context o (with_cells o cells) a index v)) vs
 
-pub at_target : {A C : Type 0} (context : ℕ) (h : Here C) (H K : Heap TaggedValue) (index : ℕ)
+pub at_target : {A C : Type 0} (context : ℕ) (h : StepContext C) (H K : Heap TaggedValue) (index : ℕ)
     (wanted : PoolTarget → Option A) (f g : A → Stepped C) → ((x : A) → StepsAlike context (f x) (g x))
     → StepsAlike context (on_target (at_heap h H) index wanted f) (on_target (at_heap h K) index wanted g)
 at_target context h H K index wanted f g k =

@@ -46,7 +46,7 @@ use Rattle.jc_machine.specs.Calls.{inner_native_ends, invokes, is_in_place_of, n
 use Rattle.jc_machine.specs.Calls.{native_gives, native_may_begin, native_type, on_native, special_target}
 use Rattle.jc_machine.specs.Calls.{static_target, takes, type_of_member, virtual_member, virtual_target, with_arguments}
 use Rattle.jc_machine.specs.Calls.{with_given, with_receiver}
-use Rattle.jc_machine.specs.Going.{Here, asking, check, moved}
+use Rattle.jc_machine.specs.Going.{StepContext, asking, check, moved}
 use Rattle.jc_machine.specs.Going.{judged, on_some, plain, require, throws, touched, wanting, with_heap, with_machine}
 use Rattle.jc_machine.specs.Lookup.{class_of, code_at, declared_at, instruction_at}
 use Rattle.jc_machine.specs.Lookup.{is_given, is_of_class, is_throwable, may_begin_with}
@@ -61,7 +61,7 @@ use Rattle.jc_link.specs.Found.{is_same_return}
 use Rattle.jc_machine.proofs.StayingApart.{applets_not}
 use Rattle.std.proofs.lemmas.Bool.{and_parts}
 use Rattle.std.proofs.Common.{eqb-true}
-use Rattle.jc_machine.specs.Objects.{Test, act_branch, act_check_cast, act_create, act_instance_of, act_object, bit}
+use Rattle.jc_machine.specs.Objects.{InstanceTest, act_branch, act_check_cast, act_create, act_instance_of, act_object, bit}
 use Rattle.jc_machine.specs.Objects.{cells_of, is_null, is_same, on_class, on_known}
 use Rattle.jc_machine.specs.Objects.{on_test, tested, word_array}
 use Rattle.jc_machine.specs.Returns.{pc_behind_call, result_of, resumed, returns, returns_to, room_of, with_result}
@@ -86,13 +86,13 @@ use Rattle.jc_machine.proofs.AlikeLaws.{native_begins_both}
 use Rattle.jc_machine.proofs.AlikeLaws.{types_both, with_cells}
 use Rattle.jc_machine.proofs.UnseeingRules.{creates_both, field_both, length_both, load_both, store_both, throw_both}
 
-module _ {C : Type 0} (context : ℕ) (h : Here C) (H K : Heap TaggedValue) (alike : AreAlike context H K)
+module _ {C : Type 0} (context : ℕ) (h : StepContext C) (H K : Heap TaggedValue) (alike : AreAlike context H K)
     (own : HasRuntimeObjects H) (applet : h.machine.top.active.context ≡ runtime_context → ⊥)
     (other : h.machine.top.active.context ≡ context → ⊥) where
-  abbrev one : Here C
+  abbrev one : StepContext C
   one = at_heap h H
 
-  abbrev two : Here C
+  abbrev two : StepContext C
   two = at_heap h K
 
   -- ---- returns
@@ -200,7 +200,7 @@ module _ {C : Type 0} (context : ℕ) (h : Here C) (H K : Heap TaggedValue) (ali
       → StepsAlike context (on_class one index f) (on_class two index g)
   at_class index f g k = at_target context h H K index class_target f g k
 
-  at_test : (type : TestedType) (f g : Test → Stepped C) → ((test : Test) → StepsAlike context (f test) (g test))
+  at_test : (type : TestedType) (f g : InstanceTest → Stepped C) → ((test : InstanceTest) → StepsAlike context (f test) (g test))
       → StepsAlike context (on_test one type f) (on_test two type g)
   at_test (Tested.Class index) f g k = at_class index _ _ (λ c. k _)
   at_test (Tested.WordArray kind) f g k = k _
@@ -213,12 +213,12 @@ module _ {C : Type 0} (context : ℕ) (h : Here C) (H K : Heap TaggedValue) (ali
   tested_both access type (Ref n) s t f g k l =
       at_test type _ _ (λ test. at_object context h H K alike own (Ref n)
       (λ number object. judged one (wanting access number test.wanted) object
-      (λ switch. f (test.passes object.kind.object)))
+      (λ switch. f (test.passes object.kind.object_type)))
       (λ number object. judged two (wanting access number test.wanted) object
-      (λ switch. g (test.passes object.kind.object)))
+      (λ switch. g (test.passes object.kind.object_type)))
       (λ number o cells a.
       at_judged context h H K alike own (wanting access number test.wanted) o cells _ _
-      (λ fine switch. l (test.passes o.kind.object))))
+      (λ fine switch. l (test.passes o.kind.object_type))))
   tested_both access type Null s t f g k l = at_test type _ _ (λ test. k)
   tested_both access type Unset s t f g k l = both_stuck
 
@@ -250,11 +250,11 @@ module _ {C : Type 0} (context : ℕ) (h : Here C) (H K : Heap TaggedValue) (ali
 
 -- ---- frames
 
-module _ {C : Type 0} (context : ℕ) (h : Here C) (H K : Heap TaggedValue) (alike : AreAlike context H K) where
-  abbrev first : Here C
+module _ {C : Type 0} (context : ℕ) (h : StepContext C) (H K : Heap TaggedValue) (alike : AreAlike context H K) where
+  abbrev first : StepContext C
   first = at_heap h H
 
-  abbrev second : Here C
+  abbrev second : StepContext C
   second = at_heap h K
 
   accepts_both : (place : MethodPlace) (values : List TaggedValue)
@@ -305,7 +305,7 @@ touches_both {context = context} ts us s t e k =
     subst (λ (xs : List Touch). StepsAlike context (touched ts s) (touched xs t)) e (behind ts s t k)
 
 -- a place with something else that the runtime keeps
-abbrev keeping : {C : Type 0} → Here C → C → Here C
+abbrev keeping : {C : Type 0} → StepContext C → C → StepContext C
 keeping h runtime = with_machine h (record {
   heap = h.machine.heap;
   statics = h.machine.statics;
@@ -314,8 +314,8 @@ keeping h runtime = with_machine h (record {
   waiting = h.machine.waiting;
 })
 
-after_both : {C : Type 0} (context : ℕ) (h : Here C) (H K : Heap TaggedValue) (a b : NativeAnswer C)
-    → IsBlindAnswer context a b → (P : Here C → NativeEnd → Stepped C)
+after_both : {C : Type 0} (context : ℕ) (h : StepContext C) (H K : Heap TaggedValue) (a b : NativeAnswer C)
+    → IsBlindAnswer context a b → (P : StepContext C → NativeEnd → Stepped C)
     → StepsAlike context (P (at_heap (keeping h a.runtime) a.heap) a.ends)
     (P (at_heap (keeping h a.runtime) b.heap) a.ends)
     → StepsAlike context (P (after_native (at_heap h H) a) a.ends) (P (after_native (at_heap h K) b) b.ends)
@@ -329,10 +329,10 @@ after_both {C = C} context h H K a b same P k =
 abbrev ThrowsSeen : ℕ → Heap TaggedValue → NativeEnd → Type 0
 ThrowsSeen context heap ends = (number : ℕ) → ends ≡ ThrowsObject number → IsSeen context heap number
 
-native_both : {C : Type 0} (context : ℕ) (h : Here C) (H K : Heap TaggedValue) → AreAlike context H K
+native_both : {C : Type 0} (context : ℕ) (h : StepContext C) (H K : Heap TaggedValue) → AreAlike context H K
     → HasRuntimeObjects H → AreNativesGuarded h.around.natives
     → (active : Owner) (previous : Option Owner) (member : ℕ) (arguments : List TaggedValue)
-    → (go : Here C → Signature ClassName → NativeEnd → Stepped C)
+    → (go : StepContext C → Signature ClassName → NativeEnd → Stepped C)
     → IsBlindAnswer context (native_answer (at_heap h H) active previous member arguments)
     (native_answer (at_heap h K) active previous member arguments)
     → ((H2 K2 : Heap TaggedValue) (runtime : C) → AreAlike context H2 K2 → HasRuntimeObjects H2
@@ -355,7 +355,7 @@ native_both context h H K alike own guarded active previous member arguments go 
     (guarded h.around.world (native_call h.around (with_heap h.machine H) active previous member arguments)).kept own)
     signature a.ends refl same.thrown))))
 
-module _ {C : Type 0} (context : ℕ) (h : Here C) (H K : Heap TaggedValue) (alike : AreAlike context H K) where
+module _ {C : Type 0} (context : ℕ) (h : StepContext C) (H K : Heap TaggedValue) (alike : AreAlike context H K) where
   given_so : (value : Option TaggedValue) (operands : List TaggedValue)
       → StepsAlike context (with_given (at_heap h H) value operands) (with_given (at_heap h K) value operands)
   given_so None operands = leaves_both context h H K alike operands
@@ -377,7 +377,7 @@ module _ {C : Type 0} (context : ℕ) (h : Here C) (H K : Heap TaggedValue) (ali
   inner_both operands signature (Calls callback) seen = both_stuck
   inner_both operands signature IsStuck seen = both_stuck
 
-module _ {C : Type 0} (context : ℕ) (h : Here C) (guarded : AreNativesGuarded h.around.natives)
+module _ {C : Type 0} (context : ℕ) (h : StepContext C) (guarded : AreNativesGuarded h.around.natives)
     (blind : AreNativesBlind h.around.natives) (H K : Heap TaggedValue) (alike : AreAlike context H K)
     (own : HasRuntimeObjects H) where
   called_as_both : (callback : Callback) → callback.member ≡ shareable_member → (owner : Owner) (method : MethodName)
@@ -400,7 +400,7 @@ module _ {C : Type 0} (context : ℕ) (h : Here C) (guarded : AreNativesGuarded 
       → callback_fits (at_heap h H) given signature class o arguments
       ≡ callback_fits (at_heap h K) given signature class (with_cells o cells) arguments
   fits_both given signature class o cells arguments =
-      ap (λ (b : Bool). is_of_class h.around.world.shapes class o.kind.object
+      ap (λ (b : Bool). is_of_class h.around.world.shapes class o.kind.object_type
       && is_same_return given.result signature.result && b)
       (types_both context H K alike h.around.world.shapes signature.parameters arguments)
 
@@ -421,7 +421,7 @@ module _ {C : Type 0} (context : ℕ) (h : Here C) (guarded : AreNativesGuarded 
       at_some (type_of_member h.around.world.shapes callback.member) _ _ (λ signature.
       at_some (virtual_member h.around.world.shapes callback.member) _ _ (λ member.
       at_same _ _ _ _ (fits_both given signature member.class o cells callback.arguments)
-      (at_some (virtual_method_of h.around.world.shapes (class_of o.kind.object) member.token 0) _ _ (λ method.
+      (at_some (virtual_method_of h.around.world.shapes (class_of o.kind.object_type) member.token 0) _ _ (λ method.
       checked_both (is_in_place_of h.around.world.shapes callback.member member.class signature method) _ _ (λ in_place.
       called_as_both callback asks o.owner method
       (first_part (is_member_or_loaded callback.member method) _ _ in_place) (Ref callback.object ∷ callback.arguments)
@@ -435,12 +435,12 @@ pub record IsBlind {C : Type 0} (context : ℕ) (s : Surroundings C) (m : Machin
   pub applet : is_applets m.top.active ≡ true
   pub other : m.top.active.context ≡ context → ⊥
 
-module _ {C : Type 0} (context : ℕ) (h : Here C) (H K : Heap TaggedValue) (alike : AreAlike context H K)
+module _ {C : Type 0} (context : ℕ) (h : StepContext C) (H K : Heap TaggedValue) (alike : AreAlike context H K)
     (rely : IsBlind context h.around (with_heap h.machine H)) where
   isnt_runtime : h.machine.top.active.context ≡ runtime_context → ⊥
   isnt_runtime e = applets_not h.machine.top.active rely.applet e
 
-  ends_both : (operands : List TaggedValue) (h2 : Here C) → AreNativesGuarded h2.around.natives
+  ends_both : (operands : List TaggedValue) (h2 : StepContext C) → AreNativesGuarded h2.around.natives
       → AreNativesBlind h2.around.natives → (H2 K2 : Heap TaggedValue) → AreAlike context H2 K2 → HasRuntimeObjects H2
       → (signature : Signature ClassName) (ends : NativeEnd) → ThrowsSeen context H2 ends
       → ((callback : Callback) → ends ≡ Calls callback → callback.member ≡ shareable_member)
@@ -496,16 +496,16 @@ module _ {C : Type 0} (context : ℕ) (h : Here C) (H K : Heap TaggedValue) (ali
       → StepsAlike context (act_virtual (at_heap h H) target) (act_virtual (at_heap h K) target)
   virtual_both target =
       receiver_both target.signature
-      (λ arguments number object operands. check (is_of_class h.around.world.shapes target.class object.kind.object)
+      (λ arguments number object operands. check (is_of_class h.around.world.shapes target.class object.kind.object_type)
       (judged (at_heap h H) (asking accesses.InvokeVirtual number) object
       (λ switch. on_some (found_for h target.token object)
       (λ method. invokes (at_heap h H) switch method arguments operands))))
-      (λ arguments number object operands. check (is_of_class h.around.world.shapes target.class object.kind.object)
+      (λ arguments number object operands. check (is_of_class h.around.world.shapes target.class object.kind.object_type)
       (judged (at_heap h K) (asking accesses.InvokeVirtual number) object
       (λ switch. on_some (found_for h target.token object)
       (λ method. invokes (at_heap h K) switch method arguments operands))))
       (λ arguments n o cells operands.
-      at_check (is_of_class h.around.world.shapes target.class o.kind.object) _ _
+      at_check (is_of_class h.around.world.shapes target.class o.kind.object_type) _ _
       (at_judged context h H K alike rely.own (asking accesses.InvokeVirtual n) o cells _ _ (λ fine switch.
       at_some (found_for h target.token o) _ _ (λ method. invokes_both switch method arguments operands))))
 
@@ -513,12 +513,12 @@ module _ {C : Type 0} (context : ℕ) (h : Here C) (H K : Heap TaggedValue) (ali
       → StepsAlike context (act_special (at_heap h H) target) (act_special (at_heap h K) target)
   special_both target =
       receiver_both target.signature
-      (λ arguments number object operands. check (is_of_class h.around.world.shapes target.class object.kind.object)
+      (λ arguments number object operands. check (is_of_class h.around.world.shapes target.class object.kind.object_type)
       (invokes (at_heap h H) None target.method arguments operands))
-      (λ arguments number object operands. check (is_of_class h.around.world.shapes target.class object.kind.object)
+      (λ arguments number object operands. check (is_of_class h.around.world.shapes target.class object.kind.object_type)
       (invokes (at_heap h K) None target.method arguments operands))
       (λ arguments n o cells operands.
-      at_check (is_of_class h.around.world.shapes target.class o.kind.object) _ _
+      at_check (is_of_class h.around.world.shapes target.class o.kind.object_type) _ _
       (invokes_both None target.method arguments operands))
 
   static_call_both : (target : MethodTarget)
@@ -534,19 +534,19 @@ module _ {C : Type 0} (context : ℕ) (h : Here C) (H K : Heap TaggedValue) (ali
       (λ arguments number object operands. judged (at_heap h H)
       (wanting accesses.InvokeInterface number (Some interface)) object (λ switch.
       require (at_heap h H) class_cast_exception (has_interface h.around.world.shapes interface object)
-      (on_some (interface_method_of h.around.world.shapes (class_of object.kind.object) interface token)
+      (on_some (interface_method_of h.around.world.shapes (class_of object.kind.object_type) interface token)
       (λ method. invokes (at_heap h H) switch method arguments operands))))
       (λ arguments number object operands. judged (at_heap h K)
       (wanting accesses.InvokeInterface number (Some interface)) object (λ switch.
       require (at_heap h K) class_cast_exception (has_interface h.around.world.shapes interface object)
-      (on_some (interface_method_of h.around.world.shapes (class_of object.kind.object) interface token)
+      (on_some (interface_method_of h.around.world.shapes (class_of object.kind.object_type) interface token)
       (λ method. invokes (at_heap h K) switch method arguments operands))))
       (λ arguments n o cells operands.
       at_judged context h H K alike rely.own (wanting accesses.InvokeInterface n (Some interface)) o cells _ _
       (λ fine switch.
       at_require context h H K alike rely.own class_cast_exception refl
       (has_interface h.around.world.shapes interface o) _ _
-      (at_some (interface_method_of h.around.world.shapes (class_of o.kind.object) interface token) _ _ (λ method.
+      (at_some (interface_method_of h.around.world.shapes (class_of o.kind.object_type) interface token) _ _ (λ method.
       invokes_both switch method arguments operands))))
 
   interface_both : (count token : ℕ) (interface : ClassName)
@@ -642,8 +642,8 @@ module _ {C : Type 0} (context : ℕ) (s : Surroundings C) where
   object_settles m heap alike object seen (Some o) (Some p) a =
       subst (λ (q : Object TaggedValue). ComesAlike context (settled_object s m object (Some o))
       (settled_object s (with_heap m heap) object (Some q))) (sym (as_cells context o p a))
-      (either_both (is_throwable s.world.shapes o.kind.object) _ _
-      (unwound_both m heap alike object seen (class_of o.kind.object) (m.top ∷ m.waiting)))
+      (either_both (is_throwable s.world.shapes o.kind.object_type) _ _
+      (unwound_both m heap alike object seen (class_of o.kind.object_type) (m.top ∷ m.waiting)))
   object_settles m heap alike object seen None (Some p) a = absurd a
   object_settles m heap alike object seen (Some o) None a = absurd a
 

@@ -22,7 +22,7 @@ use Rattle.jc_machine.specs.Arrays.{is_in_bounds, is_there, loads, stored_as}
 use Rattle.jc_machine.specs.Fields.{FieldTarget, InstanceField, act_field, act_get_static, act_instance, act_on_target}
 use Rattle.jc_machine.specs.Fields.{act_put_static, act_static, field_target, gets, of_class, of_objects, on_holder}
 use Rattle.jc_machine.specs.Fields.{put_static, puts, putting, static_at, stored_in_static}
-use Rattle.jc_machine.specs.Going.{Here, accessed, accessed_to_store, gives, on_object, on_some}
+use Rattle.jc_machine.specs.Going.{StepContext, accessed, accessed_to_store, gives, on_object, on_some}
 use Rattle.jc_machine.specs.Going.{require, runtime_touch, throws}
 use Rattle.jc_machine.specs.Going.{throws_system, no_resource, check}
 use Rattle.jc_machine.specs.Lookup.{component_class, is_array, is_instance, is_of_class, is_of_type, is_throwable}
@@ -41,13 +41,13 @@ use Rattle.jc_machine.proofs.Unseeing.{loads_both, stored_both, throws_both, thr
 use Rattle.jc_machine.proofs.AlikeLaws.{as_large, as_long, leads_both, new_both, type_both, with_cells, with_both}
 use Rattle.jc_machine.proofs.AlikeLaws.{cell_both, own_seen, seen_still}
 
-module _ {C : Type 0} (context : ℕ) (h : Here C) (H K : Heap TaggedValue) (alike : AreAlike context H K)
+module _ {C : Type 0} (context : ℕ) (h : StepContext C) (H K : Heap TaggedValue) (alike : AreAlike context H K)
     (own : HasRuntimeObjects H) (applet : h.machine.top.active.context ≡ runtime_context → ⊥)
     (other : h.machine.top.active.context ≡ context → ⊥) where
-  abbrev one : Here C
+  abbrev one : StepContext C
   one = at_heap h H
 
-  abbrev two : Here C
+  abbrev two : StepContext C
   two = at_heap h K
 
   -- ---- arrays
@@ -55,7 +55,7 @@ module _ {C : Type 0} (context : ℕ) (h : Here C) (H K : Heap TaggedValue) (ali
   pub load_both : (form : Form) → StepsAlike context (act_load one form) (act_load two form)
   load_both form =
       at_word h.machine.top.operands _ _ (λ index us. at_reference us _ _ (λ array vs.
-      at_object context h H K alike own array _ _ (λ n o cells a. at_check (is_array_of form o.kind.object) _ _
+      at_object context h H K alike own array _ _ (λ n o cells a. at_check (is_array_of form o.kind.object_type) _ _
       (at_read context h H K alike own applet other accesses.LoadComponent n o cells (inr refl) a
       (λ x. require one array_index_exception (is_in_bounds index x)
       (on_some (slice_get x.cells index) (λ v. loads one form v vs)))
@@ -67,7 +67,7 @@ module _ {C : Type 0} (context : ℕ) (h : Here C) (H K : Heap TaggedValue) (ali
   pub length_both : StepsAlike context (act_length one) (act_length two)
   length_both =
       at_reference h.machine.top.operands _ _ (λ array vs. at_object context h H K alike own array _ _ (λ n o cells a.
-      at_check (is_array o.kind.object) _ _
+      at_check (is_array o.kind.object_type) _ _
       (at_accessed context h H K alike own accesses.ArrayLength n o cells _ _
       (subst (λ (size : ℕ). StepsAlike context (gives one (Word (length o.cells)) vs) (gives two (Word size) vs)) a.size
       (gives_both context h H K alike (Word (length o.cells)) vs)))))
@@ -80,7 +80,7 @@ module _ {C : Type 0} (context : ℕ) (h : Here C) (H K : Heap TaggedValue) (ali
   store_word_both : (form : Form) → StepsAlike context (act_store_word one form) (act_store_word two form)
   store_word_both form =
       at_word h.machine.top.operands _ _ (λ w ts. at_word ts _ _ (λ index us. at_reference us _ _ (λ array vs.
-      at_object context h H K alike own array _ _ (λ n o cells a. at_check (is_array_of form o.kind.object) _ _
+      at_object context h H K alike own array _ _ (λ n o cells a. at_check (is_array_of form o.kind.object_type) _ _
       (at_accessed context h H K alike own accesses.StoreComponent n o cells _ _
       (at_same_require context h H K alike own array_index_exception refl (is_in_bounds index o)
       (is_in_bounds index (with_cells o cells)) _ _ (bounds_both index o cells a)
@@ -91,7 +91,7 @@ module _ {C : Type 0} (context : ℕ) (h : Here C) (H K : Heap TaggedValue) (ali
       at_reference h.machine.top.operands _ _ (λ v ts.
       at_same (is_there one v) (is_there two v) _ _ (leads_both context H K alike (λ object. true) v)
       (at_word ts _ _ (λ index us. at_reference us _ _ (λ array vs.
-      at_object context h H K alike own array _ _ (λ n o cells a. at_some (component_class o.kind.object) _ _ (λ class.
+      at_object context h H K alike own array _ _ (λ n o cells a. at_some (component_class o.kind.object_type) _ _ (λ class.
       at_stored context h H K alike own accesses.StoreReference n o cells v _ _
       (at_same_require context h H K alike own array_index_exception refl (is_in_bounds index o)
       (is_in_bounds index (with_cells o cells)) _ _ (bounds_both index o cells a)
@@ -136,7 +136,7 @@ module _ {C : Type 0} (context : ℕ) (h : Here C) (H K : Heap TaggedValue) (ali
       → StepsAlike context (gets one form field v vs) (gets two form field v vs)
   gets_both form field v vs =
       at_object context h H K alike own v _ _ (λ n o cells a.
-      at_check (is_of_class h.around.world.shapes field.class o.kind.object) _ _
+      at_check (is_of_class h.around.world.shapes field.class o.kind.object_type) _ _
       (at_read context h H K alike own applet other accesses.GetField n o cells (inl refl) a
       (λ x. on_some (slice_get x.cells field.cell) (λ value. loads one form value vs))
       (λ x. on_some (slice_get x.cells field.cell) (λ value. loads two form value vs))
@@ -146,7 +146,7 @@ module _ {C : Type 0} (context : ℕ) (h : Here C) (H K : Heap TaggedValue) (ali
       → StepsAlike context (puts one form field v value vs) (puts two form field v value vs)
   puts_both form field v value vs =
       at_object context h H K alike own v _ _ (λ n o cells a.
-      at_check (is_of_class h.around.world.shapes field.class o.kind.object) _ _
+      at_check (is_of_class h.around.world.shapes field.class o.kind.object_type) _ _
       (at_stored context h H K alike own (putting form) n o cells value _ _
       (at_same (nat_lt field.cell (length o.cells)) (nat_lt field.cell (length cells)) _ _
       (ap (nat_lt field.cell) a.size)
@@ -236,9 +236,9 @@ module _ {C : Type 0} (context : ℕ) (h : Here C) (H K : Heap TaggedValue) (ali
   pub throw_both : StepsAlike context (act_throw one) (act_throw two)
   throw_both = at_reference h.machine.top.operands _ _ (λ v vs. by_value v)
     where
-      throws_of : Here C → ℕ → Object TaggedValue → Stepped C
+      throws_of : StepContext C → ℕ → Object TaggedValue → Stepped C
       throws_of g number object =
-          check (is_throwable h.around.world.shapes object.kind.object)
+          check (is_throwable h.around.world.shapes object.kind.object_type)
           (accessed g accesses.Throw number object (throws g number))
 
       by_value : (v : TaggedValue)
@@ -246,7 +246,7 @@ module _ {C : Type 0} (context : ℕ) (h : Here C) (H K : Heap TaggedValue) (ali
       by_value (Word n) = both_stuck
       by_value (Ref n) =
           at_known context h H K alike n (throws_of one n) (throws_of two n) (λ o cells e a.
-          at_check (is_throwable h.around.world.shapes o.kind.object) _ _
+          at_check (is_throwable h.around.world.shapes o.kind.object_type) _ _
           (at_thrown context h H K alike own applet other n o cells e))
       by_value Null = throws_own context h H K alike own null_pointer_exception refl
       by_value Unset = both_stuck

@@ -213,7 +213,7 @@ module _ {C : Type 0} (context : ℕ) (s : Surroundings C) (guarded : AreNatives
       subst (λ (x : Bool). EndsAlike context (native_threw s m object)
       (cond x (Threw (with_heap m heap2) object None) WasStuck))
       (leads_both context m.heap heap2 alike2 (is_throwable s.world.shapes) (Ref object))
-      (by_one (option_map_or (λ o. is_throwable s.world.shapes o.kind.object) (object_at m.heap object) false))
+      (by_one (option_map_or (λ o. is_throwable s.world.shapes o.kind.object_type) (object_at m.heap object) false))
     where
       by_one : (x : Bool)
           → EndsAlike context (cond x (Threw m object None) WasStuck) (cond x (Threw (with_heap m heap2) object None)

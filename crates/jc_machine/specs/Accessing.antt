@@ -39,12 +39,12 @@ use Rattle.jc_words.specs.Values.{Null, Ref, TaggedValue}
 -- ---- the table
 
 -- a place in a frame: an operand by its number, where the top operand is number 0; or a local variable
-pub data Place : Type 0 where
-  Operand : (number : ℕ) → Place
-  Local : (number : ℕ) → Place
+pub data FramePlace : Type 0 where
+  Operand : (number : ℕ) → FramePlace
+  Local : (number : ℕ) → FramePlace
 
 -- the value at a place
-abbrev pub value_at : Frame → Place → Option TaggedValue
+abbrev pub value_at : Frame → FramePlace → Option TaggedValue
 value_at f (Operand number) = slice_get f.operands number
 value_at f (Local number) = slice_get f.locals number
 
@@ -52,20 +52,20 @@ value_at f (Local number) = slice_get f.locals number
 -- the value that it stores, if it stores one; and the class or interface that it calls or casts to, if it names one
 pub record Row : Type 0 where
   pub access : Access
-  pub object : Place
-  pub stored : Option Place
+  pub object : FramePlace
+  pub stored : Option FramePlace
   pub wanted : Option ClassName
 
 -- an access that stores no value
-abbrev pub uses : Access → Place → Option Row
+abbrev pub uses : Access → FramePlace → Option Row
 uses access object = Some (record { access = access; object = object; stored = None; wanted = None })
 
 -- an access that stores the top operand
-abbrev pub stores : Access → Place → Option Row
+abbrev pub stores : Access → FramePlace → Option Row
 stores access object = Some (record { access = access; object = object; stored = Some (Operand 0); wanted = None })
 
 -- an access that stores no value, and names a class or an interface
-abbrev pub names : Access → Place → Option ClassName → Option Row
+abbrev pub names : Access → FramePlace → Option ClassName → Option Row
 names access object wanted = Some (record { access = access; object = object; stored = None; wanted = wanted })
 
 -- the class or interface that an entry of a package's constant pool names

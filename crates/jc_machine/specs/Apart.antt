@@ -41,7 +41,7 @@ has_no_code (ReferenceArray c) = true
 -- an object in the runtime's context is of no applet instance, and has no code
 pub record IsRuntimes (o : Object TaggedValue) : Type 0 where
   pub instance : o.owner.instance ≡ 0
-  pub codeless : has_no_code o.kind.object ≡ true
+  pub codeless : has_no_code o.kind.object_type ≡ true
 
 -- the runtime has its own objects, whatever else is in its context has no code, and an object that isn't plain is in
 -- its context: a call of such an object switches to the runtime, whose ever it is. No component holds a reference that

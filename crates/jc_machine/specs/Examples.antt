@@ -101,7 +101,7 @@ owner context instance = record { context = context; instance = instance }
 
 abbrev pub object : ObjectType → Mark → Owner → List TaggedValue → Object TaggedValue
 object type mark of cells =
-    record { kind = record { object = type; mark = mark; clears = None }; owner = of; cells = cells }
+    record { kind = record { object_type = type; mark = mark; clears = None }; owner = of; cells = cells }
 
 abbrev pub exception : ApiClass → List TaggedValue → Object TaggedValue
 exception class cells = object (Instance (classes.Api class)) TemporaryEntryPoint (owner 0 0) cells

@@ -113,7 +113,7 @@ pub record IsFitCall {C : Type 0} (natives : Natives C) (w : World) (call : Nati
 pub record IsThrown (w : World) (heap : Heap TaggedValue) (number : ℕ) : Type 0 where
   pub object : Object TaggedValue
   pub found : object_at heap number ≡ Some object
-  pub throwable : is_throwable w.shapes object.kind.object ≡ true
+  pub throwable : is_throwable w.shapes object.kind.object_type ≡ true
 
 -- a call that a native member makes: only a static one makes any. It calls the one member that others call, which is
 -- virtual, of an object that is there and of the member's class, on arguments of its types, and that gives what the
@@ -129,7 +129,7 @@ pub record IsFitCallback {C : Type 0} (w : World) (call : NativeCall C) (a : Nat
   pub virtual : member.kind ≡ Virtual
   pub object : Object TaggedValue
   pub there : object_at a.heap callback.object ≡ Some object
-  pub below : is_of_class w.shapes (classes.Api member.class) object.kind.object ≡ true
+  pub below : is_of_class w.shapes (classes.Api member.class) object.kind.object_type ≡ true
   pub signature : Signature ClassName
   pub declared : type_of_member w.shapes callback.member ≡ Some signature
   pub arguments : are_of_types w.shapes a.heap signature.parameters callback.arguments ≡ true

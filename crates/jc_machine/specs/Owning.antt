@@ -8,7 +8,7 @@ use Rattle.jc_firewall.specs.declared.access.Verdict.TheVariants.{Allowed, Allow
 use Rattle.jc_names.specs.declared.owner.Owner.{Owner}
 use Rattle.jc_store.specs.Heap.{Object, object_at}
 use Rattle.jc_machine.specs.Guarded.{frame_answer}
-use Rattle.jc_machine.specs.Machine.{Callback, Calls, Ends, Frame, Machine, MethodPlace, Next, Outcome, Stuck}
+use Rattle.jc_machine.specs.Machine.{Callback, Calls, Ends, Frame, Machine, Next, Outcome, Stuck}
 use Rattle.jc_machine.specs.Machine.{Surroundings, Throws, Touch, UsedUp}
 use Rattle.jc_machine.specs.Natives.{shareable_member}
 use Rattle.jc_machine.specs.Step.{defensive_step}

@@ -103,7 +103,7 @@ runtime_objects =
 -- one of them as it is made: it is the runtime's, and all its components are 0
 abbrev pub made : RuntimeObject → Object TaggedValue
 made wanted = record {
-  kind = record { object = wanted.type; mark = wanted.mark; clears = None };
+  kind = record { object_type = wanted.type; mark = wanted.mark; clears = None };
   owner = firewall.runtime;
   cells = replicate wanted.size (Word 0);
 }
@@ -118,7 +118,7 @@ new_heap = map made runtime_objects
 pub record HasRuntimeObject (heap : Heap TaggedValue) (wanted : RuntimeObject) : Type 0 where
   pub object : Object TaggedValue
   pub found : object_at heap wanted.number ≡ Some object
-  pub type : object.kind.object ≡ wanted.type
+  pub type : object.kind.object_type ≡ wanted.type
   pub mark : object.kind.mark ≡ wanted.mark
   pub clears : object.kind.clears ≡ None
   pub owner : object.owner ≡ firewall.runtime

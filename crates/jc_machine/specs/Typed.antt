@@ -95,9 +95,9 @@ may_be_made world (ReferenceArray c) = true
 
 -- an object whose cells are typed; how many components an array has is a word
 pub record ObjectTyped (world : List Shape) (heap : Heap TaggedValue) (o : heaps.Object TaggedValue) : Type 0 where
-  pub made : may_be_made world o.kind.object ≡ true
-  pub cells : CellsTyped world heap o.cells o.kind.object
-  pub counted : is_array o.kind.object ≡ true → length o.cells < 65536
+  pub made : may_be_made world o.kind.object_type ≡ true
+  pub cells : CellsTyped world heap o.cells o.kind.object_type
+  pub counted : is_array o.kind.object_type ≡ true → length o.cells < 65536
 
 abbrev pub HeapTyped : List Shape → Heap TaggedValue → Type 0
 HeapTyped world heap = AllByRecursion (ObjectTyped world heap) heap

@@ -14,7 +14,7 @@ use Rattle.jc_store.specs.Heap.{Heap}
 use Rattle.jc_types.specs.State.{Types}
 use Rattle.jc_types.specs.declared.ty.Ty.{Ty}
 use Rattle.jc_types.specs.declared.ty.Ty.TheVariants as types
-use Rattle.jc_machine.specs.Going.{Here, goes_on, jumps, throws}
+use Rattle.jc_machine.specs.Going.{StepContext, goes_on, jumps, throws}
 use Rattle.jc_machine.specs.Machine.{Stepped}
 use Rattle.jc_machine.specs.Returns.{returns_value}
 use Rattle.jc_machine.specs.Runtime.{arithmetic_exception}
@@ -24,7 +24,7 @@ use Rattle.jc_words.specs.Values.{TaggedValue, Word}
 
 -- the frame goes on with values of the types behind the operation: at the next instruction if it falls through, or
 -- where one of its offsets leads; it throws the arithmetic exception; or it returns a word, where its method gives one
-pub data LeavesTyped {C : Type 0} (world : List Shape) (heap : Heap TaggedValue) (h : Here C) (returned : Option Ty)
+pub data LeavesTyped {C : Type 0} (world : List Shape) (heap : Heap TaggedValue) (h : StepContext C) (returned : Option Ty)
     (operation : WordOperation) (after : Types) : Stepped C → Type 0 where
   going : (locals operands : List TaggedValue) → falls_of (OnWords operation) ≡ true
       → HaveTypes world heap locals after.locals → HoldTypes world heap operands after.operands
@@ -40,7 +40,7 @@ pub data LeavesTyped {C : Type 0} (world : List Shape) (heap : Heap TaggedValue)
 -- beside any order of classes; a constant that is pushed is a short
 abbrev pub KeepWordsTyped : (C : Type 0) → Type 0
 KeepWordsTyped C =
-    (world : List Shape) (heap : Heap TaggedValue) (below : ClassName → ClassName → Bool) (h : Here C)
+    (world : List Shape) (heap : Heap TaggedValue) (below : ClassName → ClassName → Bool) (h : StepContext C)
     (returned : Option Ty) (before after : Types) → HaveTypes world heap h.machine.top.locals before.locals
     → HoldTypes world heap h.machine.top.operands before.operands → (operation : WordOperation)
     → ((value : ℤ) → operation ≡ Push value → FitsSigned w16 value)

@@ -10,7 +10,7 @@ use Rattle.jc_link.specs.Linked.{World}
 use Rattle.jc_machine.specs.Apart.{is_applets}
 use Rattle.jc_machine.specs.Going.{with_heap}
 use Rattle.jc_machine.specs.Machine.{Ends, Machine, NativeAnswer, NativeCall, Natives, Next, Outcome, Stepped, Stuck}
-use Rattle.jc_machine.specs.Machine.{Surroundings, Throws, ThrowsObject, UsedUp}
+use Rattle.jc_machine.specs.Machine.{Throws, ThrowsObject, UsedUp}
 use Rattle.jc_machine.specs.Natives.{shareable_member}
 use Rattle.jc_machine.specs.Reading.{Pointwise}
 use Rattle.jc_machine.specs.Runtime.{HasRuntimeObjects}

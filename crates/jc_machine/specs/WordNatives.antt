@@ -85,7 +85,7 @@ number_of_object = 0
 
 -- an object is an array, and the number of its class is that of Object
 pub record IsNumberedArray (store : Store) (number : ℕ) (object : Object ℕ) : Type 0 where
-  pub array : is_array object.kind.object ≡ true
+  pub array : is_array object.kind.object_type ≡ true
   pub numbered : class_number_at store.classes number ≡ Some number_of_object
 
 -- objects have the class numbers that they had, and those that were made are arrays, numbered as Object is

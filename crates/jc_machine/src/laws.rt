@@ -128,7 +128,7 @@ pub fn accesses_are_the_instructions<N: Natives>(_natives: &N)
 pub fn throws_are_caught<N: Natives>(_natives: &N)
     ensures { (s : Surroundings N.Kept) → (m : Machine N.Kept) → (object : ℕ) → (o : Object TaggedValue)
         → object_at m.heap object ≡ Some o
-        → UnwindsTo s m object (class_of o.kind.object) (settled s (Throws m object)) }
+        → UnwindsTo s m object (class_of o.kind.object_type) (settled s (Throws m object)) }
 {}
 
 /// No step of a frame in another context, and no call of the runtime's of whose steps none runs in that context, sees

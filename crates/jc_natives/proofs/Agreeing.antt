@@ -28,8 +28,8 @@ use Rattle.jc_natives.specs.declared.row.Range.{Range}
 use Rattle.jc_natives.specs.declared.row.MemberRow.{MemberRow}
 use Rattle.jc_natives.specs.declared.row.Test.{Test}
 use Rattle.jc_natives.specs.declared.row.Test.TheVariants as tests
-use Rattle.jc_natives.specs.declared.row.Way.{Way}
-use Rattle.jc_natives.specs.declared.row.Way.TheVariants as ways
+use Rattle.jc_natives.specs.declared.row.Use.{Use}
+use Rattle.jc_natives.specs.declared.row.Use.TheVariants as ways
 use Rattle.jc_store.specs.Heap.{Heap, Object, object_at}
 use Rattle.jc_words.specs.Values.{Null, Ref, TaggedValue, Unset, Word}
 
@@ -120,21 +120,21 @@ module _ (w : World) (call : NativeCall Kept) where
   -- ---- accesses
 
   -- the verdict on such an access hangs on no interface
-  same_verdict : (way : Way) (o : Object TaggedValue)
+  same_verdict : (way : Use) (o : Object TaggedValue)
       → verdict_of (access_of way) call.active.context (facts_in w.shapes call.selected o None false)
       ≡ verdict_of (access_of way) call.active.context (facts_of s (bare o))
   same_verdict way o = grind arith
 
-  verdict_agrees : (way : Way) (number : ℕ) (v : Verdict)
+  verdict_agrees : (way : Use) (number : ℕ) (v : Verdict)
       → Agrees (checks.by_verdict h way number v) (by_verdict s way number v)
   verdict_agrees way number v = grind arith
 
-  judged_agrees : (way : Way) (number : ℕ) (o : Object TaggedValue)
+  judged_agrees : (way : Use) (number : ℕ) (o : Object TaggedValue)
       → Agrees (checks.judged h way number o) (on_object s way number (Some (bare o)))
   judged_agrees way number o = grind (arith, same_verdict, verdict_agrees)
 
   -- an object, where null comes to something of its own
-  module _ (way : Way) (null : Checked) (also : Tested) (nulls : Agrees null also) where
+  module _ (way : Use) (null : Checked) (also : Tested) (nulls : Agrees null also) where
     abbrev used_so : ℕ → Tested
     used_so number = cond (number == 0) also (used s way number)
 
@@ -169,10 +169,10 @@ module _ (w : World) (call : NativeCall Kept) where
     uses_agree place = among_agrees call.arguments place
 
   -- null is no object
-  not_null : (way : Way) (number : ℕ) → cond (number == 0) (fails 6) (used s way number) ≡ used s way number
+  not_null : (way : Use) (number : ℕ) → cond (number == 0) (fails 6) (used s way number) ≡ used s way number
   not_null way number = grind (arith, not_zero)
 
-  object_used : (place : ℕ) (way : Way) → Agrees (uses h place way (refused 6)) (used s way (argument args place))
+  object_used : (place : ℕ) (way : Use) → Agrees (uses h place way (refused 6)) (used s way (argument args place))
   object_used place way =
       subst (Agrees (uses h place way (refused 6))) (not_null way (argument args place))
       (uses_agree way (refused 6) (fails 6) (same refl refl (λ e. absurd cc)) place)

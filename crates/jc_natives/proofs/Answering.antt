@@ -28,7 +28,7 @@ use Rattle.jc_natives.specs.PrivateSeen.{Seen, arguments_of, seen_of}
 use Rattle.jc_natives.specs.PrivateTests.{Tested, by_verdict, followed, on_object, tested, used}
 use Rattle.jc_natives.specs.Work.{Asks, Does, Ending, Makes, NewArray, Throws, Work, no_transient_space}
 use Rattle.jc_natives.specs.declared.native.Native.{Native}
-use Rattle.jc_natives.specs.declared.row.Way.TheVariants as ways
+use Rattle.jc_natives.specs.declared.row.Use.TheVariants as ways
 use Rattle.jc_store.specs.Heap.{Heap, Object, object_at, with_new}
 use Rattle.jc_words.specs.Values.{TaggedValue, Word, Ref}
 use Rattle.jc_machine.specs.Machine.{Gives, NativeAnswer}

@@ -80,7 +80,7 @@ argument_bits world heap (t ∷ ts) (w ∷ ws) (v ∷ vs) r e =
     ∙ ap (λ xs. bits v ∷ xs) (argument_bits world heap ts ws vs r.1 b.1)
 
 pub receiver_bits : (heap : Heap TaggedValue) (test : ObjectType → Bool) (w : ℕ) (v : TaggedValue) → Reads w v
-    → option_map_or (λ (o : Object TaggedValue). test o.kind.object) (option_and_then (object_at heap) (object_of v))
+    → option_map_or (λ (o : Object TaggedValue). test o.kind.object_type) (option_and_then (object_at heap) (object_of v))
     false ≡ true
     → w ≡ bits v
 receiver_bits heap test w v h1 h2 = grind arith

@@ -38,12 +38,12 @@ IsBytes m place = slice_get m.signature.parameters place ≡ Some types.ByteArra
 
 -- whatever object a number leads to is an array of bytes; and it leads to an object of a class
 abbrev pub LeadsToBytes : Heap TaggedValue → ℕ → Type 0
-LeadsToBytes heap number = (o : Object TaggedValue) → object_at heap number ≡ Some o → o.kind.object ≡ ByteArray
+LeadsToBytes heap number = (o : Object TaggedValue) → object_at heap number ≡ Some o → o.kind.object_type ≡ ByteArray
 
 pub record LeadsToClass (world : List Shape) (heap : Heap TaggedValue) (number : ℕ) (c : ClassName) : Type 0 where
   pub object : Object TaggedValue
   pub found : object_at heap number ≡ Some object
-  pub below : is_of_class world c object.kind.object ≡ true
+  pub below : is_of_class world c object.kind.object_type ≡ true
 
 byte_array_is : (type : ObjectType) → is_byte_array type ≡ true → type ≡ ByteArray
 byte_array_is type h1 = grind arith

@@ -207,7 +207,7 @@ module _ (known : Known) where
     pub made_given : (array : NewArray) (t : DeclaredType ApiClass) (test : ObjectType → Bool) → r ≡ Value t
         → is_of_type w.shapes (with_new call.heap (new_array call.active array)) (type_map counted_name t)
         (Ref (next_number call.heap))
-        ≡ option_map_or (λ (o : Object TaggedValue). test o.kind.object)
+        ≡ option_map_or (λ (o : Object TaggedValue). test o.kind.object_type)
         (object_at (with_new call.heap (new_array call.active array)) (next_number call.heap)) false
         → test (array_type array.elements) ≡ true → MadeGiven array
     made_given array t test g same e = grind (arith, gives_as, new_found)

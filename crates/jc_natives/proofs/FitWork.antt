@@ -34,9 +34,9 @@ use Rattle.jc_natives.specs.declared.ended.Question.{Question}
 use Rattle.jc_natives.specs.declared.row.Range.{Range}
 use Rattle.jc_natives.specs.declared.row.MemberRow.{MemberRow}
 use Rattle.jc_natives.specs.declared.row.Test.{Test}
-use Rattle.jc_natives.specs.declared.row.Way.{Way}
+use Rattle.jc_natives.specs.declared.row.Use.{Use}
 use Rattle.jc_store.specs.Heap.{Heap, Object, next_number, object_at, with_new}
-use Rattle.jc_store.specs.declared.kind.Kind.{Kind}
+use Rattle.jc_store.specs.declared.kind.ObjectKind.{ObjectKind}
 use Rattle.jc_words.specs.Values.{Null, Ref, TaggedValue, Word}
 
 module _ (known : Known) where
@@ -77,7 +77,7 @@ module _ (known : Known) where
       record {
         object = s.object;
         found = s.found;
-        throwable = ap (λ (kind : Kind). is_throwable w.shapes kind.object) s.kind ∙ thrown.throwable;
+        throwable = ap (λ (kind : ObjectKind). is_throwable w.shapes kind.object_type) s.kind ∙ thrown.throwable;
       }
 
   given_still : (after : Heap TaggedValue) (r : ReturnType ClassName) (v : Option TaggedValue)
@@ -148,16 +148,16 @@ module _ (known : Known) where
   Thrown None = ⊤
   Thrown (Some object) = IsThrown w call.heap object
 
-  verdict_thrown : (s : Seen) (way : Way) (number : ℕ) (v : Verdict) → Thrown (by_verdict s way number v).thrown
+  verdict_thrown : (s : Seen) (way : Use) (number : ℕ) (v : Verdict) → Thrown (by_verdict s way number v).thrown
   verdict_thrown s way number v = grind (arith, security_thrown)
 
-  object_thrown : (s : Seen) (way : Way) (number : ℕ) (o : Option (Object ℕ)) → Thrown (on_object s way number o).thrown
+  object_thrown : (s : Seen) (way : Use) (number : ℕ) (o : Option (Object ℕ)) → Thrown (on_object s way number o).thrown
   object_thrown s way number o = grind (arith, null_thrown, verdict_thrown)
 
   either_thrown : (b : Bool) (t u : Tested) → Thrown t.thrown → Thrown u.thrown → Thrown (cond b t u).thrown
   either_thrown b t u h1 h2 = grind arith
 
-  used_thrown : (s : Seen) (way : Way) (number : ℕ) → Thrown (used s way number).thrown
+  used_thrown : (s : Seen) (way : Use) (number : ℕ) → Thrown (used s way number).thrown
   used_thrown s way number = object_thrown s way number (object_at s.objects number)
 
   test_thrown : (s : Seen) (arguments : List ℕ) (one : Test) → Thrown (test s arguments one).thrown

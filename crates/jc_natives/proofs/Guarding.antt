@@ -33,7 +33,7 @@ use Rattle.jc_natives.specs.PrivateTests.{Tested, by_verdict, facts_of, followed
 use Rattle.jc_natives.specs.declared.row.Range.{Range}
 use Rattle.jc_natives.specs.declared.row.MemberRow.{MemberRow}
 use Rattle.jc_natives.specs.declared.row.Test.{Test}
-use Rattle.jc_natives.specs.declared.row.Way.{Way}
+use Rattle.jc_natives.specs.declared.row.Use.{Use}
 use Rattle.jc_names.specs.declared.owner.Owner.{Owner}
 use Rattle.jc_store.specs.Heap.{Heap, Object, cells_in, object_at, with_cell, with_new, with_object}
 use Rattle.jc_store.specs.declared.kind.Mark.TheVariants.{Plain}
@@ -81,7 +81,7 @@ got_back (x ∷ xs) ys n = grind (arith, got_back xs ys n)
 -- an access of the caller's, by one of the ways in which members use objects
 pub record IsUse (w : World) (call : NativeCall Kept) (touch : Touch) : Type 0 where
   pub native : IsJudged (setting_for meaning w call) touch
-  pub way : Way
+  pub way : Use
   pub access : touch.access ≡ access_of way
   pub active : touch.active ≡ call.active.context
 
@@ -97,23 +97,23 @@ module _ (w : World) (call : NativeCall Kept) where
   no_use thrown = record { uses = tt; verdicts = inl refl }
 
   -- the verdict on such an access hangs on no interface
-  same_verdict : (way : Way) (o : Object TaggedValue)
+  same_verdict : (way : Use) (o : Object TaggedValue)
       → verdict_of (access_of way) call.active.context (facts_of (seen_of w call) (bare o))
       ≡ verdict_of (access_of way) call.active.context (facts_in w.shapes call.selected o None false)
   same_verdict way o = grind arith
 
-  use_of : (way : Way) (number : ℕ) (o : Object TaggedValue) (v : Verdict) → object_at call.heap number ≡ Some o
+  use_of : (way : Use) (number : ℕ) (o : Object TaggedValue) (v : Verdict) → object_at call.heap number ≡ Some o
       → verdict_of (access_of way) call.active.context (facts_of (seen_of w call) (bare o)) ≡ v
       → IsUse w call (touch_of (seen_of w call) way number v)
   use_of way number o v found is = grind (arith, same_verdict)
 
-  by_verdict_uses : (way : Way) (number : ℕ) (o : Object TaggedValue) (v : Verdict) → object_at call.heap number
+  by_verdict_uses : (way : Use) (number : ℕ) (o : Object TaggedValue) (v : Verdict) → object_at call.heap number
       ≡ Some o
       → verdict_of (access_of way) call.active.context (facts_of (seen_of w call) (bare o)) ≡ v
       → AreUses w call (by_verdict (seen_of w call) way number v)
   by_verdict_uses way number o v h1 h2 = grind (arith, use_of)
 
-  used_uses : (way : Way) (number : ℕ) → AreUses w call (used (seen_of w call) way number)
+  used_uses : (way : Use) (number : ℕ) → AreUses w call (used (seen_of w call) way number)
   used_uses way number = grind (arith, bare_object, no_use, by_verdict_uses)
 
   either_uses : (b : Bool) (t u : Tested) → AreUses w call t → AreUses w call u → AreUses w call (cond b t u)
@@ -273,7 +273,7 @@ whose : (active : ℕ) (f : Facts) → (is_own active f ≡ true) ⊎ ((active =
     → (active ≡ f.owner.context) ⊎ (active ≡ runtime_context)
 whose active f h1 = grind (arith, eqb-true)
 
-pub own_use : (way : Way) (active : ℕ) (f : Facts) → is_allowed (verdict_of (access_of way) active f) ≡ true
+pub own_use : (way : Use) (active : ℕ) (f : Facts) → is_allowed (verdict_of (access_of way) active f) ≡ true
     → f.mark ≡ Plain → (active ≡ f.owner.context) ⊎ (active ≡ runtime_context)
 own_use way active f h1 h2 = grind (arith, whose, by_fields, by_components, by_calls)
 
@@ -360,7 +360,7 @@ module _ (w : World) (call : NativeCall Kept) where
       touch = own_touch number o;
       listed = refl;
       is = refl;
-      changes = may_change_so (is_array o.kind.object);
+      changes = may_change_so (is_array o.kind.object_type);
       allowed = refl;
       who = inr refl;
       own = λ plain. inr refl;

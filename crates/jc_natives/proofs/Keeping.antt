@@ -32,7 +32,7 @@ use Rattle.jc_natives.specs.declared.kept.Instance.{Instance}
 use Rattle.jc_natives.specs.declared.native.Elements.{Elements}
 use Rattle.jc_natives.specs.declared.native.Elements.TheVariants.{Booleans, Bytes, References, Shorts}
 use Rattle.jc_store.specs.Heap.{Heap, Object, object_at, with_cell, with_new, with_object}
-use Rattle.jc_store.specs.declared.kind.Kind.{Kind}
+use Rattle.jc_store.specs.declared.kind.ObjectKind.{ObjectKind}
 use Rattle.jc_store.specs.declared.kind.ObjectType.{ObjectType}
 use Rattle.jc_store.specs.declared.kind.ObjectType.TheVariants.{BooleanArray, ByteArray, Instance as OfClass}
 use Rattle.jc_store.specs.declared.kind.ObjectType.TheVariants.{ReferenceArray, ShortArray}
@@ -45,10 +45,10 @@ module _ (world : List Shape) (before after : Heap TaggedValue) (stay : KeepsObj
       → leads_to after test v ≡ true
   leads_still test (Word n) e = e
   leads_still test (Ref n) e =
-      let a = passed_some (λ (o : Object TaggedValue). test o.kind.object) (object_at before n) e in
+      let a = passed_some (λ (o : Object TaggedValue). test o.kind.object_type) (object_at before n) e in
       let s = stay n a.0 a.1 in
-      ap (λ o. option_map_or (λ (o : Object TaggedValue). test o.kind.object) o false) s.found
-      ∙ ap (λ kind. test kind.object) s.kind ∙ a.2
+      ap (λ o. option_map_or (λ (o : Object TaggedValue). test o.kind.object_type) o false) s.found
+      ∙ ap (λ kind. test kind.object_type) s.kind ∙ a.2
   leads_still test Null e = refl
   leads_still test Unset e = e
 
@@ -122,7 +122,7 @@ FitsWords world type from (word ∷ words) = FitsCell world type from word × Fi
 -- what is written fits the object, if there is one
 abbrev pub FitsWrite : List Shape → Heap TaggedValue → Write → Type 0
 FitsWrite world heap x =
-    (o : Object TaggedValue) → object_at heap x.object ≡ Some o → FitsWords world o.kind.object x.from x.words
+    (o : Object TaggedValue) → object_at heap x.object ≡ Some o → FitsWords world o.kind.object_type x.from x.words
 
 abbrev Fields : Type 0
 Fields = List (Option (DeclaredType ClassName))
@@ -144,7 +144,7 @@ module _ (world : List Shape) (heap : Heap TaggedValue) where
       → CellsTyped world heap cells type → CellsTyped world heap (set cells index (Word word)) type
   cells_set type cells index word h1 h2 = grind (arith, fields_set, all_set, lt-ltb)
 
-  object_set : (o : Object TaggedValue) (index word : ℕ) → FitsCell world o.kind.object index word
+  object_set : (o : Object TaggedValue) (index word : ℕ) → FitsCell world o.kind.object_type index word
       → ObjectTyped world heap o → ObjectTyped world heap (with_cell o index (Word word))
   object_set o index word fits typed = grind (arith, length-set, cells_set)
 
@@ -157,7 +157,7 @@ module _ (world : List Shape) (heap : Heap TaggedValue) where
   object_typed number o h1 h2 = grind (arith, none-some, all_got)
 
 put_typed : (world : List Shape) (heap : Heap TaggedValue) (number index word : ℕ) (o : Object TaggedValue)
-    → object_at heap number ≡ Some o → FitsCell world o.kind.object index word → HeapTyped world heap
+    → object_at heap number ≡ Some o → FitsCell world o.kind.object_type index word → HeapTyped world heap
     → HeapTyped world (put heap number index (Word word))
 put_typed world heap number index word o found fits typed =
     let set = heap_set world heap number o (with_cell o index (Word word)) found
@@ -168,7 +168,7 @@ put_typed world heap number index word o found fits typed =
     (with_object heap number (with_cell o index (Word word))) set)
 
 put_all_typed : (world : List Shape) (heap : Heap TaggedValue) (number from : ℕ) (words : List ℕ)
-    (o : Object TaggedValue) → object_at heap number ≡ Some o → FitsWords world o.kind.object from words
+    (o : Object TaggedValue) → object_at heap number ≡ Some o → FitsWords world o.kind.object_type from words
     → HeapTyped world heap → HeapTyped world (put_all heap number from (map Word words))
 put_all_typed world heap number from [] o found fits typed = typed
 put_all_typed world heap number from (x ∷ words) o found fits typed =
@@ -237,8 +237,8 @@ instance_still world before after stay i e =
     both_are (is_aid i.aid && is_instance_number i.owner.instance)
     (option_map_or (has_applet world i) (object_at after i.object) false) a.0
     (ap (λ o. option_map_or (has_applet world i) o false) s.found
-    ∙ ap (λ (kind : Kind). is_of_class world (Api Applet) kind.object && is_same_owner (s.object).owner i.owner) s.kind
-    ∙ ap (λ owner. is_of_class world (Api Applet) (d.0).kind.object && is_same_owner owner i.owner) s.owner
+    ∙ ap (λ (kind : ObjectKind). is_of_class world (Api Applet) kind.object_type && is_same_owner (s.object).owner i.owner) s.kind
+    ∙ ap (λ owner. is_of_class world (Api Applet) (d.0).kind.object_type && is_same_owner owner i.owner) s.owner
     ∙ d.2)
 
 pub instances_still : (world : List Shape) (before after : Heap TaggedValue) → KeepsObjects before after

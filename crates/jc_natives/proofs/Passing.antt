@@ -13,7 +13,7 @@ use Rattle.jc_natives.specs.PrivateTests.{ranged, tested, used}
 use Rattle.jc_natives.specs.declared.row.Length.{Length}
 use Rattle.jc_natives.specs.declared.row.Range.{Range}
 use Rattle.jc_natives.specs.declared.row.Test.TheVariants.{Object as AnObject}
-use Rattle.jc_natives.specs.declared.row.Way.{Way}
+use Rattle.jc_natives.specs.declared.row.Use.{Use}
 use Rattle.jc_store.specs.Blocks.{HasCells}
 use Rattle.jc_store.specs.Heap.{Heap, Object, object_at}
 use Rattle.jc_store.specs.Store.{IsThere, Store}
@@ -32,7 +32,7 @@ both_pass first later e = first_passes first.touches first.thrown later e
 
 module _ (s : Seen) (store : Store) (same : s.objects ≡ store.objects) where
   -- an object that may be used is there
-  there : (way : Way) (number : ℕ) → (used s way number).thrown ≡ None → IsThere store number
+  there : (way : Use) (number : ℕ) → (used s way number).thrown ≡ None → IsThere store number
   there way number passed = by_object (object_at s.objects number) refl passed
     where
       by_object : (o : Option (Object ℕ)) → object_at s.objects number ≡ o → (on_object s way number o).thrown ≡ None
@@ -51,13 +51,13 @@ module _ (s : Seen) (store : Store) (same : s.objects ≡ store.objects) where
   has_cells number from count t e = grind (arith, eqb-true, none-some, both, leb-true)
 
   -- the range in the array of a member of one array
-  pub one_part : (arguments : List ℕ) (way : Way) (size : Length)
+  pub one_part : (arguments : List ℕ) (way : Use) (size : Length)
       → (tested s arguments (on_array (AnObject 0 way) size)).thrown ≡ None
       → HasCells store (argument arguments 0) (argument arguments 1) (length_of s arguments size)
   one_part arguments way size e = grind (arith, both_pass, has_cells, there, in_range)
 
   -- those in the arrays of a member of two arrays
-  pub two_parts : (arguments : List ℕ) (source target : Way)
+  pub two_parts : (arguments : List ℕ) (source target : Use)
       → (tested s arguments (on_arrays (AnObject 0 source) (AnObject 2 target))).thrown ≡ None
       → HasCells store (argument arguments 0) (argument arguments 1) (argument arguments 4)
       × HasCells store (argument arguments 2) (argument arguments 3) (argument arguments 4)

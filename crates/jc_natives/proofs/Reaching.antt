@@ -14,7 +14,7 @@ use Rattle.jc_natives.proofs.Changed.{is_change_of, is_changed}
 use Rattle.jc_natives.specs.declared.row.MemberRow.{MemberRow}
 use Rattle.jc_natives.specs.declared.row.Test.{Test}
 use Rattle.jc_natives.specs.declared.row.Test.TheVariants as tests
-use Rattle.jc_natives.specs.declared.row.Way.{Way}
+use Rattle.jc_natives.specs.declared.row.Use.{Use}
 
 touched_in_front : (xs ys : List Touch) (number : ℕ) → is_changed xs number ≡ true → is_changed (xs ++ ys) number ≡ true
 touched_in_front [] ys number e = absurd cc
@@ -26,20 +26,20 @@ touched_behind (x ∷ xs) ys number e = grind (arith, is_change_of, is_changed, 
 
 module _ (s : Seen) where
   -- by a way in which objects may change
-  itself : (way : Way) (number : ℕ) → may_change (access_of way) ≡ true
+  itself : (way : Use) (number : ℕ) → may_change (access_of way) ≡ true
       → ((number == number && may_change (access_of way)) || false) ≡ true
   itself way number change = grind (arith, eq-eqb)
 
-  verdict_reaches : (way : Way) (number : ℕ) (v : Verdict) → may_change (access_of way) ≡ true
+  verdict_reaches : (way : Use) (number : ℕ) (v : Verdict) → may_change (access_of way) ≡ true
       → (by_verdict s way number v).thrown ≡ None
       → is_changed (by_verdict s way number v).touches number ≡ true
   verdict_reaches way number v h1 h2 = grind (arith, itself, none-some)
 
-  used_reaches : (way : Way) (number : ℕ) → may_change (access_of way) ≡ true → (used s way number).thrown ≡ None
+  used_reaches : (way : Use) (number : ℕ) → may_change (access_of way) ≡ true → (used s way number).thrown ≡ None
       → is_changed (used s way number).touches number ≡ true
   used_reaches way number change e = grind (arith, is_changed, none-some, verdict_reaches)
 
-  test_reaches : (arguments : List ℕ) (one : Test) (place : ℕ) (way : Way) → may_change (access_of way) ≡ true
+  test_reaches : (arguments : List ℕ) (one : Test) (place : ℕ) (way : Use) → may_change (access_of way) ≡ true
       → one ≡ tests.Object place way
       → (test s arguments one).thrown ≡ None
       → is_changed (test s arguments one).touches (argument arguments place) ≡ true
@@ -54,7 +54,7 @@ module _ (s : Seen) where
   both_pass : (t u : Tested) → (followed t u).thrown ≡ None → BothPass t u
   both_pass t u e = grind (arith, none-some)
 
-  pub row_reaches : (arguments : List ℕ) (row : MemberRow) (place : ℕ) (way : Way) → may_change (access_of way) ≡ true
+  pub row_reaches : (arguments : List ℕ) (row : MemberRow) (place : ℕ) (way : Use) → may_change (access_of way) ≡ true
       → (tested s arguments row).thrown ≡ None
       → (row.first ≡ tests.Object place way) ⊎ (row.second ≡ tests.Object place way)
       → is_changed (tested s arguments row).touches (argument arguments place) ≡ true

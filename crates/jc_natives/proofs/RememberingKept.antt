@@ -64,8 +64,8 @@ use Rattle.jc_natives.specs.declared.native.UtilityNative.{UtilityNative}
 use Rattle.jc_natives.specs.declared.native.UtilityNative.TheVariants as utilities
 use Rattle.jc_natives.specs.declared.row.Length.{Length}
 use Rattle.jc_natives.specs.declared.row.Length.TheVariants.{ByteAt, Fixed, OfAid as AsAid, ShortAt}
-use Rattle.jc_natives.specs.declared.row.Way.{Way}
-use Rattle.jc_natives.specs.declared.row.Way.TheVariants.{Calls, Fields, Loads, Stores}
+use Rattle.jc_natives.specs.declared.row.Use.{Use}
+use Rattle.jc_natives.specs.declared.row.Use.TheVariants.{Calls, Fields, Loads, Stores}
 use Rattle.jc_store.specs.Heap.{Heap, Object, object_at, with_new}
 use Rattle.jc_store.specs.declared.kind.ClearingEvent.{ClearingEvent}
 use Rattle.jc_words.specs.Values.{Null, Ref, TaggedValue, Unset, Word}
@@ -229,7 +229,7 @@ joined call e instance has = record {
 -- ---- works
 
 -- by such a use an object is written
-abbrev pub is_writing : Way → Bool
+abbrev pub is_writing : Use → Bool
 is_writing Fields = true
 is_writing Loads = false
 is_writing Stores = true
@@ -255,7 +255,7 @@ module _ (h : Called) (Spared : By → ℕ → Type 0) where
 
   -- and so is what is tested, where it may be written
   abbrev pub AreTested : List Check → Type 0
-  AreTested ts = (j place : ℕ) (way : Way) → is_writing way ≡ true → slice_get ts j ≡ Some (Uses place way) → (n : ℕ)
+  AreTested ts = (j place : ℕ) (way : Use) → is_writing way ≡ true → slice_get ts j ≡ Some (Uses place way) → (n : ℕ)
       → IsArgument place n → Spared ByCode n
 
   abbrev pub AreSpared : List Write → Type 0

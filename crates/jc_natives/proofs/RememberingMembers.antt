@@ -62,13 +62,11 @@ use Rattle.jc_natives.specs.Remembered.{KeepsAids, WritesOwnAid, is_aid_object, 
 use Rattle.jc_natives.specs.Remembered.{TellsAid, TellsPreviousAid}
 use Rattle.jc_natives.specs.Taking.{as_reference, called}
 use Rattle.jc_natives.specs.Work.{gives}
-use Rattle.jc_natives.specs.declared.native.AidNative.TheVariants as aids
 use Rattle.jc_natives.specs.declared.native.Native.{Native}
 use Rattle.jc_natives.specs.declared.native.Native.TheVariants.{OfSystem}
-use Rattle.jc_natives.specs.declared.native.ObjectNative.TheVariants as objects
 use Rattle.jc_natives.specs.declared.native.SystemNative.TheVariants as system
-use Rattle.jc_natives.specs.declared.row.Way.{Way}
-use Rattle.jc_natives.specs.declared.row.Way.TheVariants.{Calls, Fields, Loads, Stores}
+use Rattle.jc_natives.specs.declared.row.Use.{Use}
+use Rattle.jc_natives.specs.declared.row.Use.TheVariants.{Calls, Fields, Loads, Stores}
 use Rattle.jc_store.specs.Heap.{Heap, Object, object_at, with_new}
 use Rattle.jc_store.specs.declared.kind.Mark.TheVariants.{PermanentEntryPoint}
 use Rattle.jc_store.specs.declared.kind.ObjectType.TheVariants.{Instance as OfClass}
@@ -158,7 +156,7 @@ module _ (w : World) (call : NativeCall Kept) where
       each_passed ts j t (followed_passed (test (called w call) x) (tested (called w call) ts) e).1 f
 
   module _ (own : HasRuntimeObjects call.heap) (applet : call.active.context ≡ runtime_context → ⊥) where
-    passed_allowed : (way : Way) (n : ℕ) (v : Verdict) → (by_verdict (called w call) way n v).ends ≡ Passed
+    passed_allowed : (way : Use) (n : ℕ) (v : Verdict) → (by_verdict (called w call) way n v).ends ≡ Passed
         → is_allowed v ≡ true
     passed_allowed way n Allowed e = refl
     passed_allowed way n (AllowedSwitch owner) e = refl
@@ -173,7 +171,7 @@ module _ (w : World) (call : NativeCall Kept) where
         (cond (own || global) Allowed (Denied rules.Components)))) ≡ true → ⊥
     no_component by_runtime out own global e f g h = grind arith
 
-    no_write : (way : Way) → is_writing way ≡ true → (f : Facts) → f.owner ≡ runtime → f.mark ≡ PermanentEntryPoint
+    no_write : (way : Use) → is_writing way ≡ true → (f : Facts) → f.owner ≡ runtime → f.mark ≡ PermanentEntryPoint
         → is_allowed (verdict_of (access_of way) call.active.context f) ≡ true → ⊥
     no_write way e f whose mark g = by_way way e g
       where
@@ -184,7 +182,7 @@ module _ (w : World) (call : NativeCall Kept) where
         not_own =
             ne_eqb f.owner.context call.active.context (λ h. applet (sym h ∙ ap (λ (o : Owner). o.context) whose))
 
-        by_way : (way : Way) → is_writing way ≡ true
+        by_way : (way : Use) → is_writing way ≡ true
             → is_allowed (verdict_of (access_of way) call.active.context f) ≡ true → ⊥
         by_way Fields e h =
             no_field (call.active.context == runtime_context) (f.owner.context == call.active.context) other not_own h
@@ -194,7 +192,7 @@ module _ (w : World) (call : NativeCall Kept) where
             (f.owner.context == call.active.context) (is_global_array f.mark) other not_own (ap is_global_array mark) h
         by_way Calls e h = false≢true e
 
-    no_aid : (way : Way) → is_writing way ≡ true → (n : ℕ) (o : Object TaggedValue) → object_at call.heap n ≡ Some o
+    no_aid : (way : Use) → is_writing way ≡ true → (n : ℕ) (o : Object TaggedValue) → object_at call.heap n ≡ Some o
         → is_aid_object n ≡ true → (judged (called w call) way n o).ends ≡ Passed → ⊥
     no_aid way e n o found aid f =
         let has = aid_row_at call.heap own n aid in
@@ -204,7 +202,7 @@ module _ (w : World) (call : NativeCall Kept) where
         (ap (λ (x : Object TaggedValue). x.kind.mark) (sym same) ∙ has.mark)
         (passed_allowed way n _ f)
 
-    used_is_no_aid : (place : ℕ) (way : Way) (null : Checked) → is_writing way ≡ true
+    used_is_no_aid : (place : ℕ) (way : Use) (null : Checked) → is_writing way ≡ true
         → (uses (called w call) place way null).ends ≡ Passed → (n : ℕ)
         → option_and_then as_reference (slice_get call.arguments place) ≡ Some n → is_aid_object n ≡ true → ⊥
     used_is_no_aid place way null e f n is aid = by_argument (slice_get call.arguments place) f is
@@ -284,8 +282,8 @@ module _ (w : World) (call : NativeCall Kept) where
           let has = aid_row_at call.heap own n aid in
           let same : has.object ≡ leads.object = same_found (object_at call.heap n) leads.object has.object leads.found
           has.found in
-          let type : leads.object.kind.object ≡ OfClass (Api api.Aid) =
-          ap (λ (x : Object TaggedValue). x.kind.object) (sym same) ∙ has.type in
+          let type : leads.object.kind.object_type ≡ OfClass (Api api.Aid) =
+          ap (λ (x : Object TaggedValue). x.kind.object_type) (sym same) ∙ has.type in
           let below : is_of_class w.shapes reasons (OfClass (Api api.Aid)) ≡ true =
           ap (is_of_class w.shapes reasons) (sym type) ∙ leads.below in
           false≢true (sym (above_is w.shapes on.stands most_classes api.CardRuntimeException api.Aid) ∙ below)

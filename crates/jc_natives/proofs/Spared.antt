@@ -51,8 +51,8 @@ use Rattle.jc_natives.specs.declared.native.UtilityNative.{UtilityNative}
 use Rattle.jc_natives.specs.declared.native.UtilityNative.TheVariants as utilities
 use Rattle.jc_natives.specs.declared.row.MemberRow.{MemberRow}
 use Rattle.jc_natives.specs.declared.row.Test.TheVariants as tests
-use Rattle.jc_natives.specs.declared.row.Way.{Way}
-use Rattle.jc_natives.specs.declared.row.Way.TheVariants as ways
+use Rattle.jc_natives.specs.declared.row.Use.{Use}
+use Rattle.jc_natives.specs.declared.row.Use.TheVariants as ways
 use Rattle.jc_store.specs.Heap.{Heap}
 use Rattle.jc_store.specs.declared.kind.ClearingEvent.{ClearingEvent}
 
@@ -134,7 +134,7 @@ module _ (Spared : By → ℕ → Type 0) (s : Seen) (k : Kept) where
 
   -- an object that a row tests, by a way in which it may change
   abbrev pub AreTested : List ℕ → MemberRow → Type 0
-  AreTested args row = (place : ℕ) (way : Way) → may_change (access_of way) ≡ true
+  AreTested args row = (place : ℕ) (way : Use) → may_change (access_of way) ≡ true
       → (row.first ≡ tests.Object place way) ⊎ (row.second ≡ tests.Object place way)
       → Spared ByCode (argument args place)
 

@@ -113,9 +113,9 @@ module _ (known : Known) where
   class_word : (c : ApiClass) (o : Object TaggedValue) → is_same_name (Api api.Object) (Api c) ≡ false
       → above_in most_classes c api.Object ≡ false → (index : ℕ)
       → ((k : ℕ) → comes_to_end w.shapes k (Api c) ≡ true → index < cells_within k c)
-      → is_of_class w.shapes (Api c) o.kind.object ≡ true → CellsTyped w.shapes call.heap o.cells o.kind.object
+      → is_of_class w.shapes (Api c) o.kind.object_type ≡ true → CellsTyped w.shapes call.heap o.cells o.kind.object_type
       → IsWordAt o.cells index
-  class_word c o other none index enough below typed = by_type o.kind.object below typed
+  class_word c o other none index enough below typed = by_type o.kind.object_type below typed
     where
       by_type : (type : ObjectType) → is_of_class w.shapes (Api c) type ≡ true
           → CellsTyped w.shapes call.heap o.cells type → IsWordAt o.cells index

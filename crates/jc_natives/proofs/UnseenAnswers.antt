@@ -43,7 +43,7 @@ use Rattle.jc_natives.specs.declared.native.SystemNative.{SystemNative}
 use Rattle.jc_natives.specs.declared.native.UtilityNative.{UtilityNative}
 use Rattle.jc_natives.specs.declared.row.Length.{Length}
 use Rattle.jc_natives.specs.declared.row.Length.TheVariants as lengths
-use Rattle.jc_natives.specs.declared.row.Way.TheVariants.{Calls}
+use Rattle.jc_natives.specs.declared.row.Use.TheVariants.{Calls}
 use Rattle.jc_store.specs.Heap.{Heap, Object, cells_in, object_at}
 use Rattle.jc_words.specs.Values.{Ref, TaggedValue}
 

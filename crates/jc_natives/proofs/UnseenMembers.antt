@@ -39,8 +39,8 @@ use Rattle.jc_natives.specs.declared.native.UtilityNative.{UtilityNative}
 use Rattle.jc_natives.specs.declared.native.UtilityNative.TheVariants as utilities
 use Rattle.jc_natives.specs.declared.row.Length.{Length}
 use Rattle.jc_natives.specs.declared.row.Length.TheVariants as lengths
-use Rattle.jc_natives.specs.declared.row.Way.{Way}
-use Rattle.jc_natives.specs.declared.row.Way.TheVariants.{Calls, Fields, Loads, Stores}
+use Rattle.jc_natives.specs.declared.row.Use.{Use}
+use Rattle.jc_natives.specs.declared.row.Use.TheVariants.{Calls, Fields, Loads, Stores}
 use Rattle.jc_store.specs.Heap.{Heap, Object, object_at}
 use Rattle.jc_words.specs.Values.{TaggedValue}
 
@@ -59,7 +59,7 @@ module _ (context : ℕ) (w : World) (call : NativeCall Kept) (K : Heap TaggedVa
   abbrev Read : ℕ → Type 0
   Read place = Reads context w call K alike own applet other place
 
-  reads_by : (place : ℕ) (way : Way) (null : Checked) → (uses h place way null).ends ≡ Passed → Read place
+  reads_by : (place : ℕ) (way : Use) (null : Checked) → (uses h place way null).ends ≡ Passed → Read place
   reads_by place way null e = uses_read context w call K alike own applet other place way null e
 
   aids_by : (n : ℕ) → object_at H n ≡ object_at K n → aid_in H n ≡ aid_in K n

@@ -22,7 +22,7 @@ use Rattle.jc_natives.specs.Cells.{low}
 use Rattle.jc_natives.specs.Kept.{Kept}
 use Rattle.jc_natives.specs.Taking.{Called, aid_in, aid_length, as_reference, as_word, bytes_in, called}
 use Rattle.jc_natives.specs.Taking.{word_at, words_in}
-use Rattle.jc_natives.specs.declared.row.Way.{Way}
+use Rattle.jc_natives.specs.declared.row.Use.{Use}
 use Rattle.jc_store.specs.Heap.{Heap, Object, object_at}
 use Rattle.jc_store.specs.declared.kind.Mark.{Mark}
 use Rattle.jc_store.specs.declared.kind.Mark.TheVariants.{Plain}
@@ -103,12 +103,12 @@ module _ (context : ℕ) (w : World) (call : NativeCall Kept) (K : Heap TaggedVa
   abbrev pub Reads : ℕ → Type 0
   Reads place = (n : ℕ) → option_and_then as_reference (slice_get call.arguments place) ≡ Some n → SameAt n
 
-  passed_allowed : (way : Way) (n : ℕ) (v : Verdict) → (by_verdict h way n v).ends ≡ Passed → is_allowed v ≡ true
+  passed_allowed : (way : Use) (n : ℕ) (v : Verdict) → (by_verdict h way n v).ends ≡ Passed → is_allowed v ≡ true
   passed_allowed way n Allowed e = refl
   passed_allowed way n (AllowedSwitch owner) e = refl
   passed_allowed way n (Denied rule) e = absurd cc
 
-  used_seen : (way : Way) (n : ℕ) (o : Object TaggedValue) → (judged h way n o).ends ≡ Passed
+  used_seen : (way : Use) (n : ℕ) (o : Object TaggedValue) → (judged h way n o).ends ≡ Passed
       → is_hidden context o ≡ false
   used_seen way n o e = by_test (o.owner.context == context && is_plain o.kind.mark) refl
     where
@@ -133,7 +133,7 @@ module _ (context : ℕ) (w : World) (call : NativeCall Kept) (K : Heap TaggedVa
           absurd (by_owner parts.0 (own_use way call.active.context (facts_in w.shapes call.selected o None false) fine
           (plain_of o.kind.mark parts.1)))
 
-  pub uses_read : (place : ℕ) (way : Way) (null : Checked) → (uses h place way null).ends ≡ Passed → Reads place
+  pub uses_read : (place : ℕ) (way : Use) (null : Checked) → (uses h place way null).ends ≡ Passed → Reads place
   uses_read place way null e n f = by_argument (slice_get call.arguments place) e f
     where
       by_object : (m : ℕ) (x : Option (Object TaggedValue)) → object_at H m ≡ x

@@ -19,8 +19,8 @@ use Rattle.jc_natives.specs.Kept.{Kept}
 use Rattle.jc_natives.specs.Taking.{Called, aid_in, as_reference, called, on_length, on_word}
 use Rattle.jc_natives.specs.declared.row.Length.{Length}
 use Rattle.jc_natives.specs.declared.row.Length.TheVariants as lengths
-use Rattle.jc_natives.specs.declared.row.Way.{Way}
-use Rattle.jc_natives.specs.declared.row.Way.TheVariants.{Calls}
+use Rattle.jc_natives.specs.declared.row.Use.{Use}
+use Rattle.jc_natives.specs.declared.row.Use.TheVariants.{Calls}
 use Rattle.jc_store.specs.Heap.{Heap, Object, object_at}
 use Rattle.jc_words.specs.Values.{Null, Ref, TaggedValue, Unset, Word}
 
@@ -64,7 +64,7 @@ module _ (context : ℕ) (w : World) (call : NativeCall Kept) (K : Heap TaggedVa
       by_objects None (Some p) a = absurd a
       by_objects (Some o) None a = absurd a
 
-  pub uses_same : (place : ℕ) (way : Way) (null : Checked) → uses h place way null ≡ uses k place way null
+  pub uses_same : (place : ℕ) (way : Use) (null : Checked) → uses h place way null ≡ uses k place way null
   uses_same place way null = by_argument (slice_get call.arguments place)
     where
       by_argument : (a : Option TaggedValue)

@@ -37,8 +37,8 @@ use Rattle.jc_natives.specs.declared.native.SystemNative.{SystemNative}
 use Rattle.jc_natives.specs.declared.native.SystemNative.TheVariants as system
 use Rattle.jc_natives.specs.declared.native.UtilityNative.{UtilityNative}
 use Rattle.jc_natives.specs.declared.row.Length.TheVariants.{ByteAt}
-use Rattle.jc_natives.specs.declared.row.Way.{Way}
-use Rattle.jc_natives.specs.declared.row.Way.TheVariants.{Calls}
+use Rattle.jc_natives.specs.declared.row.Use.{Use}
+use Rattle.jc_natives.specs.declared.row.Use.TheVariants.{Calls}
 use Rattle.jc_store.specs.Heap.{Object, object_at}
 use Rattle.jc_store.specs.declared.kind.ClearingEvent.{ClearingEvent}
 use Rattle.jc_words.specs.Values.{Null, Ref, TaggedValue, Unset, Word}
@@ -152,7 +152,7 @@ abbrev IsOwnRefusal : TestEnd → Type 0
 IsOwnRefusal e = is_own_refusal e ≡ true
 
 module _ (h : Called) where
-  uses_refuses : (place : ℕ) (way : Way) (null : Checked) → IsOwnRefusal null.ends
+  uses_refuses : (place : ℕ) (way : Use) (null : Checked) → IsOwnRefusal null.ends
       → IsOwnRefusal (uses h place way null).ends
   uses_refuses place way null e = by_argument (slice_get h.call.arguments place)
     where

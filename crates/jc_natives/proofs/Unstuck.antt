@@ -32,8 +32,8 @@ use Rattle.jc_natives.specs.Taking.{Called, as_reference, as_word, called, on_ai
 use Rattle.jc_natives.specs.Taking.{on_length, on_object, on_range, on_reference, on_word, on_words}
 use Rattle.jc_natives.specs.declared.row.Length.{Length}
 use Rattle.jc_natives.specs.declared.row.Length.TheVariants.{ByteAt, Fixed, OfAid as AsAid, ShortAt}
-use Rattle.jc_natives.specs.declared.row.Way.{Way}
-use Rattle.jc_natives.specs.declared.row.Way.TheVariants.{Calls}
+use Rattle.jc_natives.specs.declared.row.Use.{Use}
+use Rattle.jc_natives.specs.declared.row.Use.TheVariants.{Calls}
 use Rattle.jc_store.specs.Heap.{Heap, Object, object_at}
 use Rattle.jc_words.specs.Values.{Null, Ref, TaggedValue, Unset, Word}
 
@@ -305,14 +305,14 @@ module _ (known : Known) (kinds : List Kind)
 
   -- ---- tests
 
-  verdict_fit : (way : Way) (number : ℕ) (v : Verdict) → is_fit (checks.by_verdict h way number v).ends ≡ true
+  verdict_fit : (way : Use) (number : ℕ) (v : Verdict) → is_fit (checks.by_verdict h way number v).ends ≡ true
   verdict_fit way number v = grind arith
 
-  value_fit : (way : Way) (null : Checked) → is_fit null.ends ≡ true → (v : TaggedValue) → Leading heap v
+  value_fit : (way : Use) (null : Checked) → is_fit null.ends ≡ true → (v : TaggedValue) → Leading heap v
       → is_fit (uses_value h way null v).ends ≡ true
   value_fit way null h1 v h2 = grind (arith, verdict_fit)
 
-  uses_fit : (place : ℕ) (way : Way) (null : Checked) → is_fit null.ends ≡ true → at kinds is_leading place ≡ true
+  uses_fit : (place : ℕ) (way : Use) (null : Checked) → is_fit null.ends ≡ true → at kinds is_leading place ≡ true
       → is_fit (uses h place way null).ends ≡ true
   uses_fit place way null fits e =
       let v = leads_at place e in
@@ -384,7 +384,7 @@ module _ (known : Known) (kinds : List Kind)
   IsShown CallsOtherAid = ⊤
   IsShown (HasRange place offset count) = ⊤
 
-  uses_show : (place : ℕ) (way : Way) → (uses h place way (refused 6)).ends ≡ Passed
+  uses_show : (place : ℕ) (way : Use) → (uses h place way (refused 6)).ends ≡ Passed
       → There heap (argument args place)
   uses_show place way e = by_value (slice_get call.arguments place) refl e
     where

@@ -18,8 +18,8 @@ use Rattle.jc_names.specs.declared.name.ClassName.TheVariants.{Api}
 use Rattle.jc_natives.specs.Cells.{is_within}
 use Rattle.jc_natives.specs.Taking.{Called, on_length, on_object, on_reference, on_word}
 use Rattle.jc_natives.specs.declared.row.Length.{Length}
-use Rattle.jc_natives.specs.declared.row.Way.{Way}
-use Rattle.jc_natives.specs.declared.row.Way.TheVariants.{Calls, Fields, Loads, Stores}
+use Rattle.jc_natives.specs.declared.row.Use.{Use}
+use Rattle.jc_natives.specs.declared.row.Use.TheVariants.{Calls, Fields, Loads, Stores}
 use Rattle.jc_store.specs.Heap.{Object, object_at}
 use Rattle.jc_words.specs.Values.{Null, Ref, TaggedValue, Unset, Word}
 
@@ -27,9 +27,9 @@ use Rattle.jc_words.specs.Values.{Null, Ref, TaggedValue, Unset, Word}
 
 pub data Check : Type 0 where
   -- the argument at a place is an object that may be used so
-  Uses : (place : ℕ) (way : Way) → Check
+  Uses : (place : ℕ) (way : Use) → Check
   -- it is null, or such an object
-  UsesUnlessNull : (place : ℕ) (way : Way) → Check
+  UsesUnlessNull : (place : ℕ) (way : Use) → Check
   -- the second argument may be called, where the first and it are AIDs
   CallsOtherAid : Check
   -- so many components from the offset at a place on lie within the array at a place, or there is null
@@ -70,13 +70,13 @@ followed first later = goes_on first.touches first.ends later
 
 -- the access by which the firewall decides on a use of an object: of a constructor's, whose fields are set; of an array
 -- that is read or written; of an object whose member is called
-abbrev pub access_of : Way → Access
+abbrev pub access_of : Use → Access
 access_of Fields = PutField
 access_of Loads = LoadComponent
 access_of Stores = StoreComponent
 access_of Calls = InvokeVirtual
 
-abbrev pub touch_of : Called → Way → ℕ → Verdict → Touch
+abbrev pub touch_of : Called → Use → ℕ → Verdict → Touch
 touch_of h way number verdict = record {
   by = ByCode;
   active = h.call.active.context;
@@ -88,7 +88,7 @@ touch_of h way number verdict = record {
 }
 
 -- a denied access is the last, and throws
-abbrev pub by_verdict : Called → Way → ℕ → Verdict → Checked
+abbrev pub by_verdict : Called → Use → ℕ → Verdict → Checked
 by_verdict h way number Allowed = record { touches = touch_of h way number Allowed ∷ []; ends = Passed }
 by_verdict h way number (AllowedSwitch owner) =
     record { touches = touch_of h way number (AllowedSwitch owner) ∷ []; ends = Passed }
@@ -96,7 +96,7 @@ by_verdict h way number (Denied rule) =
     record { touches = touch_of h way number (Denied rule) ∷ []; ends = Refused security_exception }
 
 -- no such access stores a reference, or asks for an interface
-abbrev pub judged : Called → Way → ℕ → Object TaggedValue → Checked
+abbrev pub judged : Called → Use → ℕ → Object TaggedValue → Checked
 judged h way number object =
     by_verdict h way number (verdict_of (access_of way) h.call.active.context
     (facts_in h.shapes h.call.selected object None false))
@@ -104,18 +104,18 @@ judged h way number object =
 -- ---- objects
 
 -- what a value leads to, where null comes to something of its own
-abbrev pub uses_value : Called → Way → Checked → TaggedValue → Checked
+abbrev pub uses_value : Called → Use → Checked → TaggedValue → Checked
 uses_value h way null (Word n) = unfit
 uses_value h way null (Ref n) = option_map_or (judged h way n) (object_at h.call.heap n) unfit
 uses_value h way null Null = null
 uses_value h way null Unset = unfit
 
-abbrev pub uses : Called → ℕ → Way → Checked → Checked
+abbrev pub uses : Called → ℕ → Use → Checked → Checked
 uses h place way null = option_map_or (uses_value h way null) (slice_get h.call.arguments place) unfit
 
 -- whether an object is an AID: of class AID or below it. Null is none
 abbrev pub is_aid_object : Called → Object TaggedValue → Bool
-is_aid_object h object = is_of_class h.shapes (Api Aid) object.kind.object
+is_aid_object h object = is_of_class h.shapes (Api Aid) object.kind.object_type
 
 abbrev pub is_aid_value : Called → TaggedValue → Option Bool
 is_aid_value h (Word n) = None

@@ -23,7 +23,7 @@ owner context = record { context = context; instance = 1 }
 
 abbrev pub object : ObjectType → ℕ → List TaggedValue → Object TaggedValue
 object type context cells =
-    record { kind = record { object = type; mark = Plain; clears = None }; owner = owner context; cells = cells }
+    record { kind = record { object_type = type; mark = Plain; clears = None }; owner = owner context; cells = cells }
 
 -- 1: an array of four bytes; 2: an array of another context; 3: an object that is its own; 4: an array of references
 abbrev pub four : Heap TaggedValue

@@ -55,7 +55,7 @@ blank_of References = Null
 -- a transient array, of the active owner
 abbrev pub new_array : Owner → NewArray → Object TaggedValue
 new_array owner array = record {
-  kind = record { object = array_type array.elements; mark = Plain; clears = Some array.event };
+  kind = record { object_type = array_type array.elements; mark = Plain; clears = Some array.event };
   owner = owner;
   cells = replicate array.size (blank_of array.elements);
 }
@@ -64,7 +64,7 @@ new_array owner array = record {
 
 -- by which components are written
 abbrev pub write_access : Object TaggedValue → Access
-write_access object = if is_array object.kind.object then StoreComponent else PutField
+write_access object = if is_array object.kind.object_type then StoreComponent else PutField
 
 abbrev pub own_touch : ℕ → Object TaggedValue → Touch
 own_touch number object = runtime_touch (write_access object) number
@@ -159,7 +159,7 @@ answer_of w call =
 
 -- a registered instance has an AID and a number, and its object is there: of class Applet or below it, and its own
 abbrev pub has_applet : List Shape → Instance → Object TaggedValue → Bool
-has_applet shapes i object = is_of_class shapes (Api Applet) object.kind.object && is_same_owner object.owner i.owner
+has_applet shapes i object = is_of_class shapes (Api Applet) object.kind.object_type && is_same_owner object.owner i.owner
 
 abbrev pub fits_instance : List Shape → Heap TaggedValue → Instance → Bool
 fits_instance shapes heap i =

@@ -35,7 +35,7 @@ use Rattle.jc_natives.specs.declared.native.SystemNative.TheVariants as system
 use Rattle.jc_natives.specs.declared.native.UtilityNative.{UtilityNative}
 use Rattle.jc_natives.specs.declared.native.UtilityNative.TheVariants as utilities
 use Rattle.jc_natives.specs.declared.row.Length.TheVariants.{ByteAt, Fixed, OfAid as AsAid, ShortAt}
-use Rattle.jc_natives.specs.declared.row.Way.TheVariants.{Calls, Fields, Loads, Stores}
+use Rattle.jc_natives.specs.declared.row.Use.TheVariants.{Calls, Fields, Loads, Stores}
 use Rattle.jc_store.specs.Heap.{Object}
 use Rattle.jc_store.specs.declared.kind.ClearingEvent.{ClearingEvent}
 use Rattle.jc_store.specs.declared.kind.ClearingEvent.TheVariants.{Deselect, Reset}

@@ -11,7 +11,7 @@ use Rattle.jc_natives.specs.PrivateRows.{rows_of, range, called_on}
 use Rattle.jc_natives.specs.declared.row.MemberRow.{MemberRow}
 use Rattle.jc_natives.specs.declared.row.Length.TheVariants.{ByteAt, OfAid as AsAid}
 use Rattle.jc_natives.specs.declared.row.Test.TheVariants.{Object, ObjectOrNull}
-use Rattle.jc_natives.specs.declared.row.Way.TheVariants.{Fields, Loads, Stores}
+use Rattle.jc_natives.specs.declared.row.Use.TheVariants.{Fields, Loads, Stores}
 
 -- what each tests
 abbrev pub aid_row : AidNative → MemberRow

@@ -19,7 +19,7 @@ use Rattle.jc_natives.specs.PrivateRows.{called, called_on}
 use Rattle.jc_natives.specs.declared.row.MemberRow.{MemberRow}
 use Rattle.jc_natives.specs.declared.row.Length.TheVariants.{ShortAt}
 use Rattle.jc_natives.specs.declared.row.Test.TheVariants.{Object}
-use Rattle.jc_natives.specs.declared.row.Way.TheVariants.{Loads}
+use Rattle.jc_natives.specs.declared.row.Use.TheVariants.{Loads}
 
 -- what each tests
 abbrev pub apdu_row : ApduNative → MemberRow

@@ -10,13 +10,13 @@ use Rattle.jc_natives.specs.PrivateTests.{used}
 use Rattle.jc_natives.specs.PrivateWords.{done_of, word_work}
 use Rattle.jc_natives.specs.declared.ended.Ended.TheVariants as ends
 use Rattle.jc_natives.specs.declared.native.Native.{Native}
-use Rattle.jc_natives.specs.declared.row.Way.{Way}
+use Rattle.jc_natives.specs.declared.row.Use.{Use}
 use Rattle.jc_store.specs.Store.{IsThere, Store}
 
 -- an object is there, and may be used in a context in each way
 pub record MayBeUsed (store : Store) (number context : ℕ) : Type 0 where
   pub there : IsThere store number
-  pub used : (s : Seen) (way : Way) → s.objects ≡ store.objects → s.active.context ≡ context
+  pub used : (s : Seen) (way : Use) → s.objects ≡ store.objects → s.active.context ≡ context
       → (used s way number).thrown ≡ None
 
 -- it is an array, and has so many components from an index on

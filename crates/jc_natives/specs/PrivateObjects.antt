@@ -12,7 +12,7 @@ use Rattle.jc_store.specs.Heap.{Heap}
 use Rattle.jc_natives.specs.PrivateRows.{rows_of, untested, constructed, called}
 use Rattle.jc_natives.specs.declared.row.MemberRow.{MemberRow}
 use Rattle.jc_natives.specs.declared.row.Test.TheVariants.{BesideAid, Object}
-use Rattle.jc_natives.specs.declared.row.Way.TheVariants.{Calls}
+use Rattle.jc_natives.specs.declared.row.Use.TheVariants.{Calls}
 
 -- what each tests
 abbrev pub object_row : ObjectNative → MemberRow

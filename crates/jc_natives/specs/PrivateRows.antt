@@ -6,7 +6,7 @@ use Rattle.jc_natives.specs.declared.row.Range.{Range}
 use Rattle.jc_natives.specs.declared.row.MemberRow.{MemberRow}
 use Rattle.jc_natives.specs.declared.row.Test.{Test}
 use Rattle.jc_natives.specs.declared.row.Test.TheVariants.{Nothing, Object}
-use Rattle.jc_natives.specs.declared.row.Way.TheVariants.{Calls, Fields}
+use Rattle.jc_natives.specs.declared.row.Use.TheVariants.{Calls, Fields}
 
 -- ---- rows
 

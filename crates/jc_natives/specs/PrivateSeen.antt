@@ -41,4 +41,4 @@ arguments_of call = map bits call.arguments
 -- whether a number is that of an AID: of an object of class AID or below it
 abbrev pub is_aid_object : Seen → ℕ → Bool
 is_aid_object s number =
-    option_map_or (λ object. is_of_class s.shapes (Api Aid) object.kind.object) (object_at s.objects number) false
+    option_map_or (λ object. is_of_class s.shapes (Api Aid) object.kind.object_type) (object_at s.objects number) false

@@ -20,7 +20,7 @@ use Rattle.jc_natives.specs.PrivateRows.{untested, called, on_array}
 use Rattle.jc_natives.specs.declared.row.MemberRow.{MemberRow}
 use Rattle.jc_natives.specs.declared.row.Length.TheVariants.{ByteAt}
 use Rattle.jc_natives.specs.declared.row.Test.TheVariants.{Object}
-use Rattle.jc_natives.specs.declared.row.Way.TheVariants.{Loads}
+use Rattle.jc_natives.specs.declared.row.Use.TheVariants.{Loads}
 
 -- what each tests
 abbrev pub system_row : SystemNative → MemberRow

@@ -18,8 +18,8 @@ use Rattle.jc_natives.specs.declared.row.Range.{Range}
 use Rattle.jc_natives.specs.declared.row.MemberRow.{MemberRow}
 use Rattle.jc_natives.specs.declared.row.Test.{Test}
 use Rattle.jc_natives.specs.declared.row.Test.TheVariants.{BesideAid, Nothing, Object, ObjectOrNull}
-use Rattle.jc_natives.specs.declared.row.Way.{Way}
-use Rattle.jc_natives.specs.declared.row.Way.TheVariants.{Calls}
+use Rattle.jc_natives.specs.declared.row.Use.{Use}
+use Rattle.jc_natives.specs.declared.row.Use.TheVariants.{Calls}
 use Rattle.jc_store.specs.Heap as heaps
 use Rattle.jc_store.specs.Heap.{object_at}
 
@@ -51,7 +51,7 @@ abbrev pub facts_of : Seen → heaps.Object ℕ → Facts
 facts_of s object = record {
   owner = object.owner;
   mark = object.kind.mark;
-  is_array = is_array object.kind.object;
+  is_array = is_array object.kind.object_type;
   clears = object.kind.clears;
   stored = None;
   is_shareable = false;
@@ -59,7 +59,7 @@ facts_of s object = record {
   selected = s.selected;
 }
 
-abbrev pub touch_of : Seen → Way → ℕ → Verdict → Touch
+abbrev pub touch_of : Seen → Use → ℕ → Verdict → Touch
 touch_of s way number verdict = record {
   by = ByCode;
   active = s.active.context;
@@ -71,22 +71,22 @@ touch_of s way number verdict = record {
 }
 
 -- a denied access is the last, and throws
-abbrev pub by_verdict : Seen → Way → ℕ → Verdict → Tested
+abbrev pub by_verdict : Seen → Use → ℕ → Verdict → Tested
 by_verdict s way number Allowed = record { touches = touch_of s way number Allowed ∷ []; thrown = None }
 by_verdict s way number (AllowedSwitch owner) =
     record { touches = touch_of s way number (AllowedSwitch owner) ∷ []; thrown = None }
 by_verdict s way number (Denied rule) =
     record { touches = touch_of s way number (Denied rule) ∷ []; thrown = Some security_exception }
 
-abbrev pub judged : Seen → Way → ℕ → heaps.Object ℕ → Tested
+abbrev pub judged : Seen → Use → ℕ → heaps.Object ℕ → Tested
 judged s way number object = by_verdict s way number (verdict_of (access_of way) s.active.context (facts_of s object))
 
 -- null is no object
-abbrev pub on_object : Seen → Way → ℕ → Option (heaps.Object ℕ) → Tested
+abbrev pub on_object : Seen → Use → ℕ → Option (heaps.Object ℕ) → Tested
 on_object s way number None = fails null_pointer_exception
 on_object s way number (Some object) = judged s way number object
 
-abbrev pub used : Seen → Way → ℕ → Tested
+abbrev pub used : Seen → Use → ℕ → Tested
 used s way number = on_object s way number (object_at s.objects number)
 
 -- ---- one test

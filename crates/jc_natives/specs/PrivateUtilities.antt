@@ -13,7 +13,7 @@ use Rattle.jc_natives.specs.PrivateRows.{untested, on_array, on_arrays}
 use Rattle.jc_natives.specs.declared.row.MemberRow.{MemberRow}
 use Rattle.jc_natives.specs.declared.row.Length.TheVariants.{Fixed, ShortAt}
 use Rattle.jc_natives.specs.declared.row.Test.TheVariants.{Object}
-use Rattle.jc_natives.specs.declared.row.Way.TheVariants.{Loads, Stores}
+use Rattle.jc_natives.specs.declared.row.Use.TheVariants.{Loads, Stores}
 
 -- what each tests
 abbrev pub utility_row : UtilityNative → MemberRow

@@ -20,7 +20,7 @@ use Rattle.jc_natives.specs.declared.ended.Question.{Question}
 use Rattle.jc_natives.specs.declared.native.Native.{Native}
 use Rattle.jc_store.specs.Heap.{Heap, next_number}
 use Rattle.jc_store.specs.Store.{Store, fresh, with_made, with_objects}
-use Rattle.jc_store.specs.declared.kind.Kind.{Kind}
+use Rattle.jc_store.specs.declared.kind.ObjectKind.{ObjectKind}
 use Rattle.jc_store.specs.declared.kind.Mark.TheVariants.{Plain}
 
 -- what a call on words shows
@@ -52,8 +52,8 @@ ended_of (GivesWord word) = ends.Returned (Some word)
 ended_of (GivesReference number) = ends.Returned (Some number)
 ended_of (Throws object) = ends.Thrown object
 
-abbrev pub kind_of : NewArray → Kind
-kind_of array = record { object = array_type array.elements; mark = Plain; clears = Some array.event }
+abbrev pub kind_of : NewArray → ObjectKind
+kind_of array = record { object_type = array_type array.elements; mark = Plain; clears = Some array.event }
 
 abbrev pub did_on_words : Owner → Store → Kept → Work → Done
 did_on_words owner store k (Does writes runtime ending) =

@@ -16,7 +16,7 @@ use crate::ended::{Ended, throw_system};
 use crate::kept::Runtime;
 use crate::member::{Member, tested};
 use crate::native::AidNative;
-use crate::row::{Length, MemberRow, Test, Way};
+use crate::row::{Length, MemberRow, Test, Use};
 use crate::rows::{called_on, range};
 use jc_machine::WordCall;
 use jc_store::Store;
@@ -121,13 +121,13 @@ impl Member for AidNative {
     fn row(self) -> MemberRow {
         match self {
             AidNative::Construct => MemberRow {
-                first: Test::Object(0, Way::Fields),
-                second: Test::Object(1, Way::Loads),
+                first: Test::Object(0, Use::Fields),
+                second: Test::Object(1, Use::Loads),
                 first_range: range(1, 2, Length::ByteAt(3)),
                 second_range: None,
             },
-            AidNative::Equals => called_on(Test::ObjectOrNull(1, Way::Loads), Length::ByteAt(3)),
-            AidNative::GetBytes => called_on(Test::Object(1, Way::Stores), Length::OfAid(0)),
+            AidNative::Equals => called_on(Test::ObjectOrNull(1, Use::Loads), Length::ByteAt(3)),
+            AidNative::GetBytes => called_on(Test::Object(1, Use::Stores), Length::OfAid(0)),
         }
     }
 

@@ -13,7 +13,7 @@ use crate::ended::{Ended, throw_apdu};
 use crate::kept::{ApduState, Runtime};
 use crate::member::{Member, tested};
 use crate::native::ApduNative;
-use crate::row::{Length, MemberRow, Test, Way};
+use crate::row::{Length, MemberRow, Test, Use};
 use crate::rows::{called, called_on};
 use jc_machine::WordCall;
 use jc_store::Store;
@@ -235,7 +235,7 @@ impl Member for ApduNative {
     #[inline(always)]
     fn row(self) -> MemberRow {
         match self {
-            ApduNative::SendBytesLong => called_on(Test::Object(1, Way::Loads), Length::ShortAt(3)),
+            ApduNative::SendBytesLong => called_on(Test::Object(1, Use::Loads), Length::ShortAt(3)),
             ApduNative::GetBuffer
             | ApduNative::SetIncomingAndReceive
             | ApduNative::SetOutgoing

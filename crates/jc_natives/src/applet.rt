@@ -16,7 +16,7 @@ use crate::ended::{Ended, throw_system};
 use crate::kept::{Installing, Instance, Runtime};
 use crate::member::{Member, tested};
 use crate::native::AppletNative;
-use crate::row::{Length, MemberRow, Test, Way};
+use crate::row::{Length, MemberRow, Test, Use};
 use crate::rows::{called, called_on};
 use arrayvec::ArrayVec;
 use jc_base::Aid;
@@ -189,7 +189,7 @@ impl Member for AppletNative {
     fn row(self) -> MemberRow {
         match self {
             AppletNative::RegisterBytes => called_on(
-                Test::Object(1, Way::Loads),
+                Test::Object(1, Use::Loads),
                 Length::ByteAt(3),
             ),
             AppletNative::Register

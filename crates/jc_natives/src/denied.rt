@@ -6,7 +6,7 @@ ghost use Rattle.jc_natives.specs.PrivateMeaning.{row_of};
 use crate::cells::argument;
 use crate::member::Member;
 use crate::native::Native;
-use crate::row::{MemberRow, Test, Way};
+use crate::row::{MemberRow, Test, Use};
 use crate::tests::{access_of, facts_of};
 use jc_firewall::{Denial, denial};
 use jc_machine::WordCall;
@@ -27,7 +27,7 @@ fn row_of(native: Native) -> MemberRow
 }
 
 // What is denied of a use of an object.
-fn denied_use(store: &Store, call: &WordCall<'_>, way: Way, number: u16) -> Option<Denial> {
+fn denied_use(store: &Store, call: &WordCall<'_>, way: Use, number: u16) -> Option<Denial> {
     if !store.is_there(number) {
         return None;
     }
@@ -42,7 +42,7 @@ fn denied_test(store: &Store, call: &WordCall<'_>, wanted: Test) -> Option<Denia
         Test::Object(place, way) | Test::ObjectOrNull(place, way) => {
             denied_use(store, call, way, argument(call.arguments, place))
         }
-        Test::BesideAid => denied_use(store, call, Way::Calls, argument(call.arguments, 1)),
+        Test::BesideAid => denied_use(store, call, Use::Calls, argument(call.arguments, 1)),
     }
 }
 

@@ -12,7 +12,7 @@ use crate::ended::{Ended, throw_with};
 use crate::kept::Runtime;
 use crate::member::{Member, tested};
 use crate::native::ObjectNative;
-use crate::row::{MemberRow, Test, Way};
+use crate::row::{MemberRow, Test, Use};
 use crate::rows::{UNTESTED, called, constructed};
 use crate::tests::is_aid_object;
 use jc_machine::WordCall;
@@ -76,7 +76,7 @@ impl Member for ObjectNative {
         match self {
             ObjectNative::Construct | ObjectNative::ConstructWithReason => constructed(),
             ObjectNative::Equals => MemberRow {
-                first: Test::Object(0, Way::Calls),
+                first: Test::Object(0, Use::Calls),
                 second: Test::BesideAid,
                 ..UNTESTED
             },

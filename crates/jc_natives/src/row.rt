@@ -2,7 +2,7 @@
 
 /// How a member uses an object: the firewall decides by that.
 #[derive(Clone, Copy, Debug)]
-pub enum Way {
+pub enum Use {
     /// It constructs the object.
     Fields,
     /// It reads the components of the array.
@@ -19,9 +19,9 @@ pub enum Test {
     /// Nothing is tested.
     Nothing,
     /// The argument at a place is an object that may be used so.
-    Object(usize, Way),
+    Object(usize, Use),
     /// The argument at a place is null, or an object that may be used so.
-    ObjectOrNull(usize, Way),
+    ObjectOrNull(usize, Use),
     /// The second argument may be called, where both are AIDs.
     BesideAid,
 }

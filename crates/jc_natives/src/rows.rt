@@ -4,7 +4,7 @@
 ghost use Rattle.std.specs.Prelude.{◌≡◌};
 ghost use Rattle.jc_natives.specs.PrivateRows.{called, called_on, constructed, on_array, on_arrays, range};
 
-use crate::row::{Length, MemberRow, Range, Test, Way};
+use crate::row::{Length, MemberRow, Range, Test, Use};
 
 /// A range in an array, whose array and offset stand at these places.
 #[inline(always)]
@@ -32,7 +32,7 @@ pub(crate) fn constructed() -> MemberRow
     ensures { result ≡ constructed }
 {
     MemberRow {
-        first: Test::Object(0, Way::Fields),
+        first: Test::Object(0, Use::Fields),
         ..UNTESTED
     }
 }
@@ -43,7 +43,7 @@ pub(crate) fn called() -> MemberRow
     ensures { result ≡ called }
 {
     MemberRow {
-        first: Test::Object(0, Way::Calls),
+        first: Test::Object(0, Use::Calls),
         ..UNTESTED
     }
 }
@@ -54,7 +54,7 @@ pub(crate) fn called_on(array: Test, length: Length) -> MemberRow
     ensures { result ≡ called_on array length }
 {
     MemberRow {
-        first: Test::Object(0, Way::Calls),
+        first: Test::Object(0, Use::Calls),
         second: array,
         first_range: range(1, 2, length),
         second_range: None,

@@ -18,12 +18,12 @@ use crate::ended::{Ended, Question, throw_system};
 use crate::kept::{Instance, Runtime};
 use crate::member::{Member, tested};
 use crate::native::{Elements, SystemNative};
-use crate::row::{Length, MemberRow, Test, Way};
+use crate::row::{Length, MemberRow, Test, Use};
 use crate::rows::{UNTESTED, called, on_array};
 use jc_api::ApiClass;
 use jc_machine::WordCall;
 use jc_names::{ClassName, Owner};
-use jc_store::{ClearingEvent, Kind, Mark, ObjectType, Store};
+use jc_store::{ClearingEvent, Mark, ObjectKind, ObjectType, Store};
 
 // The reasons of a SystemException.
 const NO_TRANSIENT_SPACE: u16 = 2;
@@ -154,8 +154,8 @@ fn make_where_room(
         ≡ done_of call.now.active store.old runtime.now
         (Makes (record { elements = elements; event = event; size = size })) }
 {
-    let kind = Kind {
-        object: array_type(elements),
+    let kind = ObjectKind {
+        object_type: array_type(elements),
         mark: Mark::Plain,
         clears: Some(event),
     };
@@ -237,7 +237,7 @@ impl Member for SystemNative {
     #[inline(always)]
     fn row(self) -> MemberRow {
         match self {
-            SystemNative::LookupAid => on_array(Test::Object(0, Way::Loads), Length::ByteAt(2)),
+            SystemNative::LookupAid => on_array(Test::Object(0, Use::Loads), Length::ByteAt(2)),
             SystemNative::AskForShareable => called(),
             SystemNative::GetAid
             | SystemNative::GetPreviousAid

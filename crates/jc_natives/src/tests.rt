@@ -15,7 +15,7 @@ ghost use Rattle.jc_store.specs.Store as stores;
 ghost use Rattle.jc_store.specs.Store.{IsOwn, IsThere};
 
 use crate::cells::{aid_count, argument, extended, is_within, size};
-use crate::row::{Length, MemberRow, Range, Test, Way};
+use crate::row::{Length, MemberRow, Range, Test, Use};
 use jc_api::ApiClass;
 use jc_firewall::{Access, Facts, Verdict, decide, own_is_allowed};
 use jc_machine::WordCall;
@@ -33,14 +33,14 @@ const AID: ClassName = ClassName::Api(ApiClass::Aid);
 const OBJECT: ClassName = ClassName::Api(ApiClass::Object);
 
 #[inline(always)]
-pub(crate) fn access_of(way: Way) -> Access
+pub(crate) fn access_of(way: Use) -> Access
     ensures { result ≡ access_of way }
 {
     match way {
-        Way::Fields => Access::PutField,
-        Way::Loads => Access::LoadComponent,
-        Way::Stores => Access::StoreComponent,
-        Way::Calls => Access::InvokeVirtual,
+        Use::Fields => Access::PutField,
+        Use::Loads => Access::LoadComponent,
+        Use::Stores => Access::StoreComponent,
+        Use::Calls => Access::InvokeVirtual,
     }
 }
 
@@ -64,11 +64,11 @@ pub(crate) fn facts_of(store: &Store, call: &WordCall<'_>, number: u16) -> Facts
     ensures { (object : heaps.Object ℕ) → object_at store.now.objects number ≡ Some object
         → result ≡ facts_of (seen_in store.now call.now) object }
 {
-    let kind = store.class_of(number);
+    let kind = store.kind_of(number);
     Facts {
         owner: store.owner_of(number),
         mark: kind.mark,
-        is_array: is_array(kind.object),
+        is_array: is_array(kind.object_type),
         clears: kind.clears,
         stored: None,
         is_shareable: false,
@@ -80,7 +80,7 @@ pub(crate) fn facts_of(store: &Store, call: &WordCall<'_>, number: u16) -> Facts
 // What is thrown by a verdict, if it denies.
 #[inline(always)]
 fn thrown_by(verdict: Verdict) -> Option<u16>
-    ensures { (store : stores.Store) (call : words.WordCall) (way : Way) (number : ℕ)
+    ensures { (store : stores.Store) (call : words.WordCall) (way : Use) (number : ℕ)
         → result ≡ (by_verdict (seen_in store call) way number verdict).thrown }
 {
     match verdict {
@@ -101,7 +101,7 @@ fn is_own(store: &Store, call: &WordCall<'_>, number: u16) -> bool
 
 // Tests a use of any object, by the firewall.
 #[inline(never)]
-fn judged(store: &Store, call: &WordCall<'_>, way: Way, number: u16) -> Option<u16>
+fn judged(store: &Store, call: &WordCall<'_>, way: Use, number: u16) -> Option<u16>
     requires { IsThere store.now number }
     ensures { result ≡ (used (seen_in store.now call.now) way number).thrown }
 {
@@ -111,7 +111,7 @@ fn judged(store: &Store, call: &WordCall<'_>, way: Way, number: u16) -> Option<u
 
 // Tests a use of an object.
 #[inline(always)]
-fn used(store: &Store, call: &WordCall<'_>, way: Way, number: u16) -> Option<u16>
+fn used(store: &Store, call: &WordCall<'_>, way: Use, number: u16) -> Option<u16>
     ensures { result ≡ (used (seen_in store.now call.now) way number).thrown }
 {
     if !store.is_there(number) {
@@ -146,7 +146,7 @@ pub(crate) fn is_aid_object(store: &Store, call: &WordCall<'_>, number: u16) -> 
         && call
             .world
             .table()
-            .is_class_below(class_of(store.class_of(number).object), AID)
+            .is_class_below(class_of(store.kind_of(number).object_type), AID)
 }
 
 // Makes one test.
@@ -177,7 +177,7 @@ fn beside_aid(store: &Store, call: &WordCall<'_>) -> Option<u16>
     let one = argument(call.arguments, 0);
     let other = argument(call.arguments, 1);
     if is_aid_object(store, call, one) && is_aid_object(store, call, other) {
-        used(store, call, Way::Calls, other)
+        used(store, call, Use::Calls, other)
     } else {
         None
     }

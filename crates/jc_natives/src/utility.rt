@@ -12,7 +12,7 @@ use crate::ended::Ended;
 use crate::kept::Runtime;
 use crate::member::{Member, tested};
 use crate::native::UtilityNative;
-use crate::row::{Length, MemberRow, Test, Way};
+use crate::row::{Length, MemberRow, Test, Use};
 use crate::rows::{UNTESTED, on_array, on_arrays};
 use crate::words::low;
 use jc_machine::WordCall;
@@ -137,16 +137,16 @@ impl Member for UtilityNative {
     fn row(self) -> MemberRow {
         match self {
             UtilityNative::ArrayCopy => on_arrays(
-                Test::Object(0, Way::Loads),
-                Test::Object(2, Way::Stores),
+                Test::Object(0, Use::Loads),
+                Test::Object(2, Use::Stores),
             ),
-            UtilityNative::ArrayFill => on_array(Test::Object(0, Way::Stores), Length::ShortAt(2)),
+            UtilityNative::ArrayFill => on_array(Test::Object(0, Use::Stores), Length::ShortAt(2)),
             UtilityNative::ArrayCompare => on_arrays(
-                Test::Object(0, Way::Loads),
-                Test::Object(2, Way::Loads),
+                Test::Object(0, Use::Loads),
+                Test::Object(2, Use::Loads),
             ),
-            UtilityNative::GetShort => on_array(Test::Object(0, Way::Loads), Length::Fixed(2)),
-            UtilityNative::SetShort => on_array(Test::Object(0, Way::Stores), Length::Fixed(2)),
+            UtilityNative::GetShort => on_array(Test::Object(0, Use::Loads), Length::Fixed(2)),
+            UtilityNative::SetShort => on_array(Test::Object(0, Use::Stores), Length::Fixed(2)),
             UtilityNative::MakeShort => UNTESTED,
         }
     }

@@ -9,12 +9,12 @@ use std::marker::Model;
 
 /// A number, or none, in four bytes.
 #[derive(Drop)]
-struct Place {
+struct NumberCell {
     // One more than the number; 0 for none.
     held: u32,
 }
 
-impl Model for Place {
+impl Model for NumberCell {
     ghost use Rattle.std.specs.Prelude.{ℕ, Option};
     ghost use Rattle.jc_program.specs.PrivateLaid.{place_of};
 
@@ -23,22 +23,22 @@ impl Model for Place {
     ghost view = { λ p. place_of p.held };
 }
 
-impl Place {
+impl NumberCell {
     #[inline]
     #[tactic(auto, unfolding(crate::specs::PrivateLaid::place_of))]
-    fn none() -> Place
+    fn none() -> NumberCell
         ensures { result ≡ None }
     {
-        Place { held: 0 }
+        NumberCell { held: 0 }
     }
 
     #[inline]
     #[tactic(auto, unfolding(crate::specs::PrivateLaid::place_of))]
-    fn of(number: u32) -> Place
+    fn of(number: u32) -> NumberCell
         requires few { number < 0xFFFF_FFFF }
         ensures { result ≡ Some number }
     {
-        Place { held: number + 1 }
+        NumberCell { held: number + 1 }
     }
 
     /// Whether it is a number below another one.
@@ -56,7 +56,7 @@ impl Place {
         ensures { self.new ≡ below count self.old }
     {
         if !self.is_below(count) {
-            *self = Place::none();
+            *self = NumberCell::none();
         }
     }
 
@@ -76,7 +76,7 @@ impl Place {
 /// The numbers of the methods of one package, by their offsets.
 #[derive(Drop)]
 pub(crate) struct OffsetTable {
-    places: Vec<Place>,
+    places: Vec<NumberCell>,
 }
 
 impl Model for OffsetTable {
@@ -88,18 +88,18 @@ impl Model for OffsetTable {
 }
 
 /// Makes room for an offset.
-fn make_room(places: &mut Vec<Place>, offset: usize) -> Result<(), AllocError>
+fn make_room(places: &mut Vec<NumberCell>, offset: usize) -> Result<(), AllocError>
     ensures long { IfOk result (λ u. offset < length places.new.items) }
     ensures same { (i : ℕ) → place_at places.new.items i ≡ place_at places.old.items i }
 {
     while places.len() <= offset {
-        places.push(Place::none())?;
+        places.push(NumberCell::none())?;
     }
     Ok(())
 }
 
 /// Puts a number at an offset, where none is there.
-fn put_first(places: &mut Vec<Place>, offset: usize, number: u32) -> Result<(), AllocError>
+fn put_first(places: &mut Vec<NumberCell>, offset: usize, number: u32) -> Result<(), AllocError>
     requires few { number < 0xFFFF_FFFF }
     ensures done { IfOk result (λ u. (i : ℕ) → place_at places.new.items i
         ≡ (if offset == i then option_or (place_at places.old.items i) (Some number)
@@ -108,13 +108,13 @@ fn put_first(places: &mut Vec<Place>, offset: usize, number: u32) -> Result<(), 
 {
     make_room(places, offset)?;
     if places[offset].number().is_none() {
-        places[offset] = Place::of(number);
+        places[offset] = NumberCell::of(number);
     }
     Ok(())
 }
 
 /// Takes away the numbers from one on.
-fn forget_places(places: &mut Vec<Place>, count: usize)
+fn forget_places(places: &mut Vec<NumberCell>, count: usize)
     ensures { (i : ℕ) → place_at places.new.items i ≡ below count (place_at places.old.items i) }
 {
     for at in 0..places.len() {

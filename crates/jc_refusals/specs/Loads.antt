@@ -1,6 +1,6 @@
 -- Which refusals apply to a load, of whatever stage. That memory is out isn't told by what is loaded, so it is none of
 -- these.
-use Rattle.std.specs.Prelude.{◌≡◌, ℕ, ◌≤◌, ◌≢◌, false, List, Some, Ok, Err}
+use Rattle.std.specs.Prelude.{◌≡◌, ℕ, ◌≤◌, false, List, Some, Ok, Err}
 use Rattle.jc_base.specs.Fault.{number_of}
 use Rattle.jc_base.specs.Parts.{Infos}
 use Rattle.jc_base.specs.declared.fault.LoadFault.{LoadFault}

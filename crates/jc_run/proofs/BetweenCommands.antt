@@ -1,5 +1,5 @@
 -- Between commands no instance is being installed.
-use Rattle.std.proofs.Common.{◌≡◌, ℕ, List, [], ◌∷◌, Option, Some, None, IfSome, sym, ap, ◌∙◌, subst, Result, Ok, Err}
+use Rattle.std.proofs.Common.{◌≡◌, ℕ, List, Option, Some, None, IfSome, ap, ◌∙◌, subst, Result, Ok, Err}
 use Rattle.jc_base.specs.declared.fault.LoadFault.{LoadFault}
 use Rattle.jc_card.specs.Answering.{AreAnswered, IsInstalled, KeepsRegistered, failed, refused, succeeded}
 use Rattle.jc_card.specs.Card.{CardState}

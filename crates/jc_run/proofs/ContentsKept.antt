@@ -1,5 +1,5 @@
 -- A run keeps what a context's plain objects hold, as long as none of its steps runs in that context.
-use Rattle.std.proofs.Common.{◌≡◌, ℕ, true, List, [], ◌∷◌, ◌++◌, Option, Some, IfSome, refl, sym, ap, ◌∙◌, subst, not}
+use Rattle.std.proofs.Common.{◌≡◌, ℕ, true, List, [], ◌∷◌, ◌++◌, Option, IfSome, refl, sym, ap, ◌∙◌, subst, not}
 use Rattle.std.proofs.Common.{◌==◌, ◌&&◌}
 use Rattle.std.proofs.lemmas.Bool.{and_parts}
 use Rattle.std.proofs.lemmas.List.Folds.{list_all-append}
@@ -12,7 +12,7 @@ use Rattle.jc_card.specs.Parts.{Left}
 use Rattle.jc_card.specs.Unseen.{KeepsContents, KeepsOut}
 use Rattle.jc_machine.specs.Machine.{Touch}
 use Rattle.jc_machine.specs.Natives.{KeepsObjects}
-use Rattle.jc_machine.specs.Unseen.{is_hidden, is_plain, stays_out}
+use Rattle.jc_machine.specs.Unseen.{is_plain, stays_out}
 use Rattle.jc_names.specs.declared.owner.Owner.{Owner}
 use Rattle.jc_run.specs.Answer.{Answered}
 use Rattle.jc_run.specs.CardRun.{IsCardRun, accesses_of, contexts_in, contexts_of}
@@ -21,7 +21,7 @@ use Rattle.jc_run.specs.Play.{IsAnswered, IsGiven}
 use Rattle.jc_run.specs.Runs.{AreGuarded}
 use Rattle.jc_script.specs.Script.{Apdu, Cells, Install, Load, Objects, Reset, ScriptCommand, Steps}
 use Rattle.jc_store.specs.Heap.{Heap, Object, object_at}
-use Rattle.jc_store.specs.declared.kind.Kind.{Kind}
+use Rattle.jc_store.specs.declared.kind.ObjectKind.{ObjectKind}
 use Rattle.jc_words.specs.Values.{TaggedValue}
 
 -- what is known of each command
@@ -37,8 +37,8 @@ both context a b c stay first next n o p e f hidden clears =
     let s = stay n o e in
     next n s.object p s.found f
     (ap (λ (w : Owner). w.context == context && is_plain s.object.kind.mark) s.owner
-    ∙ ap (λ (k : Kind). o.owner.context == context && is_plain k.mark) s.kind ∙ hidden)
-    (ap (λ (k : Kind). k.clears) s.kind ∙ clears) ∙ first n o s.object e s.found hidden clears
+    ∙ ap (λ (k : ObjectKind). o.owner.context == context && is_plain k.mark) s.kind ∙ hidden)
+    (ap (λ (k : ObjectKind). k.clears) s.kind ∙ clears) ∙ first n o s.object e s.found hidden clears
 
 same_heap : (context : ℕ) (before after : Heap TaggedValue) → after ≡ before → KeepsContents context before after
 same_heap context before after is n o p e f hidden clears =

@@ -116,23 +116,23 @@ module _ {C : Type 0} (s : Surroundings C) (ground : Ground s) (m : Machine C) (
   are_arrays form = grind (arith, leads_up, holds_below, references_are)
 
   object_typed : (n : ℕ) (o : heaps.Object TaggedValue) → object_at m.heap n ≡ Some o
-      → CellsTyped shapes m.heap o.cells o.kind.object
+      → CellsTyped shapes m.heap o.cells o.kind.object_type
   object_typed n o found = (typed_at shapes m.heap t.beside.heap n o found).cells
 
   -- ---- a component is loaded
 
   -- from an array that is there
   from_array : (form : Form) (us vs : List TaggedValue) (index n : ℕ) (o : heaps.Object TaggedValue)
-      → object_at m.heap n ≡ Some o → is_array_of form o.kind.object ≡ true
+      → object_at m.heap n ≡ Some o → is_array_of form o.kind.object_type ≡ true
       → ((v : TaggedValue) → slice_get o.cells index ≡ Some v → IsSafe s (loads (at us) form v vs))
       → IsSafe s (on_object (at us) (Ref n) (λ number object.
-      check (is_array_of form object.kind.object)
+      check (is_array_of form object.kind.object_type)
       (accessed (at us) LoadComponent number object
       (require (at us) array_index_exception (is_in_bounds index object)
       (on_some (slice_get object.cells index) (λ v. loads (at us) form v vs))))))
   from_array form us vs index n o found is go =
       safe_some s (object_at m.heap n) o _ found
-      (safe_check s (is_array_of form o.kind.object) _ is
+      (safe_check s (is_array_of form o.kind.object_type) _ is
       (safe_accessed s ground m t d next us LoadComponent n o _
       (safe_required s ground m t d next us array_index_exception (is_in_bounds index o) _
       (array_index s ground m.heap t.beside.runtime_objects)
@@ -156,7 +156,7 @@ module _ {C : Type 0} (s : Surroundings C) (ground : Ground s) (m : Machine C) (
       (safe_null s ground m t d next (Word index ∷ Null ∷ vs))
       (λ n o found is.
       from_array form (Word index ∷ Ref n ∷ vs) vs index n o found is (λ v there.
-      let l = loaded_number shapes m.heap form o.cells o.kind.object v index (object_typed n o found) is numbers there
+      let l = loaded_number shapes m.heap form o.cells o.kind.object_type v index (object_typed n o found) is numbers there
       in
       safe_loads s (at (Word index ∷ Ref n ∷ vs)) form v vs shapes m.heap types.Word l
       (gives_it s ground m t d next (array_of form ∷ word ∷ []) (Word index ∷ Ref n ∷ vs) vs l.value types.Word after a
@@ -174,7 +174,7 @@ module _ {C : Type 0} (s : Surroundings C) (ground : Ground s) (m : Machine C) (
 
   -- a reference to an object passes the test that its type is
   ref_holds : (c : ClassName) (n : ℕ) (o : heaps.Object TaggedValue) → object_at m.heap n ≡ Some o
-      → leads_to m.heap (holds_below shapes c) (Ref n) ≡ true → holds_below shapes c o.kind.object ≡ true
+      → leads_to m.heap (holds_below shapes c) (Ref n) ≡ true → holds_below shapes c o.kind.object_type ≡ true
   ref_holds c n o found h = grind (arith, holds_below)
 
   -- a component of an array whose components count below a class is of that class
@@ -202,7 +202,7 @@ module _ {C : Type 0} (s : Surroundings C) (ground : Ground s) (m : Machine C) (
   component_typed types.ByteArray n o index v b h found e = absurd cc
   component_typed types.ShortArray n o index v b h found e = absurd cc
   component_typed (types.ReferenceArray c) n o index v b h found e =
-      let has = component_has c o.kind.object o.cells index v (ref_holds c n o found h) (object_typed n o found) e in
+      let has = component_has c o.kind.object_type o.cells index v (ref_holds c n o found h) (object_typed n o found) e in
       reference_loaded shapes m.heap (is_of_class shapes c) (component_of (types.ReferenceArray c)) v has has
 
   pub load_reference : (vs : List TaggedValue) (us : List Ty) (after_it : Types) → HoldTypes shapes m.heap vs us
@@ -261,13 +261,13 @@ module _ {C : Type 0} (s : Surroundings C) (ground : Ground s) (m : Machine C) (
       (λ n o found is.
       let us = Word k ∷ Word index ∷ Ref n ∷ vs in
       safe_some s (object_at m.heap n) o _ found
-      (safe_check s (is_array_of form o.kind.object) _ is
+      (safe_check s (is_array_of form o.kind.object_type) _ is
       (safe_accessed s ground m t d next us StoreComponent n o _
       (safe_required s ground m t d next us array_index_exception (is_in_bounds index o) _
       (array_index s ground m.heap t.beside.runtime_objects)
       (λ inside.
       leaves_stored s ground m t d next us vs after_it n o index (stored_as form (Word k)) found
-      (stored_number shapes m.heap form o.cells o.kind.object k index (object_typed n o found) is numbers little)
+      (stored_number shapes m.heap form o.cells o.kind.object_type k index (object_typed n o found) is numbers little)
       (locals_still s ground m t after_it.locals l.locals_are)
       (held s ground m t (drop 3 (state s ground m t).operands) after_it.operands vs l.operands_are rest)
       leads))))))))
@@ -303,11 +303,11 @@ module _ {C : Type 0} (s : Surroundings C) (ground : Ground s) (m : Machine C) (
       (safe_null s ground m t d next (w ∷ Word index ∷ Null ∷ vs))))
       (λ n o found is.
       let us = w ∷ Word index ∷ Ref n ∷ vs in
-      let array = holds_references shapes (Api api.Object) o.kind.object is in
+      let array = holds_references shapes (Api api.Object) o.kind.object_type is in
       safe_check s (is_tagged_reference w) _ (leads_reference w value_is)
       (safe_check s (leads_to m.heap any_object w) _ value_is
       (safe_some s (object_at m.heap n) o _ found
-      (safe_some s (component_class o.kind.object) array.class _ (ap component_class array.is)
+      (safe_some s (component_class o.kind.object_type) array.class _ (ap component_class array.is)
       (safe_to_store s ground m t d next us StoreReference n o w _
       (safe_required s ground m t d next us array_index_exception (is_in_bounds index o) _
       (array_index s ground m.heap t.beside.runtime_objects)
@@ -316,7 +316,7 @@ module _ {C : Type 0} (s : Surroundings C) (ground : Ground s) (m : Machine C) (
       (array_store s ground m.heap t.beside.runtime_objects)
       (λ fits.
       leaves_stored s ground m t d next us vs after_it n o index w found
-      (reference_put o.kind.object array.class o.cells index w array.is (object_typed n o found) fits)
+      (reference_put o.kind.object_type array.class o.cells index w array.is (object_typed n o found) fits)
       (locals_still s ground m t after_it.locals l.locals_are)
       (held s ground m t (drop 3 (state s ground m t).operands) after_it.operands vs l.operands_are rest)
       leads))))))))))
@@ -335,7 +335,7 @@ module _ {C : Type 0} (s : Surroundings C) (ground : Ground s) (m : Machine C) (
       (safe_null s ground m t d next (Null ∷ vs))
       (λ n o found is.
       safe_some s (object_at m.heap n) o _ found
-      (safe_check s (is_array o.kind.object) _ is
+      (safe_check s (is_array o.kind.object_type) _ is
       (safe_accessed s ground m t d next (Ref n ∷ vs) ArrayLength n o _
       (gives_it s ground m t d next (Array ∷ []) (Ref n ∷ vs) vs (Word (length o.cells)) types.Word after_it a
       (record {

@@ -207,7 +207,7 @@ module _ {C : Type 0} (s : Surroundings C) (ground : Ground s) (m : Machine C) (
         → (signature : Signature ClassName) (later : Types) → Applied below most (call (e ∷ []) signature) state later
         → (go : List TaggedValue → ℕ → heaps.Object TaggedValue → List TaggedValue → Stepped C)
         → ((n : ℕ) (o : heaps.Object TaggedValue) (vs : List TaggedValue) → object_at m.heap n ≡ Some o
-        → test o.kind.object ≡ true → are_of_types shapes m.heap signature.parameters (given_to signature) ≡ true
+        → test o.kind.object_type ≡ true → are_of_types shapes m.heap signature.parameters (given_to signature) ≡ true
         → HoldTypes shapes m.heap vs (drop (suc (length (asked signature.parameters))) state.operands)
         → IsSafe s (go (Ref n ∷ given_to signature) n o vs))
         → IsSafe s (with_receiver (at ops) signature go)
@@ -252,8 +252,8 @@ module _ {C : Type 0} (s : Surroundings C) (ground : Ground s) (m : Machine C) (
       invoked name result arguments may switch vs site = search (arith, site, invokes_safe, as_it_was)
 
       object_made : (n : ℕ) (o : heaps.Object TaggedValue) → object_at m.heap n ≡ Some o
-          → IsMade s ground (class_of o.kind.object)
-      object_made n o found = class_made s ground o.kind.object (typed_at shapes m.heap t.beside.heap n o found).made
+          → IsMade s ground (class_of o.kind.object_type)
+      object_made n o found = class_made s ground o.kind.object_type (typed_at shapes m.heap t.beside.heap n o found).made
 
       -- ---- a method that is looked up from the object's class
 
@@ -265,16 +265,16 @@ module _ {C : Type 0} (s : Surroundings C) (ground : Ground s) (m : Machine C) (
       virtual_safe invocation entry class token signature later stands a v small =
           receiver_safe (Below (types.Class class)) (is_of_class shapes class) (λ u is. is.type) signature later a
           (λ arguments n o vs.
-          check (is_of_class shapes class o.kind.object) (judged (at ops) (asking InvokeVirtual n) o (λ switch. on_some (found_for (at ops) token o) (λ method. invokes
+          check (is_of_class shapes class o.kind.object_type) (judged (at ops) (asking InvokeVirtual n) o (λ switch. on_some (found_for (at ops) token o) (λ method. invokes
           (at ops) switch method arguments vs))))
           (λ n o vs there is fit rest.
           let made = object_made n o there in
-          let kept = ground.sound.virtual_methods.kept (class_of o.kind.object) class token home v.method
-          (heir_below s ground (class_of o.kind.object) class is made.class v.class_there) small v.finds in
+          let kept = ground.sound.virtual_methods.kept (class_of o.kind.object_type) class token home v.method
+          (heir_below s ground (class_of o.kind.object_type) class is made.class v.class_there) small v.finds in
           let concrete = made.finished.concrete token home kept.method small home_within kept.found in
           let may = found_method s ground m.heap n o token home kept.method signature (given_to signature) there
           kept.found concrete (kept.type ∙ v.type) fit in
-          safe_check s (is_of_class shapes class o.kind.object) _ is
+          safe_check s (is_of_class shapes class o.kind.object_type) _ is
           (safe_judged s (at ops) (asking InvokeVirtual n) o _
           (throws_at s ground m t ops _ (security s ground m.heap t.beside.runtime_objects))
           (λ switch.
@@ -289,22 +289,22 @@ module _ {C : Type 0} (s : Surroundings C) (ground : Ground s) (m : Machine C) (
           → (signature : Signature ClassName) (later : Types) → IsCall invocation later next
           → Applied below most (call (Below (types.Class class) ∷ []) signature) state later
           → ((n : ℕ) (o : heaps.Object TaggedValue) → object_at m.heap n ≡ Some o
-          → is_of_class shapes class o.kind.object ≡ true
+          → is_of_class shapes class o.kind.object_type ≡ true
           → are_of_types shapes m.heap signature.parameters (given_to signature) ≡ true
           → MayCall shapes m.heap method (returned_type signature.result) (Ref n ∷ given_to signature))
           → IsSafe s (act_special (at ops) (record { class = class; method = method; signature = signature }))
       special_safe invocation class method signature later stands a may =
           receiver_safe (Below (types.Class class)) (is_of_class shapes class) (λ u is. is.type) signature later a
-          (λ arguments n o vs. check (is_of_class shapes class o.kind.object) (invokes
+          (λ arguments n o vs. check (is_of_class shapes class o.kind.object_type) (invokes
           (at ops) None method arguments vs))
           (λ n o vs there is fit rest.
-          safe_check s (is_of_class shapes class o.kind.object) _ is
+          safe_check s (is_of_class shapes class o.kind.object_type) _ is
           (invoked method (returned_type signature.result) (Ref n ∷ given_to signature) (may n o there is fit) None vs
           (site next invocation later stands signature (Below (types.Class class) ∷ []) a vs rest)))
 
       may_super : (class : ClassName) (method : MethodName) (signature : Signature ClassName)
           → IsSuper shapes home class method signature → (n : ℕ) (o : heaps.Object TaggedValue)
-          → object_at m.heap n ≡ Some o → is_of_class shapes class o.kind.object ≡ true
+          → object_at m.heap n ≡ Some o → is_of_class shapes class o.kind.object_type ≡ true
           → are_of_types shapes m.heap signature.parameters (given_to signature) ≡ true
           → MayCall shapes m.heap method (returned_type signature.result) (Ref n ∷ given_to signature)
       may_super class method signature x n o there is fit =
@@ -313,7 +313,7 @@ module _ {C : Type 0} (s : Surroundings C) (ground : Ground s) (m : Machine C) (
           let at_d = ground.names.declared method f.declared f.there in
           let above = below_heir s ground class f.declared.class
           (behind class x.above f.declared.class x.up f.heir) at_d in
-          let is_below = ground.order.transitive (class_of o.kind.object) class f.declared.class is above in record {
+          let is_below = ground.order.transitive (class_of o.kind.object_type) class f.declared.class is above in record {
             declared = f.declared;
             there = f.there;
             concrete = concrete_is shapes method f.declared f.there x.concrete;
@@ -325,11 +325,11 @@ module _ {C : Type 0} (s : Surroundings C) (ground : Ground s) (m : Machine C) (
 
       may_special : (class : ClassName) (method : MethodName) (signature : Signature ClassName)
           → IsStaticMethod shapes class method false signature → (n : ℕ) (o : heaps.Object TaggedValue)
-          → object_at m.heap n ≡ Some o → is_of_class shapes class o.kind.object ≡ true
+          → object_at m.heap n ≡ Some o → is_of_class shapes class o.kind.object_type ≡ true
           → are_of_types shapes m.heap signature.parameters (given_to signature) ≡ true
           → MayCall shapes m.heap method (returned_type signature.result) (Ref n ∷ given_to signature)
       may_special class method signature x n o there is fit =
-          let of_it = subst (λ (c : ClassName). is_of_class shapes c o.kind.object ≡ true)
+          let of_it = subst (λ (c : ClassName). is_of_class shapes c o.kind.object_type ≡ true)
           (sym x.class_is) is in record {
             declared = x.declared;
             there = x.there;
@@ -375,7 +375,7 @@ module _ {C : Type 0} (s : Surroundings C) (ground : Ground s) (m : Machine C) (
           (λ arguments n o vs.
           judged (at ops) (wanting InvokeInterface n (Some interface)) o
           (λ switch. require (at ops) class_cast_exception (has_interface shapes interface o) (on_some
-          (interface_method_of shapes (class_of o.kind.object) interface token) (λ method. invokes
+          (interface_method_of shapes (class_of o.kind.object_type) interface token) (λ method. invokes
           (at ops) switch method arguments vs))))
           (λ n o vs there is fit rest.
           let made = object_made n o there in
@@ -383,17 +383,17 @@ module _ {C : Type 0} (s : Surroundings C) (ground : Ground s) (m : Machine C) (
           (throws_at s ground m t ops _ (security s ground m.heap t.beside.runtime_objects))
           (λ switch.
           rows.safe_required s ground m t d next ops class_cast_exception (has_interface shapes interface o)
-          (on_some (interface_method_of shapes (class_of o.kind.object) interface token) (λ method. invokes
+          (on_some (interface_method_of shapes (class_of o.kind.object_type) interface token) (λ method. invokes
           (at ops) switch method (Ref n ∷ given_to signature) vs))
           (class_cast s ground m.heap t.beside.runtime_objects)
           (λ has.
           let h = made.finished.interfaces interface x.class x.place x.row has x.there x.row_there in
-          let finds = ap (interface_method_of shapes (class_of o.kind.object) interface) (sym x.token_is) ∙ h.found in
-          let v = public_of (class_of o.kind.object) interface token h.method finds in
+          let finds = ap (interface_method_of shapes (class_of o.kind.object_type) interface) (sym x.token_is) ∙ h.found in
+          let v = public_of (class_of o.kind.object_type) interface token h.method finds in
           let may = found_method s ground m.heap n o v.0 0 h.method signature
           (given_to signature) there v.1 h.concrete
           (h.type ∙ x.type) fit in
-          safe_some s (interface_method_of shapes (class_of o.kind.object) interface token) h.method
+          safe_some s (interface_method_of shapes (class_of o.kind.object_type) interface token) h.method
           (λ method. invokes (at ops) switch method (Ref n ∷ given_to signature) vs) finds
           (invoked h.method (returned_type signature.result) (Ref n ∷ given_to signature) may switch vs
           (site next invocation later stands signature (Reference ∷ []) a vs rest)))))

@@ -74,11 +74,11 @@ module _ {C : Type 0} (s : Surroundings C) (ground : Ground s) (m : Machine C) (
   -- an object that passes is of the type, and null is
   record Fits (test : Test) (u : Ty) : Type 0 where
     passes : (n : ℕ) (o : heaps.Object TaggedValue) → object_at m.heap n ≡ Some o
-        → test.passes o.kind.object ≡ true → has_type shapes m.heap (Ref n) u ≡ true
+        → test.passes o.kind.object_type ≡ true → has_type shapes m.heap (Ref n) u ≡ true
     null : has_type shapes m.heap Null u ≡ true
 
   leads_so : (test : ObjectType → Bool) (n : ℕ) (o : heaps.Object TaggedValue) → object_at m.heap n ≡ Some o
-      → test o.kind.object ≡ true → leads_to m.heap test (Ref n) ≡ true
+      → test o.kind.object_type ≡ true → leads_to m.heap test (Ref n) ≡ true
   leads_so test n o found e = grind arith
 
   words_fit : (kind : WordKind)
@@ -120,7 +120,7 @@ module _ {C : Type 0} (s : Surroundings C) (ground : Ground s) (m : Machine C) (
       (record {
         passes = λ n o found e.
             leads_so (is_of_class shapes (counted (rows.before s ground m t) x.0)) n o found
-            (instance_below s ground (class_of o.kind.object) x.0 (counted (rows.before s ground m t) x.0) e counts);
+            (instance_below s ground (class_of o.kind.object_type) x.0 (counted (rows.before s ground m t) x.0) e counts);
         null = refl;
       })))
   test_safe (Tested.WordArray kind) u e us go each =
@@ -146,7 +146,7 @@ module _ {C : Type 0} (s : Surroundings C) (ground : Ground s) (m : Machine C) (
       (subst (λ (v : Ty). Fits test v) (ap types.ReferenceArray named.counts ∙ x.2)
       (record {
         passes = λ n o found e.
-            leads_so (holds_below shapes (counted shapes x.0)) n o found (components_fit x.0 o.kind.object e);
+            leads_so (holds_below shapes (counted shapes x.0)) n o found (components_fit x.0 o.kind.object_type e);
         null = refl;
       })))
 
@@ -164,13 +164,13 @@ module _ {C : Type 0} (s : Surroundings C) (ground : Ground s) (m : Machine C) (
       test_safe type u e us
       (λ test. on_object (at us) (Ref n) (λ number object.
       judged (at us) (wanting access number test.wanted) object
-      (λ switch. go (Ref n) (test.passes object.kind.object))))
+      (λ switch. go (Ref n) (test.passes object.kind.object_type))))
       (λ test fits.
       safe_some s (object_at m.heap n) o _ found
       (safe_judged s (at us) (wanting access n test.wanted) o
-      (λ switch. go (Ref n) (test.passes o.kind.object))
+      (λ switch. go (Ref n) (test.passes o.kind.object_type))
       (throws_at s ground m t us _ (security s ground m.heap t.beside.runtime_objects))
-      (λ switch. each n (test.passes o.kind.object) (λ passes. fits.passes n o found passes)))))
+      (λ switch. each n (test.passes o.kind.object_type) (λ passes. fits.passes n o found passes)))))
 
   -- ---- the instructions
 

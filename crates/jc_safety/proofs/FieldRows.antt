@@ -124,7 +124,7 @@ module _ {C : Type 0} (s : Surroundings C) (ground : Ground s) (m : Machine C) (
     object_stored us (Ref n) x w h safe = by_object (object_at m.heap n) refl (ref_there shapes m.heap declared n h)
       where
         by_object : (o : Option (heaps.Object TaggedValue)) → object_at m.heap n ≡ o
-            → option_map_or (λ (o : heaps.Object TaggedValue). any_object o.kind.object) o false ≡ true
+            → option_map_or (λ (o : heaps.Object TaggedValue). any_object o.kind.object_type) o false ≡ true
             → IsSafe s (stored_in_static (at us) (Ref n) x)
         by_object None e there = absurd cc
         by_object (Some o) e there =

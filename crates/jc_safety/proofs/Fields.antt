@@ -173,9 +173,9 @@ module _ {C : Type 0} (s : Surroundings C) (ground : Ground s) (m : Machine C) (
         ref_case m.heap (is_of_class shapes class) (λ x. IsSafe s (gets (at us) form field x vs)) v leads
         (rows.safe_null s ground m t d next us)
         (λ n o found of_class.
-        let c = cell_has o.kind.object o.cells of_class (typed_at shapes m.heap t.beside.heap n o found).cells in
+        let c = cell_has o.kind.object_type o.cells of_class (typed_at shapes m.heap t.beside.heap n o found).cells in
         safe_some s (object_at m.heap n) o _ found
-        (safe_check s (is_of_class shapes class o.kind.object) _ of_class
+        (safe_check s (is_of_class shapes class o.kind.object_type) _ of_class
         (rows.safe_accessed s ground m t d next us GetField n o _
         (safe_some s (slice_get o.cells cell) c.0 _ c.1 (go c.0 c.2)))))
 
@@ -189,14 +189,14 @@ module _ {C : Type 0} (s : Surroundings C) (ground : Ground s) (m : Machine C) (
         (rows.safe_null s ground m t d next us)
         (λ n o found of_class.
         let typed = (typed_at shapes m.heap t.beside.heap n o found).cells in
-        let c = cell_has o.kind.object o.cells of_class typed in
+        let c = cell_has o.kind.object_type o.cells of_class typed in
         let fits = stored_typed shapes m.heap form declared x of_form x_typed in
         safe_some s (object_at m.heap n) o _ found
-        (safe_check s (is_of_class shapes class o.kind.object) _ of_class
+        (safe_check s (is_of_class shapes class o.kind.object_type) _ of_class
         (rows.safe_to_store s ground m t d next us (putting form) n o x _
         (safe_check s (nat_lt cell (length o.cells)) _ (within_length o.cells cell c.0 c.1)
         (rows.leaves_stored s ground m t d next us vs after_it n o cell (stored_as form x) found
-        (cell_put o.kind.object o.cells (stored_as form x) of_class fits typed) has_locals holds goes)))))
+        (cell_put o.kind.object_type o.cells (stored_as form x) of_class fits typed) has_locals holds goes)))))
 
     -- ---- the instructions
 

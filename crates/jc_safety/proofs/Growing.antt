@@ -10,7 +10,7 @@ use Rattle.jc_link.specs.Linked.{World}
 use Rattle.jc_names.specs.declared.name.ClassName.{ClassName}
 use Rattle.jc_store.specs.Heap as heaps
 use Rattle.jc_store.specs.Heap.{Heap, object_at, with_new, with_object}
-use Rattle.jc_store.specs.declared.kind.Kind.{Kind}
+use Rattle.jc_store.specs.declared.kind.ObjectKind.{ObjectKind}
 use Rattle.jc_store.specs.declared.kind.ObjectType.{ObjectType}
 use Rattle.jc_types.specs.declared.ty.Ty.{Ty}
 use Rattle.jc_machine.specs.Lookup.{is_kept_as, is_of_type, leads_to}
@@ -68,13 +68,13 @@ keeps_changed heap (suc n) o p found kind owner size (suc i) q e = elim (get_set
 
 module _ (before after : Heap TaggedValue) (keeps : KeepsObjects before after) where
   by_object : (test : ObjectType → Bool) (n : ℕ) (found : Option (heaps.Object TaggedValue))
-      → object_at before n ≡ found → option_map_or (λ o. test o.kind.object) found false ≡ true
+      → object_at before n ≡ found → option_map_or (λ o. test o.kind.object_type) found false ≡ true
       → leads_to after test (Ref n) ≡ true
   by_object test n None e h = absurd cc
   by_object test n (Some o) e h =
       let still = keeps n o e in
-      ap (λ (x : Option (heaps.Object TaggedValue)). option_map_or (λ o. test o.kind.object) x false) still.found
-      ∙ ap (λ (k : Kind). test k.object) still.kind ∙ h
+      ap (λ (x : Option (heaps.Object TaggedValue)). option_map_or (λ o. test o.kind.object_type) x false) still.found
+      ∙ ap (λ (k : ObjectKind). test k.object_type) still.kind ∙ h
 
   pub leads_still : (test : ObjectType → Bool) (v : TaggedValue) → leads_to before test v ≡ true
       → leads_to after test v ≡ true

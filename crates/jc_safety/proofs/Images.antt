@@ -278,7 +278,7 @@ module _ (world : List Shape) (heap : Heap TaggedValue) (number first : ℕ) (bo
           ∙ ap (λ (o : Option StaticArray).
           (offset % 2 == 0) && option_map_or (λ array. not (is_of_type array type)) o false) (sym found.1)
           ∙ matches in
-          ap (λ (o : Option (heaps.Object TaggedValue)). option_map_or (λ o. test o.kind.object) o false)
+          ap (λ (o : Option (heaps.Object TaggedValue)). option_map_or (λ o. test o.kind.object_type) o false)
           (made (offset / 2) found.0 found.1)
           ∙ passes found.0 (not_false (is_of_type found.0 type) other)
 

@@ -76,8 +76,8 @@ module _ {C : Type 0} (s : Surroundings C) (ground : Ground s) (m : Machine C) (
   -- ---- without room the runtime throws
 
   reason_fits : (o : heaps.Object TaggedValue) (reason : ℕ) → nat_lt reason 65536 ≡ true
-      → o.kind.object ≡ Instance (Api api.SystemException) → CellsTyped shapes m.heap o.cells o.kind.object
-      → CellsTyped shapes m.heap (set o.cells 0 (Word reason)) o.kind.object
+      → o.kind.object_type ≡ Instance (Api api.SystemException) → CellsTyped shapes m.heap o.cells o.kind.object_type
+      → CellsTyped shapes m.heap (set o.cells 0 (Word reason)) o.kind.object_type
   reason_fits o reason small is typed = grind (arith, set, put_points, no_field)
 
   pub system_thrown : (us : List TaggedValue) (reason : ℕ) → nat_lt reason 65536 ≡ true
@@ -99,7 +99,7 @@ module _ {C : Type 0} (s : Surroundings C) (ground : Ground s) (m : Machine C) (
 
   abbrev new_object : ObjectType → List TaggedValue → heaps.Object TaggedValue
   new_object object cells = record {
-    kind = record { object = object; mark = Plain; clears = None };
+    kind = record { object_type = object; mark = Plain; clears = None };
     owner = m.top.active;
     cells = cells;
   }
@@ -108,7 +108,7 @@ module _ {C : Type 0} (s : Surroundings C) (ground : Ground s) (m : Machine C) (
   abbrev IsOfNew : ObjectType → Ty → Type 0
   IsOfNew object u =
       (heap : Heap TaggedValue) (n : ℕ) (o : heaps.Object TaggedValue) → object_at heap n ≡ Some o
-      → o.kind.object ≡ object → has_type shapes heap (Ref n) u ≡ true
+      → o.kind.object_type ≡ object → has_type shapes heap (Ref n) u ≡ true
 
   pub creates_safe : (us vs : List TaggedValue) (object : ObjectType) (cells : List TaggedValue) (u : Ty)
       → (after_it : Types) → may_be_made shapes object ≡ true → CellsTyped shapes m.heap cells object
@@ -182,7 +182,7 @@ module _ {C : Type 0} (s : Surroundings C) (ground : Ground s) (m : Machine C) (
   by_class c k e heap n o found is = grind arith
 
   by_test : (test : ObjectType → Bool) (object : ObjectType) → test object ≡ true → (heap : Heap TaggedValue) (n : ℕ)
-      → (o : heaps.Object TaggedValue) → object_at heap n ≡ Some o → o.kind.object ≡ object
+      → (o : heaps.Object TaggedValue) → object_at heap n ≡ Some o → o.kind.object_type ≡ object
       → leads_to heap test (Ref n) ≡ true
   by_test test object e heap n o found is = grind arith
 

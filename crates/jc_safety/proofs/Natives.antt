@@ -191,22 +191,22 @@ module _ {C : Type 0} (s : Surroundings C) (ground : Ground s) where
 
   -- an object as a reference to it
   pub is_object : (heap : Heap TaggedValue) (n : ℕ) (o : heaps.Object TaggedValue) (c : ClassName)
-      → object_at heap n ≡ Some o → is_of_class its_shapes c o.kind.object ≡ true → is_object_of its_shapes heap c
+      → object_at heap n ≡ Some o → is_of_class its_shapes c o.kind.object_type ≡ true → is_object_of its_shapes heap c
       (Ref n) ≡ true
   is_object heap n o c found is = grind arith
 
   -- a method that an object's class finds at a virtual token may be called on the object
   pub found_method : (heap : Heap TaggedValue) (n : ℕ) (o : heaps.Object TaggedValue) (token asker : ℕ)
       → (name : MethodName) (x : Signature ClassName) (arguments : List TaggedValue) → object_at heap n ≡ Some o
-      → virtual_method_of its_shapes (class_of o.kind.object) token asker ≡ Some name
+      → virtual_method_of its_shapes (class_of o.kind.object_type) token asker ≡ Some name
       → is_concrete its_shapes name ≡ true → method_type_of its_shapes name ≡ Some x
       → are_of_types its_shapes heap x.parameters arguments ≡ true
       → MayCall its_shapes heap name (returned_type x.result) (Ref n ∷ arguments)
   found_method heap n o token asker name x arguments there finds concrete type fit =
-      let f = ground.sound.virtual_methods.found (class_of o.kind.object) token asker name finds in
+      let f = ground.sound.virtual_methods.found (class_of o.kind.object_type) token asker name finds in
       let type_is = type_there its_shapes name f.declared x f.there type in
       let at_d = ground.names.declared name f.declared f.there in
-      let below = below_heir s ground (class_of o.kind.object) f.declared.class f.heir at_d in record {
+      let below = below_heir s ground (class_of o.kind.object_type) f.declared.class f.heir at_d in record {
         declared = f.declared;
         there = f.there;
         concrete = concrete_is its_shapes name f.declared f.there concrete;
@@ -428,7 +428,7 @@ module _ {C : Type 0} (s : Surroundings C) (ground : Ground s) (m : Machine C) (
       class = classes.Api fit.member.class
 
       abbrev on : ClassName
-      on = class_of fit.object.kind.object
+      on = class_of fit.object.kind.object_type
 
       its : HasVirtual shapes callback.member fit.member.class
       its = members.virtual callback.member fit.member fit.member_is fit.virtual
@@ -441,7 +441,7 @@ module _ {C : Type 0} (s : Surroundings C) (ground : Ground s) (m : Machine C) (
 
       made : IsMade s ground on
       made =
-          class_made s ground fit.object.kind.object
+          class_made s ground fit.object.kind.object_type
           (typed_at shapes heap b.typed callback.object fit.object there).made
 
       class_there : is_class_at shapes class ≡ true
@@ -480,7 +480,7 @@ module _ {C : Type 0} (s : Surroundings C) (ground : Ground s) (m : Machine C) (
           (record { class = class; token = its.token }) _ its.listed
           (safe_check s (callback_fits (spot heap runtime b us) given fit.signature class fit.object
           callback.arguments) _
-          (three_true (is_of_class shapes class fit.object.kind.object)
+          (three_true (is_of_class shapes class fit.object.kind.object_type)
           (is_same_return given.result fit.signature.result)
           (are_of_types shapes heap fit.signature.parameters callback.arguments) fit.below fit.result arguments_fit)
           (safe_some s (virtual_method_of shapes on its.token 0) kept.method _ kept.found

@@ -177,7 +177,7 @@ module _ {C : Type 0} (s : Surroundings C) (ground : Ground s) (m : Machine C) (
       let us = Ref n ∷ vs in
       let thrown = throws (at us) n in
       safe_some s (object_at m.heap n) o _ found
-      (safe_check s (is_throwable shapes o.kind.object) (accessed (at us) Throw n o thrown) may
+      (safe_check s (is_throwable shapes o.kind.object_type) (accessed (at us) Throw n o thrown) may
       (rows.safe_accessed s ground m t d next us Throw n o thrown
       (record {
         fine = throws_at s ground m t (Ref n ∷ vs) n (record { object = o; found = found; throwable = may });

@@ -144,7 +144,7 @@ module _ {C : Type 0} (s : Surroundings C) (ground : Ground s) (m : Machine C) (
     -- nothing more, and a component of an object is another value
     pub leaves_stored : (us vs : List TaggedValue) (after : Types) (number : ℕ)
         → (o : heaps.Object TaggedValue) (index : ℕ) (v : TaggedValue) → object_at m.heap number ≡ Some o
-        → CellsTyped world m.heap (set o.cells index v) o.kind.object
+        → CellsTyped world m.heap (set o.cells index v) o.kind.object_type
         → HaveTypes world m.heap m.top.locals after.locals → HoldTypes world m.heap vs after.operands
         → LeadsTo after next → IsSafe s (leaves_operands (stored_in (here us) number o index v) vs)
     leaves_stored us vs after number o index v found cells has holds leads =

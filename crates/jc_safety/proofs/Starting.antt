@@ -132,7 +132,7 @@ module _ {C : Type 0} (s : Surroundings C) (ground : Ground s) (members : HaveMe
     native_typed given declared (Gives value) fit = gives_typed given declared value fit
     native_typed given declared (ThrowsObject number) fit =
         let P : Option (Object TaggedValue) → Type 0 =
-        λ o. EndsTyped s (cond (option_map_or (λ (x : Object TaggedValue). is_throwable shapes x.kind.object) o false)
+        λ o. EndsTyped s (cond (option_map_or (λ (x : Object TaggedValue). is_throwable shapes x.kind.object_type) o false)
         (Threw after number None) WasStuck) in
         let Q : Bool → Type 0 = λ b. EndsTyped s (cond b (Threw after number None) WasStuck) in
         subst P (sym fit.found) (subst Q (sym fit.throwable) after_typed)
@@ -183,8 +183,8 @@ module _ {C : Type 0} (s : Surroundings C) (ground : Ground s) (members : HaveMe
   finds_method beside member object k =
       let its : HasVirtual shapes member (k.of).class = members.virtual member k.of k.of_is k.virtual in
       let class : ClassName = classes.Api k.of.class in
-      let on : ClassName = class_of object.kind.object in
-      let made = class_made s ground object.kind.object
+      let on : ClassName = class_of object.kind.object_type in
+      let made = class_made s ground object.kind.object_type
       (typed_at shapes start.heap beside.heap k.number object k.there).made in
       let first = ground.sound.virtual_methods.found class its.token 0 (Api member) its.found in
       let class_there = heir_there s ground class first.declared.class first.heir

@@ -149,12 +149,12 @@ module _ {C : Type 0} (s : Surroundings C) (ground : Ground s) where
   -- ---- one frame
 
   module _ (m : Machine C) (beside : IsTypedBeside s m) (number : ℕ) (o : heaps.Object TaggedValue)
-      (found : object_at m.heap number ≡ Some o) (may : is_throwable s.world.shapes o.kind.object ≡ true) where
+      (found : object_at m.heap number ≡ Some o) (may : is_throwable s.world.shapes o.kind.object_type ≡ true) where
     abbrev shapes : List Shape
     shapes = s.world.shapes
 
     abbrev thrown : ClassName
-    thrown = class_of o.kind.object
+    thrown = class_of o.kind.object_type
 
     -- the machine goes on in a frame, at the handler's place
     abbrev resumed_at : Frame → List Frame → ℕ → Machine C
@@ -220,7 +220,7 @@ module _ {C : Type 0} (s : Surroundings C) (ground : Ground s) where
           let of_class = class_caught f.method.number h l.class thrown c may caught in
           let has : has_type shapes m.heap (Ref number) (types.Class l.class) ≡ true =
           ap (λ (x : Option (heaps.Object TaggedValue)).
-          option_map_or (λ (o : heaps.Object TaggedValue). is_class_below shapes (class_of o.kind.object) l.class) x
+          option_map_or (λ (o : heaps.Object TaggedValue). is_class_below shapes (class_of o.kind.object_type) l.class) x
           false) found
           ∙ of_class in record {
             beside = record {

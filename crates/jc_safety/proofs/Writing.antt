@@ -21,7 +21,7 @@ typed_at world heap h1 n o h2 = grind (arith, each_at)
 -- by what a reference is: null, or an object that passes the test
 pub ref_case : (heap : Heap TaggedValue) (test : ObjectType → Bool) (P : TaggedValue → Type 0) (v : TaggedValue)
     → leads_to heap test v ≡ true → P Null
-    → ((n : ℕ) (o : heaps.Object TaggedValue) → object_at heap n ≡ Some o → test o.kind.object ≡ true → P (Ref n))
+    → ((n : ℕ) (o : heaps.Object TaggedValue) → object_at heap n ≡ Some o → test o.kind.object_type ≡ true → P (Ref n))
     → P v
 ref_case heap test P v h1 h2 h3 = grind arith
 
@@ -40,7 +40,7 @@ each_changed world heap n p objects h1 h2 = grind (arith, each_set)
 
 pub written : (world : List Shape) (heap : Heap TaggedValue) → HeapTyped world heap → (n : ℕ)
     → (o : heaps.Object TaggedValue) (index : ℕ) (v : TaggedValue) → object_at heap n ≡ Some o
-    → CellsTyped world heap (set o.cells index v) o.kind.object
+    → CellsTyped world heap (set o.cells index v) o.kind.object_type
     → Written world heap (with_object heap n (with_cell o index v))
 written world heap h n o index v found cells =
     let keeps = keeps_changed heap n o (with_cell o index v) found refl refl (length-set o.cells index v) in

@@ -131,7 +131,7 @@ module _ {C : Type 0} (s : Surroundings C) (ground : Ground s) (m : Machine C) (
   zeroed_beside test = still_beside (zeroed_where test m.heap) (zeroing s.world.shapes m.heap t.heap test)
 
   pub byte_beside : (number index byte : ℕ) (o : heaps.Object TaggedValue) → object_at m.heap number ≡ Some o
-      → o.kind.object ≡ ByteArray → byte < 256
+      → o.kind.object_type ≡ ByteArray → byte < 256
       → IsTypedBeside s (with_heap m (with_object m.heap number (with_cell o index (Word byte))))
   byte_beside number index byte o found array small =
       let h : CellsTyped s.world.shapes m.heap o.cells ByteArray =
@@ -142,5 +142,5 @@ module _ {C : Type 0} (s : Surroundings C) (ground : Ground s) (m : Machine C) (
       (byte_cells o.cells index byte small h)))
     where
       its_cells : (n : ℕ) (o : heaps.Object TaggedValue) → object_at m.heap n ≡ Some o
-          → CellsTyped s.world.shapes m.heap o.cells o.kind.object
+          → CellsTyped s.world.shapes m.heap o.cells o.kind.object_type
       its_cells n o e = (typed_at s.world.shapes m.heap t.heap n o e).cells

@@ -19,7 +19,7 @@ use Rattle.jc_machine.specs.Machine.{Limits, Machine, StaticValue, Surroundings}
 use Rattle.jc_machine.specs.Typed.{IsTypedBeside}
 use Rattle.jc_names.specs.declared.owner.Owner.{Owner}
 use Rattle.jc_store.specs.Heap.{Heap, Object, cells_in, next_number}
-use Rattle.jc_store.specs.declared.kind.Kind.{Kind}
+use Rattle.jc_store.specs.declared.kind.ObjectKind.{ObjectKind}
 use Rattle.jc_store.specs.declared.kind.Mark.{Mark}
 use Rattle.jc_store.specs.declared.kind.Mark.TheVariants.{GlobalArray, Plain}
 use Rattle.jc_store.specs.declared.kind.ObjectType.{ObjectType}
@@ -56,9 +56,9 @@ abbrev pub mark_of_arrays : Option (List Applet) → Mark
 mark_of_arrays None = GlobalArray
 mark_of_arrays (Some applets) = Plain
 
-abbrev pub kind_of_array : LinkedBody → StaticArray → Kind
+abbrev pub kind_of_array : LinkedBody → StaticArray → ObjectKind
 kind_of_array body array =
-    record { object = type_of_array array; mark = mark_of_arrays body.kept.applets; clears = None }
+    record { object_type = type_of_array array; mark = mark_of_arrays body.kept.applets; clears = None }
 
 abbrev pub loaded_array : ℕ → LinkedBody → StaticArray → Object TaggedValue
 loaded_array number body array = record {

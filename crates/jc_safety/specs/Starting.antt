@@ -53,7 +53,7 @@ pub record IsTypedStart {C : Type 0} (s : Surroundings C) (start : Start C) : Ty
 -- the method that an object's class has in place of a member, if it has one
 abbrev pub method_for : List Shape → Object TaggedValue → ℕ → Option MethodName
 method_for world object member =
-    option_and_then (λ (m : VirtualMember). virtual_method_of world (class_of object.kind.object) m.token 0)
+    option_and_then (λ (m : VirtualMember). virtual_method_of world (class_of object.kind.object_type) m.token 0)
     (virtual_member world member)
 
 -- a virtual member and an object of its class, with arguments of the member's types behind it
@@ -64,7 +64,7 @@ pub record IsMemberCall {C : Type 0} (s : Surroundings C) (start : Start C) (mem
   pub virtual : of.kind ≡ Virtual
   pub number : ℕ
   pub there : object_at start.heap number ≡ Some object
-  pub below : is_of_class s.world.shapes (classes.Api of.class) object.kind.object ≡ true
+  pub below : is_of_class s.world.shapes (classes.Api of.class) object.kind.object_type ≡ true
   pub arguments : List TaggedValue
   pub arguments_are : start.arguments ≡ Ref number ∷ arguments
   pub signature : Signature ClassName

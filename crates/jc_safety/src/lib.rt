@@ -88,7 +88,7 @@ pub fn objects_stay_typed<N: Natives>(natives: &N)
         → (test : Object TaggedValue → Bool) → IsTypedBeside s (with_heap m (zeroed_where test m.heap)) }
     ensures byte { (s : Surroundings N.Kept) → MayRun s → (m : Machine N.Kept) → IsTypedBeside s m
         → (number index byte : ℕ) (object : Object TaggedValue) → object_at m.heap number ≡ Some object
-        → object.kind.object ≡ ByteArray → byte < 256
+        → object.kind.object_type ≡ ByteArray → byte < 256
         → IsTypedBeside s (with_heap m (with_object m.heap number (with_cell object index (Word byte)))) }
 {
     laws_below();

@@ -7,13 +7,13 @@ use Rattle.std.specs.Prelude.{None, slice_get, set, if◌then◌else◌}
 use Rattle.std.specs.Option.{option_map_or}
 use Rattle.jc_store.specs.declared.kind.ClearingEvent.{ClearingEvent}
 use Rattle.jc_store.specs.declared.kind.ClearingEvent.TheVariants.{Reset, Deselect}
-use Rattle.jc_store.specs.declared.kind.Kind.{Kind}
+use Rattle.jc_store.specs.declared.kind.ObjectKind.{ObjectKind}
 use Rattle.jc_names.specs.declared.owner.Owner.{Owner}
 
 -- what it is, whose it is, and its components: the fields of an instance, those of the topmost class first, or the
 -- elements of an array
 pub record Object (V : Type 0) : Type 0 where
-  pub kind : Kind
+  pub kind : ObjectKind
   pub owner : Owner
   pub cells : List V
 
@@ -62,11 +62,11 @@ is_cleared_by event context object =
     && option_map_or (λ c. c == object.owner.context) context true
 
 -- an object with the same value in all components
-abbrev pub blanked : {V : Type 0} → (Kind → V) → Object V → Object V
+abbrev pub blanked : {V : Type 0} → (ObjectKind → V) → Object V → Object V
 blanked blank object =
     record { kind = object.kind; owner = object.owner; cells = map (λ value. blank object.kind) object.cells }
 
 -- the heap behind an event: the objects that it clears hold what is blank for their kind
-abbrev pub cleared : {V : Type 0} → (Kind → V) → ClearingEvent → Option ℕ → Heap V → Heap V
+abbrev pub cleared : {V : Type 0} → (ObjectKind → V) → ClearingEvent → Option ℕ → Heap V → Heap V
 cleared blank event context heap =
     map (λ object. if is_cleared_by event context object then blanked blank object else object) heap

@@ -7,13 +7,13 @@ use Rattle.jc_store.specs.declared.header.Head.{Head}
 use Rattle.jc_store.specs.declared.header.Rest.{Rest}
 use Rattle.jc_store.specs.declared.kind.ClearingEvent.{ClearingEvent}
 use Rattle.jc_store.specs.declared.kind.ClearingEvent.TheVariants.{Reset, Deselect}
-use Rattle.jc_store.specs.declared.kind.Kind.{Kind}
+use Rattle.jc_store.specs.declared.kind.ObjectKind.{ObjectKind}
 use Rattle.jc_names.specs.declared.owner.Owner.{Owner}
 
 -- an object without its components: what it is, whose it is, the number of its class, where its components begin, and
 -- how many it has
 pub record Header : Type 0 where
-  pub kind : Kind
+  pub kind : ObjectKind
   pub owner : Owner
   pub class : ℕ
   pub start : ℕ

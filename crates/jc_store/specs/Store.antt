@@ -3,7 +3,7 @@ use Rattle.std.specs.Prelude.{◌≡◌, ◌⊎◌, ℕ, zero, suc, ◌+◌, ◌
 use Rattle.std.specs.Prelude.{slice_get, Option, None, Some}
 use Rattle.jc_store.specs.Heap.{Heap, Object, cells_in, object_at, with_new}
 use Rattle.jc_store.specs.declared.kind.ClearingEvent.TheVariants.{Deselect}
-use Rattle.jc_store.specs.declared.kind.Kind.{Kind}
+use Rattle.jc_store.specs.declared.kind.ObjectKind.{ObjectKind}
 use Rattle.jc_names.specs.declared.owner.Owner.{Owner}
 
 -- its objects; a number for each of them, in their order, that its maker handed in for its class; and the most objects
@@ -15,7 +15,7 @@ pub record Store : Type 0 where
   pub most_cells : ℕ
 
 -- an object as it is made: each of its components is 0
-abbrev pub fresh : Kind → Owner → ℕ → Object ℕ
+abbrev pub fresh : ObjectKind → Owner → ℕ → Object ℕ
 fresh kind owner len = record { kind = kind; owner = owner; cells = replicate len 0 }
 
 -- a store with other objects in the same room

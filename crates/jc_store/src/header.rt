@@ -3,7 +3,7 @@
 ghost use Rattle.std.specs.Prelude.{◌≡◌, ◌+◌, ◌-◌, ◌<◌, ◌≤◌, Some, length, slice_get, unwrap_or};
 ghost use Rattle.jc_store.specs.PrivateLaid.{fast_in, null_head};
 
-use crate::kind::{ClearingEvent, Kind};
+use crate::kind::{ClearingEvent, ObjectKind};
 use jc_names::Owner;
 
 /// The context that no object is the own one of.
@@ -32,7 +32,7 @@ impl Head {
 /// The rest: what an object is, and whose it is.
 #[derive(Clone, Copy)]
 pub(crate) struct Rest {
-    pub(crate) kind: Kind,
+    pub(crate) kind: ObjectKind,
     pub(crate) owner: Owner,
 }
 

@@ -42,8 +42,8 @@ pub enum ClearingEvent {
 
 /// What an object is, and stays.
 #[derive(Clone, Copy, Debug, PartialEq, Eq)]
-pub struct Kind {
-    pub object: ObjectType,
+pub struct ObjectKind {
+    pub object_type: ObjectType,
     pub mark: Mark,
     /// The event that clears its cells, if it is transient.
     pub clears: Option<ClearingEvent>,

@@ -7,5 +7,5 @@ mod header;
 mod kind;
 mod store;
 
-pub use kind::{ClearingEvent, Kind, Mark, ObjectType};
+pub use kind::{ClearingEvent, Mark, ObjectKind, ObjectType};
 pub use store::Store;

@@ -11,7 +11,7 @@ ghost use Rattle.jc_store.specs.PrivateLaid.{HasRoom};
 use crate::block::{copy_part, fill_part, part_of, put_part, some_of};
 use crate::clearing::clear_objects;
 use crate::header::{Head, Rest, cell_at, fast_of, head_at, head_or_null, rest_at};
-use crate::kind::{ClearingEvent, Kind};
+use crate::kind::{ClearingEvent, ObjectKind};
 use jc_names::Owner;
 use std::alloc::{AllocError, Global};
 use std::marker::Model;
@@ -78,7 +78,7 @@ impl Store {
     /// Makes an object whose components are 0, if there is room for it. The answer is its number. The number that is
     /// handed in for its class is kept; what it means is the caller's matter.
     #[inline(always)]
-    pub fn make(&mut self, kind: Kind, owner: Owner, len: usize, class: u16) -> Option<u16>
+    pub fn make(&mut self, kind: ObjectKind, owner: Owner, len: usize, class: u16) -> Option<u16>
         ensures number { IfSome result (λ number. number ≡ next_number self.old.objects) }
         ensures made { IfSome result (λ number. self.new ≡ with_made self.old (fresh kind owner len) class) }
         ensures numbered { IfSome result (λ number. class_number_at self.new.classes number ≡ Some class) }
@@ -114,7 +114,7 @@ impl Store {
 
     /// What an object is.
     #[inline]
-    pub fn class_of(&self, number: u16) -> Kind
+    pub fn kind_of(&self, number: u16) -> ObjectKind
         requires there { IsThere self.now number }
         ensures { (object : Object ℕ) → object_at self.now.objects number ≡ Some object → result ≡ object.kind }
     {

@@ -7,7 +7,7 @@ ghost use Rattle.jc_types.specs.State.{Types, all_below, stated_types, types_bel
 ghost use Rattle.jc_types.specs.Changes.{Became, with_operands, with_local, local_type, set_local_type, push_type};
 ghost use Rattle.jc_types.specs.Changes.{take_types, drop_types, duplicate_types, swap_types};
 
-use crate::classes::Classes;
+use crate::classes::ClassOrder;
 use crate::join::join_front;
 use crate::order::is_below;
 use crate::state::State;
@@ -17,7 +17,7 @@ use jc_base::stack::{duplicate_top, swap_top};
 use jc_classes::ClassTable;
 
 /// Whether lists of one length lie point by point one below the other, beside an order of classes.
-pub fn are_below<C: Classes>(lower: &[Ty], upper: &[Ty], classes: &C) -> bool
+pub fn are_below<C: ClassOrder>(lower: &[Ty], upper: &[Ty], classes: &C) -> bool
     ensures { result ≡ all_below (C.lies_below classes.now) lower.now upper.now }
 {
     if lower.len() != upper.len() {
@@ -90,7 +90,7 @@ impl State {
     /// Takes operands that lie below these types, the last of them from the top: `StackUnder`, then `WrongType`; the
     /// state is unchanged then.
     #[tactic(auto, unfolding(crate::specs::Changes::take_types))]
-    pub fn take<C: Classes>(&mut self, wanted: &[Ty], classes: &C) -> Result<(), Reason>
+    pub fn take<C: ClassOrder>(&mut self, wanted: &[Ty], classes: &C) -> Result<(), Reason>
         ensures became { Became result self.new.types
             (take_types (C.lies_below classes.now) wanted.now self.old.types) }
         ensures kept { IfErr result (λ _. self.new.types ≡ self.old.types) }
@@ -272,7 +272,7 @@ impl State {
 
     /// Whether it lies below the types that a certificate states, the bottom operand first.
     #[tactic(auto, using(crate::proofs::Turned::reversed))]
-    pub fn is_below<C: Classes>(&self, locals: &[Ty], operands: &[Ty], classes: &C) -> bool
+    pub fn is_below<C: ClassOrder>(&self, locals: &[Ty], operands: &[Ty], classes: &C) -> bool
         ensures { result ≡ types_below (C.lies_below classes.now) self.now.types
             (stated_types locals.now operands.now) }
     {
@@ -282,7 +282,7 @@ impl State {
 
     /// Whether its locals, with a type as the one operand, lie below the types that a certificate states.
     #[tactic(auto, using(crate::proofs::Turned::reversed))]
-    pub fn is_below_with<C: Classes>(
+    pub fn is_below_with<C: ClassOrder>(
         &self,
         operand: Ty,
         locals: &[Ty],

@@ -9,7 +9,7 @@ use jc_classes::ClassTable;
 use jc_names::ClassName;
 
 /// Classes in an order: those of a table, or none.
-pub trait Classes {
+pub trait ClassOrder {
     ghost lies_below: { Self → ClassName → ClassName → Bool };
 
     /// Whether a class is the other one or lies below it.
@@ -17,7 +17,7 @@ pub trait Classes {
         ensures { result ≡ lies_below self.now class above };
 }
 
-impl Classes for ClassTable {
+impl ClassOrder for ClassTable {
     ghost lies_below = { is_class_below };
 
     fn is_class_below(&self, class: ClassName, above: ClassName) -> bool {
@@ -29,7 +29,7 @@ impl Classes for ClassTable {
 #[derive(Clone, Copy, Debug, PartialEq, Eq)]
 pub struct NoClasses;
 
-impl Classes for NoClasses {
+impl ClassOrder for NoClasses {
     ghost lies_below = { λ none. is_class_below [] };
 
     fn is_class_below(&self, class: ClassName, above: ClassName) -> bool {

@@ -12,7 +12,7 @@ mod state;
 mod ty;
 
 pub use changes::are_below;
-pub use classes::{Classes, NoClasses};
+pub use classes::{ClassOrder, NoClasses};
 pub use known::known_laws;
 pub use lattice::{Lattice, order_laws};
 pub use order::is_below;

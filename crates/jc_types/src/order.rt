@@ -4,12 +4,12 @@ ghost use Rattle.std.specs.Prelude.{◌≡◌, false};
 ghost use Rattle.std.specs.Option.{option_map_or};
 ghost use Rattle.jc_types.specs.Ty.{is_below};
 
-use crate::classes::Classes;
+use crate::classes::ClassOrder;
 use crate::ty::Ty;
 use jc_names::ClassName;
 
 /// Whether there is a class, and it is the other one or lies below it.
-fn is_some_below<C: Classes>(class: Option<ClassName>, above: ClassName, classes: &C) -> bool
+fn is_some_below<C: ClassOrder>(class: Option<ClassName>, above: ClassName, classes: &C) -> bool
     ensures { result ≡ option_map_or (λ c. C.lies_below classes.now c above) class false }
 {
     match class {
@@ -19,7 +19,7 @@ fn is_some_below<C: Classes>(class: Option<ClassName>, above: ClassName, classes
 }
 
 /// Whether whatever is of a type is also of the other, beside an order of classes.
-pub fn is_below<C: Classes>(lower: Ty, upper: Ty, classes: &C) -> bool
+pub fn is_below<C: ClassOrder>(lower: Ty, upper: Ty, classes: &C) -> bool
     ensures { result ≡ is_below (C.lies_below classes.now) lower upper }
 {
     match upper {

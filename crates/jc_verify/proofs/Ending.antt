@@ -18,7 +18,7 @@ use Rattle.jc_check.specs.Typing.{Typing}
 use Rattle.jc_verify.specs.PrivateFlow.{Places}
 use Rattle.jc_verify.specs.PrivateWork.{IsDenial}
 use Rattle.jc_verify.specs.declared.flow.Flow.{Flow}
-use Rattle.jc_verify.specs.Told.{IsToldOf, astray, handler, undecoded}
+use Rattle.jc_verify.specs.MethodFault.{IsToldOf, astray, handler, undecoded}
 use Rattle.jc_verify.proofs.Lists.{drop_get}
 
 pub tells_undecoded : (l : Linked) (m : Method) (fault : WordFault) → IfRefusal fault (IsUndecoded m.code)

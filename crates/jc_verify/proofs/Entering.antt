@@ -15,7 +15,7 @@ use Rattle.jc_check.specs.Method.{Handler, Method, covers}
 use Rattle.jc_check.specs.declared.fault.WordFault.{WordFault}
 use Rattle.jc_verify.specs.Live.{IsLive, behind, caught}
 use Rattle.jc_verify.specs.PrivateLive.{IfRefusal, IsAstray, IsDone, IsFollowed, IsFound, IsGround, IsReached, ToldAt, leads}
-use Rattle.jc_verify.specs.Told.{LeadsAstray, falls_off, no_target}
+use Rattle.jc_verify.specs.MethodFault.{LeadsAstray, falls_off, no_target}
 use Rattle.jc_verify.specs.declared.entries.Followed.{Followed}
 use Rattle.jc_verify.proofs.Following.{is_done}
 use Rattle.jc_verify.proofs.Passing.{all_contained, if_refusal}

@@ -8,7 +8,7 @@ use Rattle.jc_code.specs.Listing.{PlacedInstr, begins, placed_at}
 use Rattle.jc_check.specs.Method.{Method}
 use Rattle.jc_verify.specs.Live.{IsEntered, IsLive, first, behind, by_branch, by_handler, branched, caught}
 use Rattle.jc_code.specs.Targets.{targets_of}
-use Rattle.jc_verify.specs.Told.{GoesStraight, falls_off, no_target}
+use Rattle.jc_verify.specs.MethodFault.{GoesStraight, falls_off, no_target}
 use Rattle.jc_verify.specs.PrivateLive.{AreEntries, AreLive, Grown, IsAwaited, IsDone, IsFollowed, IsFound, IsGround, IsHeld, IsReached}
 use Rattle.jc_verify.specs.declared.entries.Followed.{Followed}
 use Rattle.jc_verify.proofs.Numbers.{has_cases, has_itself, has_kept, one_less}

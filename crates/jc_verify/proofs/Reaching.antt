@@ -24,7 +24,7 @@ use Rattle.jc_verify.specs.PrivatePlaces.{IsTakenIn, put, joined}
 use Rattle.jc_verify.specs.PrivateTold.{AreReached, IsFlowing, IsHeldAt, IsUncaught, IsUncaughtAt, IsUnled, MeetsUnlike, Reaches, caught_no_room, caught_unlike, meets_unlike}
 use Rattle.jc_verify.specs.PrivateWork.{FlowsIn, FlowsTo, GoesOn, IsAtWork, IsBranchsWay, IsHandlersWay, IsSound, IsToldAt, MeetsHeld, StandsAt}
 use Rattle.jc_verify.specs.declared.flow.Flow.{Flow}
-use Rattle.jc_verify.specs.Told.{Flows, IsStopped, Passes, branches, catches, entry, falls, falls_off, joins, no_effect, no_room, no_target, passes, stopped, unlike}
+use Rattle.jc_verify.specs.MethodFault.{Flows, IsStopped, Passes, branches, catches, entry, falls, falls_off, joins, no_effect, no_room, no_target, passes, stopped, unlike}
 use Rattle.jc_verify.specs.declared.place.Place.{Place}
 use Rattle.jc_verify.proofs.Arriving.{IsHeldBy, held_by, set_other, set_same}
 use Rattle.jc_verify.proofs.Carrying.{all_by_place}

@@ -13,7 +13,7 @@ use Rattle.jc_check.specs.declared.fault.WordFault.{WordFault}
 use Rattle.jc_check.specs.declared.fault.WordFault.TheVariants.{Refused}
 use Rattle.jc_verify.specs.Live.{IsLive, first, behind, by_branch, by_handler}
 use Rattle.jc_verify.specs.PrivateLive.{IfRefusal, IsAstray, IsDecoded, IsGround, IsUndecoded, leads}
-use Rattle.jc_verify.specs.Told.{LeadsAstray, falls_off, no_target}
+use Rattle.jc_verify.specs.MethodFault.{LeadsAstray, falls_off, no_target}
 use Rattle.jc_verify.proofs.Passing.{all_contained}
 
 by_refusal : (fault : WordFault) (P : ℕ → Reason → Type 0) → IfRefusal fault P → (pc : ℕ) (reason : Reason) → fault ≡ Refused pc reason → P pc reason

@@ -12,15 +12,15 @@ use Rattle.jc_check.specs.Package.{method_of, package_rules}
 use Rattle.jc_verify.specs.PrivateGathered.{AreGathered, IsDenied, IsInferred, IsSoFar, IsTold, Stands}
 use Rattle.jc_verify.specs.PrivateNames.{KeepsNames}
 use Rattle.jc_verify.specs.Refusal.{CanBeCarried, IsUncarried}
-use Rattle.jc_verify.specs.Told.{IsToldOf}
+use Rattle.jc_verify.specs.MethodFault.{IsToldOf}
 use Rattle.jc_verify.specs.declared.gathering.Gathered.{Gathered}
-use Rattle.jc_verify.specs.declared.gathering.Told.{Told}
+use Rattle.jc_verify.specs.declared.gathering.MethodFault.{MethodFault}
 
 -- what is told stands at an offset or before it, or behind it
-pub is_passed : (told : Option Told) (offset : ℕ) → option_map_or (λ (t : Told). nat_le t.method offset) told false ≡ true → (t : Told) × (told ≡ Some t) × (t.method ≤ offset)
+pub is_passed : (told : Option MethodFault) (offset : ℕ) → option_map_or (λ (t : MethodFault). nat_le t.method offset) told false ≡ true → (t : MethodFault) × (told ≡ Some t) × (t.method ≤ offset)
 is_passed told offset h1 = grind (arith, leb-true)
 
-pub isnt_passed : (told : Option Told) (offset : ℕ) → option_map_or (λ (t : Told). nat_le t.method offset) told false ≡ false → (t : Told) → told ≡ Some t → offset < t.method
+pub isnt_passed : (told : Option MethodFault) (offset : ℕ) → option_map_or (λ (t : MethodFault). nat_le t.method offset) told false ≡ false → (t : MethodFault) → told ≡ Some t → offset < t.method
 isnt_passed told offset h1 t h2 = grind (arith, none-some, same_Some, leb-false)
 
 -- where names are kept no states carry what is denied
@@ -35,22 +35,22 @@ module _ (l : Linked) (n : ℕ) (b : MethodBody) (at : slice_get l.body.kept.met
       by_place h1 = grind (arith, same_Some)
 
   -- it stands behind one that is told of
-  pub passed_over : (t : Told) → g.told ≡ Some t → t.method ≤ b.offset → IsSoFar l (n + 1) g
+  pub passed_over : (t : MethodFault) → g.told ≡ Some t → t.method ≤ b.offset → IsSoFar l (n + 1) g
   passed_over t told behind = record {
     gathered = λ none. absurd (none-some t (sym none ∙ told));
     told = so_far.told;
     carried = λ k c s lower. by k c (either k c s) lower;
   }
     where
-      by : (k : ℕ) (c : MethodBody) → Stands l n k c ⊎ (b ≡ c) → ((u : Told) → g.told ≡ Some u → c.offset < u.method) → CanBeCarried l (method_of l c)
+      by : (k : ℕ) (c : MethodBody) → Stands l n k c ⊎ (b ≡ c) → ((u : MethodFault) → g.told ≡ Some u → c.offset < u.method) → CanBeCarried l (method_of l c)
       by k c h1 h2 = grind arith
 
   -- it is told of now
-  pub told_now : (after : Gathered) (t : Told) → after.told ≡ Some t → t.method ≡ b.offset → ((u : Told) → g.told ≡ Some u → b.offset < u.method)
+  pub told_now : (after : Gathered) (t : MethodFault) → after.told ≡ Some t → t.method ≡ b.offset → ((u : MethodFault) → g.told ≡ Some u → b.offset < u.method)
       → (CanBeCarried l (method_of l b) → ⊥) → IsToldOf (package_rules l) (method_of l b) t.fault → IsSoFar l (n + 1) after
   told_now after t told is before without of = record {
     gathered = λ none. absurd (none-some t (sym none ∙ told));
-    told = λ u e. subst (λ (x : Told). IsTold l x.method x.fault) (same_Some t u (sym told ∙ e)) (record { place = n; method = b; is = at; at = sym is; without = without; told = of });
+    told = λ u e. subst (λ (x : MethodFault). IsTold l x.method x.fault) (same_Some t u (sym told ∙ e)) (record { place = n; method = b; is = at; at = sym is; without = without; told = of });
     carried = λ k c s lower. by k c (either k c s) (lower t told);
   }
     where
@@ -66,11 +66,11 @@ module _ (l : Linked) (n : ℕ) (b : MethodBody) (at : slice_get l.body.kept.met
     carried = λ k c s lower. by k c (either k c s) lower;
   }
     where
-      by : (k : ℕ) (c : MethodBody) → Stands l n k c ⊎ (b ≡ c) → ((t : Told) → after.told ≡ Some t → c.offset < t.method) → CanBeCarried l (method_of l c)
+      by : (k : ℕ) (c : MethodBody) → Stands l n k c ⊎ (b ≡ c) → ((t : MethodFault) → after.told ≡ Some t → c.offset < t.method) → CanBeCarried l (method_of l c)
       by k c h1 h2 = grind arith
 
 -- what is told of all methods is a refusal
-pub is_refusal : (l : Linked) (g : Gathered) → IsSoFar l (length l.body.kept.methods) g → (t : Told) → g.told ≡ Some t → IsUncarried l t.method t.fault
+pub is_refusal : (l : Linked) (g : Gathered) → IsSoFar l (length l.body.kept.methods) g → (t : MethodFault) → g.told ≡ Some t → IsUncarried l t.method t.fault
 is_refusal l g so_far t told =
     let why = so_far.told t told in
     record { first = record { place = why.place; method = why.method; is = why.is; at = why.at; without = why.without; before = before }; told = why.told }

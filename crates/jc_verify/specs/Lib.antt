@@ -1,6 +1,6 @@
 pub mod Live
 pub mod Inferred
-pub mod Told
+pub mod MethodFault
 pub mod Refusal
 pub mod PrivatePlaces
 pub mod PrivateFlow

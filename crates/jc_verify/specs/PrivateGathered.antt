@@ -11,9 +11,9 @@ use Rattle.jc_check.specs.declared.fault.Fault.{Fault}
 use Rattle.jc_verify.specs.Inferred.{AreLeast, AreWhereEntered}
 use Rattle.jc_verify.specs.PrivateNames.{KeepsNames}
 use Rattle.jc_verify.specs.Refusal.{CanBeCarried}
-use Rattle.jc_verify.specs.Told.{IsToldOf}
+use Rattle.jc_verify.specs.MethodFault.{IsToldOf}
 use Rattle.jc_verify.specs.declared.gathering.Gathered.{Gathered}
-use Rattle.jc_verify.specs.declared.gathering.Told.{Told}
+use Rattle.jc_verify.specs.declared.gathering.MethodFault.{MethodFault}
 
 -- a method with code stands at a place among the first of a package
 pub record Stands (l : Linked) (n k : ℕ) (b : MethodBody) : Type 0 where
@@ -83,8 +83,8 @@ pub record IsTold (l : Linked) (offset : ℕ) (fault : Fault) : Type 0 where
 -- carried
 pub record IsSoFar (l : Linked) (n : ℕ) (g : Gathered) : Type 0 where
   pub gathered : g.told ≡ None → AreGathered l n (rows g.rows.items)
-  pub told : (t : Told) → g.told ≡ Some t → IsTold l t.method t.fault
-  pub carried : (k : ℕ) (b : MethodBody) → Stands l n k b → ((t : Told) → g.told ≡ Some t → b.offset < t.method)
+  pub told : (t : MethodFault) → g.told ≡ Some t → IsTold l t.method t.fault
+  pub carried : (k : ℕ) (b : MethodBody) → Stands l n k b → ((t : MethodFault) → g.told ≡ Some t → b.offset < t.method)
       → CanBeCarried l (method_of l b)
 
 -- a row was put behind others, if it has states

@@ -14,7 +14,7 @@ use Rattle.jc_check.specs.Method.{Handler, Method, covers}
 use Rattle.jc_check.specs.declared.fault.WordFault.{WordFault}
 use Rattle.jc_check.specs.declared.fault.WordFault.TheVariants.{Refused, Memory}
 use Rattle.jc_verify.specs.Live.{IsEntered, IsLive}
-use Rattle.jc_verify.specs.Told.{GoesStraight, LeadsAstray}
+use Rattle.jc_verify.specs.MethodFault.{GoesStraight, LeadsAstray}
 use Rattle.jc_verify.specs.declared.entries.Followed.{Followed}
 
 -- code that decodes, with the set of the pcs at which its instructions begin

@@ -17,7 +17,7 @@ use Rattle.jc_check.specs.declared.fault.WordFault.TheVariants as faults
 use Rattle.jc_verify.specs.Live.{IsEntered}
 use Rattle.jc_verify.specs.PrivateCarrier.{HasPlace}
 use Rattle.jc_verify.specs.PrivateFlow.{Places, held_at}
-use Rattle.jc_verify.specs.Told.{Flows, GoesStraight, IsToldOf}
+use Rattle.jc_verify.specs.MethodFault.{Flows, GoesStraight, IsToldOf}
 use Rattle.jc_verify.specs.declared.place.Place.{Place}
 
 -- a state flows to a pc, where an instruction begins

@@ -18,7 +18,7 @@ use Rattle.jc_verify.specs.PrivateCarrier.{HasPlace, IsCarrier}
 use Rattle.jc_verify.specs.PrivateFlow.{AreShaped, ClosedIf, FallsIf, Grown, HasLaws, HasRoom, IsClosed, IsNumbered}
 use Rattle.jc_verify.specs.PrivateFlow.{IsUnder, IsUpper, Places, Risen, held_at, number_at}
 use Rattle.jc_verify.specs.PrivateTold.{AreReached, IsGroundOf, IsHeldAt, MeetsUnlike, Reaches}
-use Rattle.jc_verify.specs.Told.{IsToldOf}
+use Rattle.jc_verify.specs.MethodFault.{IsToldOf}
 use Rattle.jc_verify.specs.declared.flow.Flow.{Flow}
 use Rattle.jc_verify.specs.declared.place.Place.{Place}
 use Rattle.jc_verify.specs.declared.stop.Stop.{Stop}

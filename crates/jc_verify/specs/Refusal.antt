@@ -7,7 +7,7 @@ use Rattle.jc_check.specs.Carried.{Carries}
 use Rattle.jc_check.specs.Method.{Method}
 use Rattle.jc_check.specs.Package.{method_of, package_rules}
 use Rattle.jc_check.specs.declared.fault.Fault.{Fault}
-use Rattle.jc_verify.specs.Told.{IsToldOf}
+use Rattle.jc_verify.specs.MethodFault.{IsToldOf}
 use Rattle.jc_verify.specs.declared.fault.VerifyFault.{VerifyFault}
 use Rattle.jc_verify.specs.declared.fault.VerifyFault.TheVariants.{Memory, NoCertificate}
 

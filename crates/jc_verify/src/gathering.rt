@@ -23,7 +23,7 @@ use std::alloc::Global;
 
 /// A method that no states were found for, and where its inference ends.
 #[derive(Clone, Copy)]
-pub(crate) struct Told {
+pub(crate) struct MethodFault {
     pub(crate) method: u16,
     pub(crate) fault: Fault,
 }
@@ -33,7 +33,7 @@ pub(crate) struct Told {
 #[derive(Drop)]
 pub(crate) struct Gathered {
     pub(crate) rows: Vec<MethodRow>,
-    pub(crate) told: Option<Told>,
+    pub(crate) told: Option<MethodFault>,
 }
 
 /// The states that carry a method with code.
@@ -51,7 +51,7 @@ fn states_for(alloc: Global, linked: &Linked, body: &MethodCode) -> Result<Vec<S
 }
 
 /// Whether a method is told of that stands before another one, or where it stands.
-fn is_passed_over(told: Option<Told>, offset: u16) -> bool
+fn is_passed_over(told: Option<MethodFault>, offset: u16) -> bool
     ensures { result ≡ option_map_or (λ t. nat_le t.method offset) told false }
 {
     match told {
@@ -105,11 +105,11 @@ pub(crate) fn gather(
     }
 }
 
-fn told_at(method: u16, pc: u16, reason: Reason) -> Told
+fn told_at(method: u16, pc: u16, reason: Reason) -> MethodFault
     ensures method { result.method ≡ method }
     ensures fault { result.fault ≡ fault_at pc reason }
 {
-    Told {
+    MethodFault {
         method,
         fault: Fault { pc, reason },
     }

@@ -24,7 +24,7 @@ returns c =
           (c.classes_have_numbers.ensures.named c.args.classes.now)
           (as_made c.make.result c.unwrap.result c.unwrap.ensures c.make.ensures.made
           ∙ ap (λ size. with_made store
-          (fresh (record { object = own.object; mark = own.mark; clears = None }) runtime size)
+          (fresh (record { object_type = own.object; mark = own.mark; clears = None }) runtime size)
           c.index.result) c.from.ensures
           ∙ ap (with_made store (made_of 0 own)) c.index.ensures);
     }

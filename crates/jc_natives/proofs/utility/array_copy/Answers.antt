@@ -1,6 +1,6 @@
 use Rattle.std.proofs.Common.{refl}
 use Rattle.jc_natives.specs.PrivateWords.{seen_in}
-use Rattle.jc_natives.specs.declared.row.Way.TheVariants.{Loads, Stores}
+use Rattle.jc_natives.specs.declared.row.Use.TheVariants.{Loads, Stores}
 use Rattle.jc_natives.proofs.Passing.{named, two_parts}
 use Rattle.jc_natives.proofs.utility.array_copy.Goals as goal
 

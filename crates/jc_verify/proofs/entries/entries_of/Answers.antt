@@ -5,7 +5,7 @@ use Rattle.jc_verify.proofs.Refusing.{never_refused, never_stopped}
 use Rattle.jc_verify.proofs.Visiting.{if_ok}
 use Rattle.jc_verify.proofs.Ending.{tells_astray, tells_handler, tells_undecoded}
 use Rattle.jc_verify.specs.PrivateLive.{IsGround}
-use Rattle.jc_verify.specs.Told.{empty}
+use Rattle.jc_verify.specs.MethodFault.{empty}
 use Rattle.jc_verify.proofs.entries.entries_of.Goals as goal
 
 pub returns-in_err-starts-clause-refused : goal.returns-in_err-starts-clause-refused

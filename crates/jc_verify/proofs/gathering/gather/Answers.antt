@@ -3,7 +3,7 @@ use Rattle.jc_cap_desc.specs.Shape.{MethodBody}
 use Rattle.jc_cert.specs.Cert.{rows, stated}
 use Rattle.jc_check.specs.Package.{method_of, package_rules}
 use Rattle.jc_verify.specs.PrivateTold.{Tells}
-use Rattle.jc_verify.specs.Told.{IsToldOf}
+use Rattle.jc_verify.specs.MethodFault.{IsToldOf}
 use Rattle.jc_verify.specs.PrivateGathered.{IsPut}
 use Rattle.jc_verify.proofs.Telling.{carried_now, is_passed, isnt_passed, passed_over, told_now, without}
 use Rattle.jc_verify.proofs.Rows.{put}

@@ -1,5 +1,4 @@
-use Rattle.std.proofs.Common.{sym, ap, ◌∙◌, arith}
-use Rattle.jc_cap.specs.Nibbles.{next_nibble}
+use Rattle.std.proofs.Common.{arith}
 use Rattle.jc_cap.proofs.Halves.{nibble-high, nibble-low, nibble-front}
 use Rattle.jc_cap.proofs.nibbles.Nibbles.next.Goals as goal
 use Rattle.jc_cap.proofs.nibbles.Nibbles.next.Goals.{then-self-eq0, else-self-eq0}

@@ -1,5 +1,5 @@
 use Rattle.jc_store.proofs.Rows.{its_rest}
-use Rattle.jc_store.proofs.store.Store.class_of.Goals as goal
+use Rattle.jc_store.proofs.store.Store.kind_of.Goals as goal
 
 pub returns : goal.returns
 returns c object at =

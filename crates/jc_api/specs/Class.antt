@@ -30,6 +30,10 @@ numbered_classes =
     ∷ Shareable ∷ CardRuntimeException ∷ IsoException ∷ SystemException ∷ ApduException
     ∷ Aid ∷ Apdu ∷ Applet ∷ JcSystem ∷ Util ∷ []
 
+-- the number of the last class, and how many there are
+abbrev pub last_class : ℕ
+last_class = 22
+
 -- the class with a number
 abbrev pub class_of : ℕ → Option ApiClass
 class_of number = numbered numbered_classes number

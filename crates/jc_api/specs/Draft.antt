@@ -4,8 +4,8 @@ use Rattle.std.specs.List.{list_any}
 use Rattle.jc_base.specs.declared.package_info.PackageInfo.{PackageInfo}
 use Rattle.jc_api.specs.Numbered.{numbered, put}
 use Rattle.jc_api.specs.Options.{◌>>=◌, all_of}
-use Rattle.jc_api.specs.Class.{other_package, number_of, numbered_classes}
-use Rattle.jc_api.specs.Member.{ApiMember, members, member_of}
+use Rattle.jc_api.specs.Class.{other_package, last_class, number_of, numbered_classes}
+use Rattle.jc_api.specs.Member.{ApiMember, last_member, members, member_of}
 use Rattle.jc_api.specs.Token.{classes_meet, members_meet}
 use Rattle.jc_api.specs.Bound.{Bound}
 use Rattle.jc_api.specs.declared.class.ApiPackage.{ApiPackage}
@@ -16,7 +16,7 @@ use Rattle.jc_api.specs.declared.draft.Draft.{Draft}
 
 -- nothing is named yet
 abbrev pub empty_draft : Draft
-empty_draft = record { lang = None; framework = None; classes = replicate 22 None; members = replicate 55 None }
+empty_draft = record { lang = None; framework = None; classes = replicate last_class None; members = replicate last_member None }
 
 abbrev pub named_package : Draft → ApiPackage → Option PackageInfo
 named_package draft Lang = draft.lang

@@ -115,6 +115,10 @@ members =
     ∷ static Util (ByteArray ∷ Short ∷ Short ∷ []) (Value Short)  -- 54 setShort
     ∷ static Util (Byte ∷ Byte ∷ []) (Value Short) ∷ []  -- 55 makeShort
 
+-- the number of the last member, and how many there are
+abbrev pub last_member : ℕ
+last_member = 55
+
 -- the member with a number
 abbrev pub member_of : ℕ → Option ApiMember
 member_of number = numbered members number

@@ -2,8 +2,8 @@
 -- (Java Card Virtual Machine Specification, Binary Compatibility: token assignment).
 use Rattle.std.specs.Prelude.{◌≡◌, ◌≢◌, ℕ, ◌≤◌, Bool, IsTrue, List, length, Some}
 use Rattle.jc_api.specs.Numbered.{numbered}
-use Rattle.jc_api.specs.Class.{numbered_classes}
-use Rattle.jc_api.specs.Member.{ApiMember, members, member_of}
+use Rattle.jc_api.specs.Class.{last_class, numbered_classes}
+use Rattle.jc_api.specs.Member.{ApiMember, last_member, members, member_of}
 use Rattle.jc_api.specs.Token.{class_token_limit, member_token_limit, classes_meet, members_meet}
 use Rattle.jc_api.specs.Bound.{Bound}
 
@@ -14,8 +14,8 @@ TokensDiffer {A = A} meets rows tokens =
     → numbered tokens i ≡ Some t → numbered tokens j ≡ Some t → i ≡ j
 
 pub record HasNoClash (bound : Bound) : Type 0 where
-  pub class_count : length bound.classes ≡ 22
-  pub member_count : length bound.members ≡ 55
+  pub class_count : length bound.classes ≡ last_class
+  pub member_count : length bound.members ≡ last_member
   pub class_range : (n t : ℕ) → numbered bound.classes n ≡ Some t → t ≤ class_token_limit
   pub member_range : (n t : ℕ) (m : ApiMember) → member_of n ≡ Some m → numbered bound.members n ≡ Some t
       → t ≤ member_token_limit m.kind

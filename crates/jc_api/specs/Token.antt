@@ -8,7 +8,7 @@ use Rattle.jc_api.specs.declared.class.ApiPackage.TheVariants.{Lang, Framework}
 use Rattle.jc_api.specs.declared.class.ApiClass.{ApiClass}
 use Rattle.jc_api.specs.declared.member.MemberKind.{MemberKind}
 use Rattle.jc_api.specs.declared.member.MemberKind.TheVariants.{Constructor, Static, Virtual}
-use Rattle.jc_api.specs.Class.{number_of, package_of, superclass_of}
+use Rattle.jc_api.specs.Class.{last_class, number_of, package_of, superclass_of}
 use Rattle.jc_api.specs.Member.{ApiMember}
 
 abbrev pub class_token_limit : ℕ
@@ -42,7 +42,7 @@ chain (suc n) (Some class) = class ∷ chain n (superclass_of class)
 
 -- whether the first is the second or above it; no chain is longer than there are classes
 unfoldable pub is_at_or_above : ApiClass → ApiClass → Bool
-is_at_or_above a b = list_any (is_same_class a) (chain 22 (Some b))
+is_at_or_above a b = list_any (is_same_class a) (chain last_class (Some b))
 
 -- whether the tokens of two classes have to differ: they are in one package
 abbrev pub classes_meet : ApiClass → ApiClass → Bool

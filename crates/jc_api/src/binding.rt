@@ -10,9 +10,10 @@ ghost use Rattle.jc_api.specs.NoClash.{HasNoClash};
 ghost use Rattle.jc_api.specs.PrivateDraft.{IsSound};
 ghost use Rattle.jc_api.specs.Numbered.{numbered};
 
-use crate::class::{ApiClass, ApiPackage};
+use crate::class::{ApiClass, ApiPackage, CLASS_COUNT};
 use crate::draft::{Draft, all_of};
 use crate::fault::BindingFault;
+use crate::member::MEMBER_COUNT;
 use crate::numbered::numbered;
 use jc_base::{Aid, PackageInfo};
 use std::marker::Model;
@@ -22,8 +23,8 @@ use std::marker::Model;
 pub struct Binding {
     lang: PackageInfo,
     framework: PackageInfo,
-    classes: [u8; 22],
-    members: [u8; 55],
+    classes: [u8; CLASS_COUNT],
+    members: [u8; MEMBER_COUNT],
 }
 
 impl Model for Binding {
@@ -44,12 +45,12 @@ const LANG_AID: [u8; 5] = [0xF0, 0x4A, 0x43, 0x01, 0x01];
 
 const FRAMEWORK_AID: [u8; 5] = [0xF0, 0x4A, 0x43, 0x01, 0x02];
 
-const CLASS_TOKENS: [u8; 22] = [
+const CLASS_TOKENS: [u8; CLASS_COUNT] = [
     0, 1, 2, 3, 4, 5, 6, 7, 8, 9, 10, 11, // java.lang
     0, 1, 2, 3, 4, 5, 6, 7, 8, 9, // javacard.framework
 ];
 
-const MEMBER_TOKENS: [u8; 55] = [
+const MEMBER_TOKENS: [u8; MEMBER_COUNT] = [
     0, 0, // Object
     0, 0, 0, 0, 0, 0, 0, 0, 0, 0, 0, // Throwable to SecurityException
     0, 1, 2, // CardRuntimeException
@@ -129,14 +130,14 @@ impl Binding {
         }
     }
 
-    /// The token of the class with a number, or `None` outside 1 to 22.
+    /// The token of the class with a number, if it is one of 1 to [`CLASS_COUNT`].
     pub fn class_token(&self, number: u8) -> Option<u8>
         ensures { result ≡ numbered self.now.classes number }
     {
         numbered(&self.classes, number)
     }
 
-    /// The token of the member with a number, or `None` outside 1 to 55.
+    /// The token of the member with a number, if it is one of 1 to [`MEMBER_COUNT`].
     pub fn member_token(&self, number: u8) -> Option<u8>
         ensures { result ≡ numbered self.now.members number }
     {

@@ -1,10 +1,13 @@
 //! The classes of the API.
 
 ghost use Rattle.std.specs.Prelude.{◌≡◌, ◌≤◌};
-ghost use Rattle.jc_api.specs.Class.{class_of, is_abstract, is_interface, number_of, other_package, package_of};
-ghost use Rattle.jc_api.specs.Class.{package_with, size_of, superclass_of};
+ghost use Rattle.jc_api.specs.Class.{class_of, is_abstract, is_interface, last_class, number_of, other_package};
+ghost use Rattle.jc_api.specs.Class.{package_of, package_with, size_of, superclass_of};
 
 use crate::numbered::numbered;
+
+/// How many classes the API has: they are numbered from 1 on.
+pub const CLASS_COUNT: usize = 22;
 
 /// A package of the API (Java Card API Specification).
 #[derive(Clone, Copy, Debug, PartialEq, Eq)]
@@ -65,11 +68,11 @@ impl ApiPackage {
 const PACKAGES: [ApiPackage; 2] = [ApiPackage::Lang, ApiPackage::Framework];
 
 impl ApiClass {
-    /// The class's number, 1 to 22.
+    /// The class's number, 1 to [`CLASS_COUNT`].
     pub fn number(self) -> u8
         ensures number { result ≡ number_of self }
         ensures least { 1 ≤ result }
-        ensures most { result ≤ 22 }
+        ensures most { result ≤ last_class }
     {
         match self {
             ApiClass::Object => 1,
@@ -97,7 +100,7 @@ impl ApiClass {
         }
     }
 
-    /// The class with a number, or `None` outside 1 to 22.
+    /// The class with a number, if it is one of 1 to [`CLASS_COUNT`].
     pub fn from_number(number: u8) -> Option<ApiClass>
         ensures { result ≡ class_of number }
     {
@@ -209,7 +212,7 @@ impl ApiClass {
 }
 
 /// The classes by their numbers.
-pub(crate) const CLASSES: [ApiClass; 22] = [
+pub(crate) const CLASSES: [ApiClass; CLASS_COUNT] = [
     ApiClass::Object,
     ApiClass::Throwable,
     ApiClass::Exception,

@@ -11,9 +11,9 @@ ghost use Rattle.jc_api.specs.Member.{shown};
 ghost use Rattle.jc_api.specs.Text.{lines_of};
 ghost use Rattle.jc_api.specs.Token.{classes_meet, members_meet};
 
-use crate::class::{ApiClass, ApiPackage, CLASSES};
+use crate::class::{ApiClass, ApiPackage, CLASS_COUNT, CLASSES};
 use crate::fault::BindingFault;
-use crate::member::{Member, all_members};
+use crate::member::{MEMBER_COUNT, Member, all_members};
 use crate::numbered::{numbered, put};
 use crate::statement::{Statement, statement_of};
 use crate::text::{Pieces, is_skipped};
@@ -26,9 +26,9 @@ pub(crate) struct Draft {
     pub(crate) lang: Option<PackageInfo>,
     pub(crate) framework: Option<PackageInfo>,
     /// The tokens of the classes, by their numbers.
-    pub(crate) classes: [Option<u8>; 22],
+    pub(crate) classes: [Option<u8>; CLASS_COUNT],
     /// The tokens of the members, by their numbers.
-    pub(crate) members: [Option<u8>; 55],
+    pub(crate) members: [Option<u8>; MEMBER_COUNT],
 }
 
 fn is_token(token: u8, named: Option<u8>) -> bool
@@ -89,8 +89,8 @@ impl Draft {
         Draft {
             lang: None,
             framework: None,
-            classes: [None; 22],
-            members: [None; 55],
+            classes: [None; CLASS_COUNT],
+            members: [None; MEMBER_COUNT],
         }
     }
 

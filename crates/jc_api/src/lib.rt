@@ -12,7 +12,7 @@ mod text;
 mod token;
 
 pub use binding::{Binding, read_texts_are_bindings};
-pub use class::{ApiClass, ApiPackage};
+pub use class::{ApiClass, ApiPackage, CLASS_COUNT};
 pub use fault::BindingFault;
-pub use member::{Member, MemberKind};
+pub use member::{MEMBER_COUNT, Member, MemberKind};
 pub use token::is_at_or_above;

@@ -1,12 +1,15 @@
 //! The members of the classes.
 
-ghost use Rattle.std.specs.Prelude.{◌≡◌, option_map, map};
+ghost use Rattle.std.specs.Prelude.{◌≡◌, length, option_map, map};
 ghost use Rattle.jc_api.specs.Numbered.{numbered};
-ghost use Rattle.jc_api.specs.Member.{member_of, members, shown};
+ghost use Rattle.jc_api.specs.Member.{last_member, member_of, members, shown};
 
 use crate::class::ApiClass;
 use crate::numbered::numbered;
 use jc_base::{DeclaredType, ReturnType};
+
+/// How many members the API has: they are numbered from 1 on.
+pub const MEMBER_COUNT: usize = 55;
 
 /// What a member is.
 #[derive(Clone, Copy, Debug, PartialEq, Eq)]
@@ -32,7 +35,7 @@ pub struct Member {
 }
 
 impl Member {
-    /// The member with a number, or `None` outside 1 to 55.
+    /// The member with a number, if it is one of 1 to [`MEMBER_COUNT`].
     pub fn from_number(number: u8) -> Option<Member>
         ensures { option_map shown result ≡ member_of number }
     {
@@ -48,7 +51,8 @@ fn member_in(rows: &[Member], number: u8) -> Option<Member>
 
 /// The members by their numbers.
 pub(crate) fn all_members() -> &'static [Member]
-    ensures { map shown result.now ≡ members }
+    ensures rows { map shown result.now ≡ members }
+    ensures count { length result.now ≡ last_member }
 {
     MEMBERS
 }

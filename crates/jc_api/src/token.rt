@@ -5,7 +5,7 @@ ghost use Rattle.jc_api.specs.Member.{shown};
 ghost use Rattle.jc_api.specs.Token.{classes_meet, is_at_or_above, is_same_class, is_virtual, member_token_limit};
 ghost use Rattle.jc_api.specs.Token.{members_meet};
 
-use crate::class::ApiClass;
+use crate::class::{ApiClass, CLASS_COUNT};
 use crate::member::{Member, MemberKind};
 
 /// The greatest token of a class.
@@ -38,7 +38,7 @@ pub fn is_at_or_above(above: ApiClass, class: ApiClass) -> bool
     ensures { result ≡ is_at_or_above above class }
 {
     let mut next = Some(class);
-    for _ in 0..22u8 {
+    for _ in 0..CLASS_COUNT {
         let Some(here) = next else {
             return false;
         };

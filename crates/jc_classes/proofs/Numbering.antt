@@ -6,13 +6,15 @@ use Rattle.std.proofs.lemmas.Bool.{leb-true, cases_lt, lt-ltb, le-ltb}
 use Rattle.std.proofs.lemmas.List.{map-append}
 use Rattle.std.proofs.lemmas.List.Elements.{filter_map-append}
 use Rattle.std.proofs.lemmas.List.Folds.{find-append}
+use Rattle.jc_api.specs.Class.{last_class}
+use Rattle.jc_api.specs.Member.{last_member}
 use Rattle.jc_base.proofs.Binding.{both_true, the_some}
 use Rattle.jc_api.specs.Bound.{Bound}
 use Rattle.jc_api.specs.Member.{ApiMember, members, member_of, shown}
 use Rattle.jc_api.specs.declared.class.ApiClass.{ApiClass}
 use Rattle.jc_api.specs.declared.class.ApiPackage.{ApiPackage}
 use Rattle.jc_api.specs.declared.member.Member.{Member}
-use Rattle.jc_classes.specs.Api.{those_to, each_below, room_for, room_to, is_token, number_to, class_shape_of, last_class, last_member, method_of}
+use Rattle.jc_classes.specs.Api.{those_to, each_below, room_for, room_to, is_token, number_to, class_shape_of, method_of}
 use Rattle.jc_classes.specs.PrivateApi.{with_room, if_token}
 use Rattle.jc_classes.specs.Limits.{most_classes_of_one}
 

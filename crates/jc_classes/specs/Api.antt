@@ -5,6 +5,8 @@ use Rattle.std.specs.Prelude.{ℕ, ◌+◌, ◌==◌, ◌&&◌, Bool, true, fals
 use Rattle.std.specs.Prelude.{unwrap_or, if◌then◌else◌, map, max}
 use Rattle.std.specs.List.{filter_map, find, range_with_len}
 use Rattle.std.specs.Option.{option_map, option_and_then}
+use Rattle.jc_api.specs.Class.{last_class}
+use Rattle.jc_api.specs.Member.{last_member}
 use Rattle.jc_base.specs.Signature.{signature_map}
 use Rattle.jc_base.specs.declared.class_ref.ClassRef.{ClassRef}
 use Rattle.jc_base.specs.declared.class_ref.ClassRef.TheVariants.{Internal, External}
@@ -27,13 +29,6 @@ use Rattle.jc_api.specs.declared.member.MemberKind.TheVariants.{Constructor, Sta
 use Rattle.jc_classes.specs.Methods.{declared_above}
 use Rattle.jc_classes.specs.declared.api.Tokens.{Tokens}
 use Rattle.jc_classes.specs.declared.api.Tokens.TheVariants as Of
-
--- the greatest number of a class, and of a member
-abbrev pub last_class : ℕ
-last_class = 22
-
-abbrev pub last_member : ℕ
-last_member = 55
 
 -- what stands for 1 to a last number, in their order, where there is something
 unfoldable pub those_to : {A : Type 0} → ℕ → (ℕ → Option A) → List A

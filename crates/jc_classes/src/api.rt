@@ -2,13 +2,15 @@
 
 ghost use Rattle.std.specs.Prelude.{◌≡◌, ◌≤◌, ◌<◌, ◌^◌, ◌++◌, length, map, IfOk, IfSome, OnOk};
 ghost use Rattle.std.specs.Option.{option_map, option_and_then, option_to_list};
+ghost use Rattle.jc_api.specs.Class.{last_class};
+ghost use Rattle.jc_api.specs.Member.{last_member};
 ghost use Rattle.jc_api.specs.Class.{class_of, package_of, superclass_of};
 ghost use Rattle.jc_api.specs.Member.{shown};
 ghost use Rattle.jc_base.specs.Signature.{type_map, return_map};
 ghost use Rattle.jc_classes.specs.Api.{those_to, each_below, member_token, room_of, number_with, token_in, entry_of};
 ghost use Rattle.jc_classes.specs.Api.{entries_of, spelled_in, public_table, record_in, is_static, nargs_of, method_in};
 ghost use Rattle.jc_classes.specs.Api.{declared_by, method_of, class_in_api, class_with, class_shape_of, export_row};
-ghost use Rattle.jc_classes.specs.Api.{export_of, imports_of, api_shape, api_world, last_class, last_member};
+ghost use Rattle.jc_classes.specs.Api.{export_of, imports_of, api_shape, api_world};
 ghost use Rattle.jc_classes.specs.PrivateApi.{counts, if_token, with_room};
 ghost use Rattle.jc_classes.specs.PrivateShape.{record_of};
 ghost use Rattle.jc_classes.specs.declared.api.Tokens.TheVariants as Of;
@@ -16,15 +18,17 @@ ghost use Rattle.jc_classes.specs.declared.api.Tokens.TheVariants as Of;
 use crate::shape::{Body, Class, ClassBody, Export, Method, PackageShape, Table};
 use crate::shapes::Shapes;
 use crate::table::ClassTable;
-use jc_api::{ApiClass, ApiPackage, Binding, Member, MemberKind, is_at_or_above};
+use jc_api::{
+    ApiClass, ApiPackage, Binding, CLASS_COUNT, MEMBER_COUNT, Member, MemberKind, is_at_or_above,
+};
 use jc_base::{ClassRef, DeclaredType, PackageInfo, ReturnType};
 use jc_cap::MethodHeader;
 use std::alloc::{AllocError, Global};
 
 /// The greatest number of a class.
-const LAST_CLASS: u8 = 22;
+const LAST_CLASS: u8 = CLASS_COUNT as u8;
 /// The greatest number of a member.
-const LAST_MEMBER: u8 = 55;
+const LAST_MEMBER: u8 = MEMBER_COUNT as u8;
 /// What stands in a table where no member has the token.
 const NO_MEMBER: u16 = 0xFFFF;
 

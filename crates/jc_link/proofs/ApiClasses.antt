@@ -4,6 +4,8 @@ use Rattle.std.proofs.lemmas.Bool.{eq-eqb, eqb-true, le-leb, lt-ltb, ltb-true}
 use Rattle.std.specs.List.{list_all, list_any}
 use Rattle.std.specs.Option.{option_and_then, option_map, option_map_or}
 use Rattle.std.specs.Str.{bytes_eq}
+use Rattle.jc_api.specs.Class.{last_class}
+use Rattle.jc_api.specs.Member.{last_member}
 use Rattle.jc_base.specs.declared.class_ref.ClassRef.TheVariants.{Internal, External}
 use Rattle.jc_cap.specs.declared.record.RecordBody.TheVariants as Record
 use Rattle.jc_cap.specs.declared.exports.ExportedClass.{ExportedClass}
@@ -16,7 +18,7 @@ use Rattle.jc_api.specs.Token.{chain, is_at_or_above, is_same_class, is_same_pac
 use Rattle.jc_api.specs.declared.class.ApiClass.{ApiClass}
 use Rattle.jc_api.specs.declared.class.ApiPackage.{ApiPackage}
 use Rattle.jc_api.specs.declared.class.ApiPackage.TheVariants.{Lang, Framework}
-use Rattle.jc_classes.specs.Api.{api_shape, api_world, class_in_api, class_shape_of, export_of, export_row, last_class, last_member, no_table, public_table, room_to, spelled_in}
+use Rattle.jc_classes.specs.Api.{api_shape, api_world, class_in_api, class_shape_of, export_of, export_row, no_table, public_table, room_to, spelled_in}
 use Rattle.jc_classes.specs.Members.{name_of}
 use Rattle.jc_classes.specs.World as World
 use Rattle.jc_names.specs.Names.{api_home, name_in}

@@ -3,6 +3,8 @@ use Rattle.std.proofs.Common.{◌≡◌, ℕ, zero, suc, ◌<◌, ◌==◌, ◌&
 use Rattle.std.proofs.lemmas.Bool.{eq-eqb, ne_eqb}
 use Rattle.std.specs.List.{list_any}
 use Rattle.std.specs.Option.{option_and_then, option_map, option_map_or}
+use Rattle.jc_api.specs.Class.{last_class}
+use Rattle.jc_api.specs.Member.{last_member}
 use Rattle.jc_cap.specs.ClassComponent.{is_class}
 use Rattle.jc_cap.specs.declared.record.RecordBody.{RecordBody}
 use Rattle.jc_cap.specs.declared.record.RecordBody.TheVariants.{Interface, Class}
@@ -18,7 +20,7 @@ use Rattle.jc_api.specs.declared.class.ApiClass.TheVariants.{Object, Applet}
 use Rattle.jc_api.specs.declared.class.ApiPackage.{ApiPackage}
 use Rattle.jc_api.specs.declared.class.ApiPackage.TheVariants.{Lang}
 use Rattle.jc_api.specs.declared.member.MemberKind.{MemberKind}
-use Rattle.jc_classes.specs.Api.{api_shape, api_world, class_in_api, class_shape_of, is_static, last_class, last_member, number_to, record_in, those_to}
+use Rattle.jc_classes.specs.Api.{api_shape, api_world, class_in_api, class_shape_of, is_static, number_to, record_in, those_to}
 use Rattle.jc_classes.specs.Members.{method_at, name_of}
 use Rattle.jc_classes.specs.Methods.{declared_above, method_name, virtual_method_of}
 use Rattle.jc_classes.specs.Record.{interface_rows, package_entries, public_entries}

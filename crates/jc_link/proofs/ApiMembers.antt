@@ -3,6 +3,8 @@ use Rattle.std.proofs.Common.{◌≡◌, ℕ, suc, ◌≤◌, ◌==◌, ◌&&◌
 use Rattle.std.proofs.lemmas.Bool.{eq-eqb, eqb-true}
 use Rattle.std.specs.List.{find, list_all}
 use Rattle.std.specs.Option.{option_map, option_map_or}
+use Rattle.jc_api.specs.Class.{last_class}
+use Rattle.jc_api.specs.Member.{last_member}
 use Rattle.jc_base.specs.Signature.{Signature, return_map, signature_map, type_map}
 use Rattle.jc_base.specs.declared.class_ref.ClassRef.{ClassRef}
 use Rattle.jc_base.specs.declared.declared_type.DeclaredType.{DeclaredType}
@@ -19,7 +21,7 @@ use Rattle.jc_api.specs.Class.{is_interface, number_of, package_of}
 use Rattle.jc_api.specs.Member.{ApiMember, member_of, members}
 use Rattle.jc_api.specs.NoClash.{HasNoClash}
 use Rattle.jc_api.specs.declared.class.ApiClass.{ApiClass}
-use Rattle.jc_classes.specs.Api.{api_shape, api_world, class_in_api, class_shape_of, last_class, last_member, method_in, method_of, record_in, spelled_in, those_to}
+use Rattle.jc_classes.specs.Api.{api_shape, api_world, class_in_api, class_shape_of, method_in, method_of, record_in, spelled_in, those_to}
 use Rattle.jc_classes.specs.Members.{DeclaredMethod, method_at}
 use Rattle.jc_classes.specs.Methods.{has_method, method_of_class}
 use Rattle.jc_names.specs.Names.{api_home}

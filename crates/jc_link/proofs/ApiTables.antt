@@ -3,6 +3,7 @@
 use Rattle.std.proofs.Common.{◌≡◌, ℕ, zero, suc, ◌-◌, ◌<◌, ◌≤◌, ◌==◌, ◌&&◌, ◌||◌, ◌⊎◌, inl, inr, Bool, true, false, cond, List, [], length, Option, Some, None, refl, ap, sym, ◌∙◌, arith, nat_lt, slice_get, unwrap_or}
 use Rattle.std.proofs.lemmas.Bool.{cases_lt, le-ltb, lt-ltb}
 use Rattle.std.specs.Option.{option_and_then, option_map}
+use Rattle.jc_api.specs.Member.{last_member}
 use Rattle.jc_cap.specs.declared.record.ClassRecord.{ClassRecord}
 use Rattle.jc_cap.specs.declared.record.RecordBody.TheVariants.{Interface, Class}
 use Rattle.jc_cap_desc.specs.Shape.{Shape}
@@ -14,7 +15,7 @@ use Rattle.jc_api.specs.Numbered.{numbered}
 use Rattle.jc_api.specs.Token.{is_at_or_above, is_same_class, is_virtual, members_meet}
 use Rattle.jc_api.specs.declared.class.ApiClass.{ApiClass}
 use Rattle.jc_api.specs.declared.class.ApiPackage.{ApiPackage}
-use Rattle.jc_classes.specs.Api.{api_shape, api_world, class_in_api, each_below, last_member, member_token, no_table, number_to, public_table, room_to, spelled_in}
+use Rattle.jc_classes.specs.Api.{api_shape, api_world, class_in_api, each_below, member_token, no_table, number_to, public_table, room_to, spelled_in}
 use Rattle.jc_classes.specs.Methods.{declared_above, entry_visit, has_method, method_there, record_visit, table_visit, virtual_method_of, virtual_visit}
 use Rattle.jc_classes.specs.Walk.{found_from, most_classes, walk}
 use Rattle.jc_names.specs.Names.{api_home}

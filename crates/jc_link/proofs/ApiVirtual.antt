@@ -7,6 +7,7 @@ use Rattle.std.proofs.lemmas.List.Folds.{find_at}
 use Rattle.std.proofs.lemmas.Option.{slice_get_within}
 use Rattle.std.specs.List.{find, position, position_or_len}
 use Rattle.std.specs.Option.{option_and_then, option_map}
+use Rattle.jc_api.specs.Member.{last_member}
 use Rattle.jc_api.specs.Bound.{Bound}
 use Rattle.jc_api.specs.Class as tables
 use Rattle.jc_api.specs.Class.{is_interface, package_of}
@@ -20,7 +21,7 @@ use Rattle.jc_api.specs.declared.member.MemberKind.{MemberKind}
 use Rattle.jc_cap.specs.declared.record.ClassRecord.{ClassRecord}
 use Rattle.jc_cap.specs.declared.record.RecordBody.TheVariants.{Class, Interface}
 use Rattle.jc_cap_desc.specs.Shape.{ClassShape, Shape}
-use Rattle.jc_classes.specs.Api.{api_world, class_in_api, each_below, last_member, method_in, public_table, record_in}
+use Rattle.jc_classes.specs.Api.{api_world, class_in_api, each_below, method_in, public_table, record_in}
 use Rattle.jc_classes.specs.Growth.{IsMethodWithin, KeepsAllLookups}
 use Rattle.jc_classes.specs.Members.{DeclaredMethod, declared_in, method_at}
 use Rattle.jc_classes.specs.Methods.{declared_above, method_name, package_visible, virtual_method_of, virtual_visit}

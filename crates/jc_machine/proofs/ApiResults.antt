@@ -5,6 +5,8 @@ use Rattle.std.proofs.lemmas.Bool.{eqb-true}
 use Rattle.std.proofs.lemmas.Option.{none-some, same_Some, slice_get_past}
 use Rattle.std.specs.List.{cons_option, filter_map, find, range_with_len}
 use Rattle.std.specs.Option.{option_and_then, option_map, option_map_or}
+use Rattle.jc_api.specs.Class.{last_class}
+use Rattle.jc_api.specs.Member.{last_member}
 use Rattle.jc_api.specs.Bound.{Bound}
 use Rattle.jc_api.specs.Class.{package_of}
 use Rattle.jc_api.specs.Member.{ApiMember, member_of, members}
@@ -18,7 +20,7 @@ use Rattle.jc_base.specs.declared.declared_type.ReturnType.{ReturnType}
 use Rattle.jc_cap.specs.ClassComponent.{is_class}
 use Rattle.jc_cap_desc.specs.Shape.{ClassShape, MethodShape, Shape}
 use Rattle.jc_classes.specs.Api.{api_shape, api_world, class_in_api, class_shape_of, class_with, declared_by}
-use Rattle.jc_classes.specs.Api.{last_class, last_member, method_in, method_of, record_in, those_to}
+use Rattle.jc_classes.specs.Api.{method_in, method_of, record_in, those_to}
 use Rattle.jc_classes.specs.Members.{DeclaredMethod, declared_in, method_at, name_of}
 use Rattle.jc_classes.specs.Methods.{method_of_class}
 use Rattle.jc_names.specs.Names.{api_home}

@@ -25,12 +25,13 @@ use crate::status::UNKNOWN_ERROR;
 use crate::writing::{INSTALL_ARRAY, INSTALL_SIZE};
 use arrayvec::ArrayVec;
 use jc_base::Aid;
+use jc_entries::Called;
 use jc_interp::{FirstCall, RunEnd};
 use jc_link::built_worlds_are_sound;
 use jc_machine::Natives;
 use jc_names::Owner;
 use jc_natives::{calls_keep_fitting, calls_keep_numbers};
-use jc_program::{Called, Program};
+use jc_program::Program;
 use jc_safety::accepted_packages_are_type_safe;
 use jc_store::ClearingEvent;
 

@@ -4,7 +4,7 @@ use Rattle.std.specs.Prelude.{◌≡◌, ◌<◌, ℕ, Option, Some, length}
 use Rattle.jc_link.specs.Linked.{World}
 use Rattle.jc_program.specs.Called.{called_of}
 use Rattle.jc_program.specs.Program.{IsProgramOf}
-use Rattle.jc_program.specs.declared.called.Called.{Called}
+use Rattle.jc_entries.specs.declared.called.Called.{Called}
 use Rattle.jc_program.specs.declared.program.Program.{Program}
 use Rattle.jc_machine.specs.Accepted.{IsAccepted}
 use Rattle.jc_machine.specs.Machine.{Limits, Natives, Surroundings}

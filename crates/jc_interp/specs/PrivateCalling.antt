@@ -5,8 +5,8 @@ use Rattle.jc_frames.specs.Frames as frames
 use Rattle.jc_program.specs.Called.{called_at}
 use Rattle.jc_program.specs.MemberTokens.{token_at}
 use Rattle.jc_program.specs.Methods.{LoadedMethod}
-use Rattle.jc_program.specs.declared.called.Called.{Called}
-use Rattle.jc_program.specs.declared.called.Called.TheVariants as calls
+use Rattle.jc_entries.specs.declared.called.Called.{Called}
+use Rattle.jc_entries.specs.declared.called.Called.TheVariants as calls
 use Rattle.jc_program.specs.declared.program.Program.{Program}
 use Rattle.jc_store.specs.Store.{Store}
 use Rattle.jc_interp.specs.PrivateSeen.{seen_of}

@@ -2,7 +2,7 @@
 //! Environment Specification, Applet lifetime).
 
 ghost use Rattle.std.specs.Prelude.{◌≡◌, []};
-ghost use Rattle.jc_program.specs.declared.called.Called.TheVariants.{Method, NativeMethod};
+ghost use Rattle.jc_entries.specs.declared.called.Called.TheVariants.{Method, NativeMethod};
 ghost use Rattle.std.specs.Bool.{OnTrue};
 ghost use Rattle.jc_interp.specs.Calling.{IsCall, IsMethodFor, MayCall};
 ghost use Rattle.jc_interp.specs.Showing.{ShowsCall};
@@ -15,11 +15,12 @@ use crate::machine::WordMachine;
 use crate::seen::look_at;
 use crate::shown::ShownFrame;
 use crate::step::tables_are_known;
+use jc_entries::{Called, MethodNumber};
 use jc_firewall::Denial;
 use jc_link::World;
 use jc_machine::{Budget, Natives, WordCall, WordOutcome};
 use jc_names::Owner;
-use jc_program::{Called, ClassNumber, MethodNumber, Program};
+use jc_program::{ClassNumber, Program};
 use jc_safety::accepted_packages_are_type_safe;
 use jc_store::Store;
 

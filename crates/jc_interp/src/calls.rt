@@ -15,9 +15,10 @@ ghost use Rattle.jc_program.specs.Program.{IsProgramOf};
 use crate::here::Here;
 use crate::machine::WordMachine;
 use crate::seen::{Seen, look_at, verdict};
+use jc_entries::Called;
 use jc_firewall::{Access, Verdict};
 use jc_names::ClassName;
-use jc_program::{Called, ClassNumber, InterfaceCall};
+use jc_program::{ClassNumber, InterfaceCall};
 
 /// The context of the runtime.
 const RUNTIME: u8 = 0;

@@ -13,11 +13,12 @@ use crate::seen::{class_named, facts, look_at, mark_of};
 use jc_code::{
     FieldAccess, FieldAction, Form, Invocation, ObjectOperation, Operation, TestedType, decode,
 };
+use jc_entries::{Entry, EntryCall};
 use jc_firewall::{Access, Denial, denial};
 use jc_link::World;
 use jc_machine::{Natives, WordCall};
 use jc_names::ClassName;
-use jc_program::{ClassNumber, Entry, EntryCall, InterfaceCall, Program};
+use jc_program::{ClassNumber, InterfaceCall, Program};
 use jc_store::Mark;
 
 /// An access of the instruction at which a frame stands.

@@ -11,9 +11,10 @@ use crate::here::Here;
 use crate::machine::WordMachine;
 use crate::top::{Running, pool_from};
 use jc_cap::MethodHeader;
+use jc_entries::MethodNumber;
 use jc_frames::{CodePlace, FrameHeader, FrameSize};
 use jc_names::Owner;
-use jc_program::{LoadedMethod, MethodNumber};
+use jc_program::LoadedMethod;
 
 /// The owners of a called frame.
 #[derive(Clone, Copy)]

@@ -12,8 +12,8 @@ use crate::here::Here;
 use crate::machine::WordMachine;
 use crate::seen::{allows, cell, look_at, mark_of, put};
 use jc_code::{FieldAccess, FieldAction, Form, Holder};
+use jc_entries::Entry;
 use jc_firewall::Access;
-use jc_program::Entry;
 use jc_store::{Mark, Store};
 
 /// What is done where a field is written.

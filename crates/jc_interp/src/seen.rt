@@ -5,9 +5,10 @@ ghost use Rattle.jc_interp.specs.PrivateSeen.{allows, cell_in, class_in, class_n
 ghost use Rattle.jc_interp.specs.PrivateSeen.{mark_of, seen_of, verdict_on, with_put};
 
 use crate::here::Here;
+use jc_entries::Entry;
 use jc_firewall::{Access, Facts, Verdict, decide};
 use jc_names::{ClassName, Owner};
-use jc_program::{ClassNumber, Entry, Program};
+use jc_program::{ClassNumber, Program};
 use jc_store::{Mark, ObjectKind, ObjectType, Store};
 
 /// What is seen of an object.

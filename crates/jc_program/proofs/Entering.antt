@@ -8,7 +8,7 @@ use Rattle.jc_names.specs.Names.{home_at}
 use Rattle.jc_program.specs.Entries.{AreEntries, entry_at, entry_of, target_in}
 use Rattle.jc_program.specs.Methods.{LoadedMethod, entry_target}
 use Rattle.jc_program.specs.PrivateEntries.{ArePools, pool_of}
-use Rattle.jc_program.specs.declared.entry.Entry.{Entry}
+use Rattle.jc_entries.specs.declared.entry.Entry.{Entry}
 use Rattle.jc_program.proofs.Catching.{target_there}
 
 -- an entry of one package

@@ -33,7 +33,7 @@ use Rattle.jc_program.specs.Methods.{AreLoaded, LoadedMethod, caught_by, entry_t
 use Rattle.jc_program.specs.Methods.{loaded_method, methods_from, methods_of}
 use Rattle.jc_program.specs.PrivateClasses.{HaveLastWordOffsets}
 use Rattle.jc_program.specs.PrivateEntries.{pool_of}
-use Rattle.jc_program.specs.declared.entry.Entry.{Entry}
+use Rattle.jc_entries.specs.declared.entry.Entry.{Entry}
 use Rattle.jc_program.proofs.Calling.{get_last}
 use Rattle.jc_program.proofs.Catching.{target_there}
 use Rattle.jc_program.proofs.Counting.{get_front}

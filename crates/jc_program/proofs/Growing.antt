@@ -37,8 +37,8 @@ use Rattle.jc_program.specs.MemberTokens.{AreMemberTokens}
 use Rattle.jc_program.specs.Methods.{LoadedMethod, is_named}
 use Rattle.jc_program.specs.PrivateCalled.{AreListed, HasCalled, HasListed, HasVisible}
 use Rattle.jc_program.specs.PrivateClassRows.{HaveRows}
-use Rattle.jc_program.specs.declared.called.Called.{Called}
-use Rattle.jc_program.specs.declared.called.Called.TheVariants.{Nothing}
+use Rattle.jc_entries.specs.declared.called.Called.{Called}
+use Rattle.jc_entries.specs.declared.called.Called.TheVariants.{Nothing}
 use Rattle.jc_program.specs.declared.class_rows.ClassRow.{ClassRow}
 use Rattle.jc_program.specs.declared.interfaces.InterfaceCall.TheVariants.{NotListed, Listed}
 use Rattle.jc_program.proofs.Counting.{get_front, is_there, keeps_numbers, new_at_home}

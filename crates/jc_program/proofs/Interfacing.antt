@@ -17,7 +17,7 @@ use Rattle.jc_program.specs.Called.{AreInterfaceCalls, KeyedTable, called_in, ca
 use Rattle.jc_program.specs.Classes.{class_number}
 use Rattle.jc_program.specs.Methods.{LoadedMethod}
 use Rattle.jc_program.specs.PrivateCalled.{AreListed, HasInterfaces, HasListed, index_called, table_for, table_with}
-use Rattle.jc_program.specs.declared.called.Called.TheVariants.{Nothing}
+use Rattle.jc_entries.specs.declared.called.Called.TheVariants.{Nothing}
 use Rattle.jc_program.specs.declared.interfaces.InterfaceCall.TheVariants.{NotListed, Listed}
 use Rattle.jc_program.proofs.Chaining.{not_listed, not_there}
 use Rattle.jc_program.proofs.Naming.{first_option, position_below}

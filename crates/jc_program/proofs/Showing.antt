@@ -14,8 +14,8 @@ use Rattle.jc_names.specs.declared.name.ClassName.{ClassName}
 use Rattle.jc_program.specs.Called.{AreVisible, KeyedTable, called_in, called_of, keyed_in}
 use Rattle.jc_program.specs.Methods.{LoadedMethod}
 use Rattle.jc_program.specs.PrivateCalled.{AreListed, HasCalled, HasNoPlaceFrom, HasPlaces, HasVisible}
-use Rattle.jc_program.specs.declared.called.Called.{Called}
-use Rattle.jc_program.specs.declared.called.Called.TheVariants.{Nothing}
+use Rattle.jc_entries.specs.declared.called.Called.{Called}
+use Rattle.jc_entries.specs.declared.called.Called.TheVariants.{Nothing}
 
 -- ---- one table more
 

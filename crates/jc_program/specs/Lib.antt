@@ -1,7 +1,6 @@
 pub mod Methods
 pub mod PrivateLaid
 pub mod Entries
-pub mod EntryCalls
 pub mod PrivateEntries
 pub mod Classes
 pub mod PrivateClasses

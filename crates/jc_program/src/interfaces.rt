@@ -7,12 +7,13 @@ ghost use Rattle.jc_link.specs.Sound.{IsSound};
 ghost use Rattle.jc_program.specs.Called.{AreInterfaceCalls, interface_call_at, keyed_at};
 ghost use Rattle.jc_program.specs.PrivateCalled.{AreListed, HasListed, table_for};
 
-use crate::called::{Called, indexes_called};
+use crate::called::indexes_called;
 use crate::classes::{ClassNumber, Classes};
 use crate::keyed::KeyedLists;
 use crate::methods::Methods;
 use jc_base::Shared;
 use jc_classes::{ClassTable, ListedInterface};
+use jc_entries::Called;
 use jc_link::{World, built_worlds_are_sound};
 use jc_names::ClassName;
 use std::alloc::{AllocError, Global};

@@ -5,9 +5,9 @@ ghost use Rattle.jc_program.specs.Called.{keyed_at};
 ghost use Rattle.jc_program.specs.PrivateCalled.{no_lists, with_last, with_tables};
 ghost use Rattle.jc_program.specs.declared.keyed.Window.{Window as TheWindow};
 
-use crate::called::Called;
 use crate::laid::start_of;
 use crate::tables::{CalledTables, short_of};
+use jc_entries::Called;
 use std::alloc::{AllocError, Global};
 use std::marker::Model;
 

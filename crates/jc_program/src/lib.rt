@@ -25,11 +25,9 @@ mod tables;
 mod virtuals;
 mod visible;
 
-pub use called::Called;
 pub use class_rows::{ClassRow, ClassRows};
 pub use classes::{ClassNumber, Classes};
 pub use entries::Entries;
-pub use entry::{Entry, EntryCall};
 pub use handler::{Caught, LoadedHandler};
 pub use interfaces::{InterfaceCall, InterfaceMethods};
 pub use laws::{
@@ -37,7 +35,7 @@ pub use laws::{
     loaded_handlers_cover_the_same, program_laws, unknown_classes_are_below_themselves,
 };
 pub use member_tokens::MemberTokens;
-pub use methods::{MethodNumber, Methods};
+pub use methods::Methods;
 pub use program::{Program, ProgramSize};
 pub use row::LoadedMethod;
 pub use superclasses::Superclasses;

@@ -4,12 +4,13 @@ ghost use Rattle.std.specs.Prelude.{◌≡◌, ◌+◌, ◌≤◌, ◌==◌, [],
 ghost use Rattle.jc_program.specs.Called.{AreVisible, visible_at};
 ghost use Rattle.jc_program.specs.PrivateCalled.{AreListed, HasPlaces, HasVisible};
 
-use crate::called::{Called, PACKAGE_VISIBLE, table_made};
+use crate::called::{PACKAGE_VISIBLE, table_made};
 use crate::classes::{ClassNumber, Classes};
 use crate::keyed::KeyedLists;
 use crate::methods::Methods;
 use crate::tables::short_of;
 use jc_classes::ClassTable;
+use jc_entries::Called;
 use jc_link::World;
 use jc_names::{ClassName, PackagePlace};
 use std::alloc::{AllocError, Global};

@@ -8,7 +8,8 @@ use Rattle.jc_link.specs.Linked.{World}
 use Rattle.jc_machine.specs.Keeping.{LeavesKept, MembersKeep}
 use Rattle.jc_machine.specs.Machine.{NativeCall}
 use Rattle.jc_machine.specs.Step.{CallEnd, WasStuck}
-use Rattle.jc_natives.specs.Kept.{Kept, now_registered}
+use Rattle.jc_names.specs.declared.owner.Owner.{Owner}
+use Rattle.jc_natives.specs.Kept.{Kept, is_same_owner, now_registered}
 use Rattle.jc_natives.specs.Meaning.{meaning}
 use Rattle.jc_natives.specs.Registered.{LeavesInstances, MayRegister, as_they_were, one_more}
 use Rattle.jc_natives.specs.Remembered as remembered
@@ -42,6 +43,12 @@ same_installing one other e = grind (arith, bytes_eq-Decides)
 
 same_from : (one other : Option Installing) → one ≡ other → is_same_installing one other ≡ true
 same_from one other e = grind (arith, bytes_eq-Decides)
+
+pub same_owner : (a b : Owner) → is_same_owner a b ≡ true → a ≡ b
+same_owner a b e = grind (arith, and_parts, eqb-true)
+
+owner_itself : (a b : Owner) → a ≡ b → is_same_owner a b ≡ true
+owner_itself a b e = grind (arith, eq-eqb)
 
 -- ---- instances, and more behind them
 
@@ -78,7 +85,7 @@ abbrev may_follow : Option Installing → Option Installing → List Instance �
 may_follow was now [] = is_same_installing now was
 may_follow None now (i ∷ []) = false
 may_follow (Some j) now (i ∷ []) =
-    not j.registered && (i.owner.instance == j.owner.instance && is_same_installing now (Some (now_registered j)))
+    not j.registered && (is_same_owner i.owner j.owner && is_same_installing now (Some (now_registered j)))
 may_follow was now (i ∷ j ∷ rest) = false
 
 abbrev pub registers : Kept → Kept → Bool
@@ -96,7 +103,7 @@ module _ (before after : Kept) where
           as_they_were (is ∙ append-nil before.instances) (same_installing after.installing o e ∙ sym was)
       by_rest (i ∷ []) is None was e = absurd (true≢false (sym e))
       by_rest (i ∷ []) is (Some j) was e =
-          one_more j i was (grind arith) (grind (arith, eqb-true)) is (grind (arith, same_installing))
+          one_more j i was (grind arith) (grind (arith, same_owner)) is (grind (arith, same_installing))
       by_rest (i ∷ j ∷ rest) is o was e = absurd (true≢false (sym e))
 
   by_followers : (rest : List Instance) → after.instances ≡ before.instances ++ rest
@@ -109,8 +116,9 @@ module _ (before after : Kept) where
   passes_test (as_they_were instances installing) =
       by_followers [] (instances ∙ sym (append-nil before.instances))
       (same_from after.installing before.installing installing)
-  passes_test (one_more j i was waited number instances now) =
-      let came : may_follow (Some j) after.installing (i ∷ []) ≡ true = grind (arith, eq-eqb, same_from) in
+  passes_test (one_more j i was waited owner instances now) =
+      let same = owner_itself i.owner j.owner owner in
+      let came : may_follow (Some j) after.installing (i ∷ []) ≡ true = grind (arith, same, same_from) in
       by_followers (i ∷ []) instances (subst (λ o. may_follow o after.installing (i ∷ []) ≡ true) (sym was) came)
 
 -- ---- members
@@ -119,12 +127,12 @@ module _ (before after : Kept) where
 still_may : (before : Kept) (call : NativeCall Kept) (after : Kept) → MayRegister before call.runtime
     → KeepsInstances call after → MayRegister before after
 still_may before call after (as_they_were e f) (remembered.as_they_were g h) = as_they_were (g ∙ e) (h ∙ f)
-still_may before call after (one_more j i was waited number is now) (remembered.as_they_were g h) =
-    one_more j i was waited number (g ∙ is) (h ∙ now)
+still_may before call after (one_more j i was waited owner is now) (remembered.as_they_were g h) =
+    one_more j i was waited owner (g ∙ is) (h ∙ now)
 still_may before call after (as_they_were e f) (remembered.one_more register has) =
-    one_more has.installing has.instance (sym f ∙ has.was) has.waited has.number
+    one_more has.installing has.instance (sym f ∙ has.was) has.waited has.installs
     (has.instances ∙ ap (λ xs. xs ++ has.instance ∷ []) e) has.is
-still_may before call after (one_more j i was waited number is now) (remembered.one_more register has) =
+still_may before call after (one_more j i was waited owner is now) (remembered.one_more register has) =
     grind (arith, has.was, has.waited, now)
 
 pub members_register : ((w : World) (call : NativeCall Kept) → IsRemembered w call (meaning.answer w call))

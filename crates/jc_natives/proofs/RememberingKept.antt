@@ -24,6 +24,7 @@ use Rattle.jc_natives.proofs.Changed.{either_is}
 use Rattle.jc_natives.proofs.Spared.{all_throw_own, throws_own}
 use Rattle.jc_natives.specs.Cells.{Write, extended, has_room, is_count, written}
 use Rattle.jc_natives.specs.Checks.{Check, Passed, Refused, TestEnd, Unfit, Uses, are_aids, tested}
+use Rattle.jc_natives.proofs.Registering.{same_owner}
 use Rattle.jc_natives.specs.Kept.{Kept, aid_object, expected_of, has_aid_length, instance_of}
 use Rattle.jc_natives.specs.Kept.{instance_with, is_fresh, is_incoming, is_length_set, is_outgoing, is_same_owner}
 use Rattle.jc_natives.specs.Kept.{most_sent, now_registered, with_announced, with_instance, with_sent, with_state}
@@ -422,7 +423,7 @@ module _ (h : Called) (Spared : By → ℕ → Type 0) where
       whose : owner ≡ object.owner
       was : k.installing ≡ Some i
       waited : i.registered ≡ false
-      number : owner.instance ≡ i.owner.instance
+      installs : owner ≡ i.owner
 
     names_object : (v : Option TaggedValue) (n : ℕ) (object : Object TaggedValue)
         → option_and_then as_reference v ≡ Some n → object_at h.call.heap n ≡ Some object → v ≡ Some (Ref n)
@@ -441,7 +442,7 @@ module _ (h : Called) (Spared : By → ℕ → Type 0) where
       where
         by_test : (b : Bool) → may_register object.owner j ≡ b → cond b (Some j) None ≡ Some i → May n object.owner i
         by_test true f g =
-            let m = both (not i.registered) (object.owner.instance == i.owner.instance)
+            let m = both (not i.registered) (is_same_owner object.owner i.owner)
             (subst (λ x. may_register object.owner x ≡ true) (same_Some j i g) f) in record {
               object = object;
               named = names_object (slice_get h.call.arguments 0) n object is found;
@@ -449,7 +450,7 @@ module _ (h : Called) (Spared : By → ℕ → Type 0) where
               whose = refl;
               was = was ∙ g;
               waited = not-true i.registered m.0;
-              number = eqb-true object.owner.instance i.owner.instance m.1;
+              installs = same_owner object.owner i.owner m.1;
             }
         by_test false f g = absurd (none-some i g)
 
@@ -491,7 +492,7 @@ module _ (h : Called) (Spared : By → ℕ → Type 0) where
             installing = i;
             was = may.was;
             waited = may.waited;
-            number = may.number;
+            installs = may.installs;
             is = ap (option_map now_registered) may.was;
           }),
           (own.registers e i may.was may.waited, tt),

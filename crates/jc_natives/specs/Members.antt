@@ -7,8 +7,8 @@ use Rattle.jc_machine.specs.Runtime.{system_exception}
 use Rattle.jc_names.specs.declared.owner.Owner.{Owner}
 use Rattle.jc_natives.specs.Cells.{bit, extended, high, is_count, is_within, low, order_of, word, word_of_bytes}
 use Rattle.jc_natives.specs.Kept.{Kept, aid_object, expected_of, has_aid_length, instance_of, instance_with, is_fresh}
-use Rattle.jc_natives.specs.Kept.{is_incoming, is_length_set, is_outgoing, most_sent, with_announced, with_instance}
-use Rattle.jc_natives.specs.Kept.{with_sent, with_state}
+use Rattle.jc_natives.specs.Kept.{is_incoming, is_length_set, is_outgoing, is_same_owner, most_sent, with_announced}
+use Rattle.jc_natives.specs.Kept.{with_instance, with_sent, with_state}
 use Rattle.jc_natives.specs.Checks.{CallsOtherAid, Check, HasRange, Uses, UsesUnlessNull, are_aids}
 use Rattle.jc_natives.specs.Taking.{Called, on_aid, on_bytes, on_component, on_object, on_range, on_reference, on_word}
 use Rattle.jc_natives.specs.Taking.{on_words}
@@ -257,9 +257,9 @@ apdu_member apdus.SetOutgoingAndSend = record {
 
 -- ---- Applet, but for its constructor
 
--- an object of this owner belongs to the instance that is being installed, which hasn't registered
+-- an object of this owner may register: the owner is the instance being installed, which hasn't registered
 abbrev pub may_register : Owner → Installing → Bool
-may_register owner i = not i.registered && owner.instance == i.owner.instance
+may_register owner i = not i.registered && is_same_owner owner i.owner
 
 -- the instance being installed, if an object may register in its name: outside an install, a second time, or for
 -- another instance there is nothing to register

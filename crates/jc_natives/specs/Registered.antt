@@ -11,7 +11,7 @@ use Rattle.jc_natives.specs.declared.kept.Instance.{Instance}
 pub data MayRegister (before after : Kept) : Type 0 where
   as_they_were : after.instances ≡ before.instances → after.installing ≡ before.installing → MayRegister before after
   one_more : (installing : Installing) (instance : Instance) → before.installing ≡ Some installing
-      → installing.registered ≡ false → instance.owner.instance ≡ installing.owner.instance
+      → installing.registered ≡ false → instance.owner ≡ installing.owner
       → after.instances ≡ before.instances ++ instance ∷ []
       → after.installing ≡ Some (record { owner = installing.owner; aid = installing.aid; registered = true })
       → MayRegister before after

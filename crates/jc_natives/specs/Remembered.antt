@@ -34,9 +34,9 @@ get_previous_aid = 43
 
 -- ---- registered instances
 
--- one instance more is registered. Its object is the applet that the call's first argument leads to. Its owner is the
--- owner of that object, and has the number of the instance that is being installed. No registered instance had its AID.
--- The instance that is being installed hadn't registered; now it has
+-- one instance more is registered. Its object is the applet that the call's first argument leads to, and its owner is
+-- the owner of that object: the instance that is being installed. No registered instance had its AID. The instance that
+-- is being installed hadn't registered; now it has
 pub record HasRegistered (call : NativeCall Kept) (after : Kept) : Type 0 where
   pub instance : Instance
   pub instances : after.instances ≡ call.runtime.instances ++ instance ∷ []
@@ -48,7 +48,7 @@ pub record HasRegistered (call : NativeCall Kept) (after : Kept) : Type 0 where
   pub installing : Installing
   pub was : call.runtime.installing ≡ Some installing
   pub waited : installing.registered ≡ false
-  pub number : instance.owner.instance ≡ installing.owner.instance
+  pub installs : instance.owner ≡ installing.owner
   pub is : after.installing ≡ Some (record { owner = installing.owner; aid = installing.aid; registered = true })
 
 -- the instances are what they were, and so is the one that is being installed; or a call of register has added one

@@ -13,7 +13,7 @@ use crate::aid::{ILLEGAL_VALUE, has_aid_length};
 use crate::bytes::{append_bytes, put_bytes};
 use crate::cells::{argument, bit, extended, put};
 use crate::ended::{Ended, throw_system};
-use crate::kept::{Installing, Instance, Runtime};
+use crate::kept::{Installing, Instance, Runtime, is_same_owner};
 use crate::member::{Member, tested};
 use crate::native::AppletNative;
 use crate::row::{Length, MemberRow, Test, Use};
@@ -45,11 +45,11 @@ fn owner_of(store: &Store, number: u16) -> Owner
     }
 }
 
-// Whether an object belongs to the instance that is being installed, which hasn't registered.
+// Whether an object's owner is the instance that is being installed, which hasn't registered.
 fn may_register(store: &Store, call: &WordCall<'_>, object: u16, installing: &Installing) -> bool
     ensures { result ≡ may_register (seen_in store.now call.now) object installing.now }
 {
-    !installing.registered && owner_of(store, object).instance == installing.owner.instance
+    !installing.registered && is_same_owner(owner_of(store, object), installing.owner)
 }
 
 // The instance that is being installed, if an object may register in its name.

@@ -129,11 +129,18 @@ fn has_aid_in(instance: &Instance, store: &Store, number: u16, from: u16, count:
     )
 }
 
+// Whether two owners are one.
+pub(crate) fn is_same_owner(one: Owner, other: Owner) -> bool
+    ensures { result ≡ is_same_owner one other }
+{
+    one.context == other.context && one.instance == other.instance
+}
+
 // Whether an instance's object is an owner's.
 fn is_of(instance: &Instance, owner: Owner) -> bool
     ensures { result ≡ is_same_owner instance.now.owner owner }
 {
-    instance.owner.context == owner.context && instance.owner.instance == owner.instance
+    is_same_owner(instance.owner, owner)
 }
 
 // The registered instance with an AID.

@@ -24,7 +24,7 @@ pub use class_ref::{ClassRef, class_ref_of};
 pub use cursor::Cursor;
 pub use cutting::cut;
 pub use declared_type::{DeclaredType, ReturnType};
-pub use fault::{LoadFault, RefusalWords};
+pub use fault::LoadFault;
 pub use number_set::NumberSet;
 pub use numbers::{S1s, S2s, U2s, has_flag};
 pub use owned::owned_rows;

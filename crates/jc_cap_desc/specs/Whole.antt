@@ -48,7 +48,7 @@ pub record HasWholeOf (infos : Infos) (p : Package) : Type 0 where
   pub are_methods : methods_of infos.method ≡ Ok methods
   pub whole : IsWhole records info methods p
 
--- each class has a row: there are no more classes than rows
+-- a package has no more classes than its Descriptor has rows of classes
 pub record HasRows (infos : Infos) (p : Package) : Type 0 where
   pub info : DescriptorInfo
   pub its_info : descriptor_of infos.descriptor ≡ Ok info

@@ -13,8 +13,8 @@ use Rattle.jc_check.specs.Method.{Method}
 use Rattle.jc_check.specs.Claim.{Claim}
 use Rattle.jc_check.specs.Carried.{Carries}
 use Rattle.jc_check.specs.FirstFault.{fault_at, reason_of, handlers_stand, states_stand, flow_findings_of, findings_of, IsFirstFault, empty, undecoded, found}
-use Rattle.jc_check.specs.declared.mark.Mark.{Mark}
-use Rattle.jc_check.specs.declared.mark.Mark.TheVariants.{Inside}
+use Rattle.jc_check.specs.declared.mark.ByteMark.{ByteMark}
+use Rattle.jc_check.specs.declared.mark.ByteMark.TheVariants.{Inside}
 use Rattle.jc_check.specs.PrivateMarks.{IsMark, IsTable, IsSafe, AreSafe}
 use Rattle.jc_check.specs.Fault.{IfRefused}
 use Rattle.jc_check.specs.declared.fault.Fault.{Fault}
@@ -24,10 +24,10 @@ use Rattle.jc_check.proofs.Sound.{sound}
 use Rattle.jc_check.proofs.Complete.{complete}
 
 -- a table's numbers are those of claims
-pub safe : (rules : Rules) (m : Method) (listing : List PlacedInstr) (claims : List Claim) (marks : List Mark) → IsTable rules m listing claims marks → AreSafe m claims marks
+pub safe : (rules : Rules) (m : Method) (listing : List PlacedInstr) (claims : List Claim) (marks : List ByteMark) → IsTable rules m listing claims marks → AreSafe m claims marks
 safe rules m listing claims marks t = record { len = t.len; each = λ pc. one pc (get_or marks pc Inside) (t.each pc) }
   where
-    one : (pc : ℕ) (p : Mark) → IsMark m listing claims pc p → IsSafe m claims p
+    one : (pc : ℕ) (p : ByteMark) → IsMark m listing claims pc p → IsSafe m claims p
     one pc p h1 = grind arith
 
 -- what is found, once the handlers and the states stand
@@ -115,7 +115,7 @@ pub refused_handlers : (rules : Rules) (m : Method) (listing : List PlacedInstr)
 refused_handlers rules m listing states fault whole some e = found listing fault whole some (findings_stop_early rules m listing states fault (sym e))
 
 -- a state that doesn't stand is the first fault, unless memory was wanting
-pub refused_or_memory : (rules : Rules) (m : Method) (listing : List PlacedInstr) (states : List Stated) (marks : List Mark) (fault : WordFault) → m.code ≢ [] → IsTable rules m listing [] marks → Ok tt ≡ handlers_stand listing m.handlers
+pub refused_or_memory : (rules : Rules) (m : Method) (listing : List PlacedInstr) (states : List Stated) (marks : List ByteMark) (fault : WordFault) → m.code ≢ [] → IsTable rules m listing [] marks → Ok tt ≡ handlers_stand listing m.handlers
     → IfRefused fault (λ f. (any : List PlacedInstr) → IsTable rules m any [] marks → states_stand rules m any states ≡ Err f) → IfRefused fault (IsFirstFault rules m states)
 refused_or_memory rules m listing states marks faults.Memory some table handlers told = tt
 refused_or_memory rules m listing states marks (faults.Refused pc reason) some table handlers told = found listing (fault_at pc reason) table.whole some (findings_stop rules m listing states (fault_at pc reason) (sym handlers) (told listing table))

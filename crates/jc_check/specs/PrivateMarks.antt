@@ -9,16 +9,16 @@ use Rattle.jc_check.specs.Rules.{Rules}
 use Rattle.jc_check.specs.Method.{Method}
 use Rattle.jc_check.specs.Claim.{Claim}
 use Rattle.jc_check.specs.Carried.{state_at, types_of}
-use Rattle.jc_check.specs.declared.mark.Mark.{Mark}
-use Rattle.jc_check.specs.declared.mark.Mark.TheVariants.{Inside, Start, Holds}
+use Rattle.jc_check.specs.declared.mark.ByteMark.{ByteMark}
+use Rattle.jc_check.specs.declared.mark.ByteMark.TheVariants.{Inside, Start, Holds}
 
 -- what stands at a byte before the certificate's states are looked at
-abbrev pub mark_of : Bool → Mark
+abbrev pub mark_of : Bool → ByteMark
 mark_of true = Start
 mark_of false = Inside
 
 -- the table marks where instructions begin, and no more; past the code nothing does
-pub record MarksStarts (code : List ℕ) (listing : List PlacedInstr) (marks : List Mark) : Type 0 where
+pub record MarksStarts (code : List ℕ) (listing : List PlacedInstr) (marks : List ByteMark) : Type 0 where
   pub len : length marks ≡ length code
   pub each : (pc : ℕ) → slice_index_or marks pc Inside ≡ mark_of (begins listing pc)
 
@@ -35,37 +35,37 @@ pub record IsHeld (m : Method) (listing : List PlacedInstr) (claims : List Claim
   pub shape : claim_fits m claim ≡ true
 
 -- what a mark says of its pc: within an instruction, where one begins, or where the claim of a number is
-abbrev pub IsMark : Method → List PlacedInstr → List Claim → ℕ → Mark → Type 0
+abbrev pub IsMark : Method → List PlacedInstr → List Claim → ℕ → ByteMark → Type 0
 IsMark m listing claims pc Inside = (begins listing pc ≡ false) × (state_at claims pc ≡ None)
 IsMark m listing claims pc Start = (begins listing pc ≡ true) × (state_at claims pc ≡ None)
 IsMark m listing claims pc (Holds k) = IsHeld m listing claims pc k
 
 pub record IsTable (rules : Rules) (m : Method) (listing : List PlacedInstr) (claims : List Claim)
-    (marks : List Mark) : Type 0 where
+    (marks : List ByteMark) : Type 0 where
   pub whole : IsListing rules.decoder m.code listing
   pub len : length marks ≡ length m.code
   pub each : (pc : ℕ) → IsMark m listing claims pc (slice_index_or marks pc Inside)
 
 -- what holds of the instructions that a method's table is of
-abbrev pub ForMethod : Rules → Method → List Mark → (List PlacedInstr → Type 0) → Type 0
+abbrev pub ForMethod : Rules → Method → List ByteMark → (List PlacedInstr → Type 0) → Type 0
 ForMethod rules m marks holds =
     (listing : List PlacedInstr) (claims : List Claim) → IsTable rules m listing claims marks → holds listing
 
 -- the same, whatever method it is
-abbrev pub ForTable : List Mark → (List PlacedInstr → Type 0) → Type 0
+abbrev pub ForTable : List ByteMark → (List PlacedInstr → Type 0) → Type 0
 ForTable marks holds = (rules : Rules) (m : Method) → ForMethod rules m marks holds
 
 -- what holds of the instructions of a table without claims
-abbrev pub ForStarts : Rules → Method → List Mark → (List PlacedInstr → Type 0) → Type 0
+abbrev pub ForStarts : Rules → Method → List ByteMark → (List PlacedInstr → Type 0) → Type 0
 ForStarts rules m marks holds = (listing : List PlacedInstr) → IsTable rules m listing [] marks → holds listing
 
 -- a number is that of a claim in the method's shape
-abbrev pub IsSafe : Method → List Claim → Mark → Type 0
+abbrev pub IsSafe : Method → List Claim → ByteMark → Type 0
 IsSafe m claims (Holds k) = (c : Claim) × (slice_get claims k ≡ Some c) × (claim_fits m c ≡ true)
 IsSafe m claims Inside = ⊤
 IsSafe m claims Start = ⊤
 
-pub record AreSafe (m : Method) (claims : List Claim) (marks : List Mark) : Type 0 where
+pub record AreSafe (m : Method) (claims : List Claim) (marks : List ByteMark) : Type 0 where
   pub len : length marks ≡ length m.code
   pub each : (pc : ℕ) → IsSafe m claims (slice_index_or marks pc Inside)
 

@@ -2,7 +2,7 @@
 
 /// What stands at a byte of the code.
 #[derive(Clone, Copy, Debug, PartialEq, Eq)]
-pub(crate) enum Mark {
+pub(crate) enum ByteMark {
     /// A byte within an instruction.
     Inside,
     /// The first byte of an instruction.

@@ -8,11 +8,11 @@ ghost use Rattle.jc_check.specs.Carried.{Carries};
 ghost use Rattle.jc_check.specs.FirstFault.{IsFirstFault, flow_findings_of};
 ghost use Rattle.jc_check.specs.PrivateMarks.{HasRoom};
 ghost use Rattle.jc_check.specs.PrivateInput.{ForListing, IsListed, IsSafeInput};
-ghost use Rattle.jc_check.specs.declared.mark.Mark.TheVariants.{Inside};
+ghost use Rattle.jc_check.specs.declared.mark.ByteMark.TheVariants.{Inside};
 
 use crate::fault::{Fault, WordFault};
 use crate::input::PassInput;
-use crate::mark::Mark;
+use crate::mark::ByteMark;
 use crate::method::Method;
 use crate::pass::{fall_to, walk_code};
 use crate::rules::CheckRules;
@@ -43,7 +43,7 @@ fn check_code<R: CheckRules>(
     alloc: Global,
     rules: &R,
     method: &Method,
-    marks: &mut [Mark],
+    marks: &mut [ByteMark],
     state: &mut State,
     states: &[StateRow],
 ) -> Result<(), WordFault>

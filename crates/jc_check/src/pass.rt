@@ -14,7 +14,7 @@ use crate::claim::Claim;
 use crate::fault::Fault;
 use crate::handler::Handler;
 use crate::input::PassInput;
-use crate::mark::Mark;
+use crate::mark::ByteMark;
 use crate::rules::CheckRules;
 use crate::table::mark_at;
 use jc_base::Reason;
@@ -52,8 +52,8 @@ fn catch_at<R: CheckRules>(
         result ≡ catches_at (R.rules rules.now) input.now.claims.now state.now.types pc (Some class)) }
 {
     match mark_at(input.marks, usize::from(pc)) {
-        Mark::Start | Mark::Inside => Err(Reason::CertMismatch),
-        Mark::Holds(number) => {
+        ByteMark::Start | ByteMark::Inside => Err(Reason::CertMismatch),
+        ByteMark::Holds(number) => {
             if is_caught(rules, state, class, &input.claims[usize::from(number)]) {
                 Ok(())
             } else {
@@ -116,9 +116,9 @@ fn arrive_at<R: CheckRules>(
         result ≡ arrives (R.rules rules.now) listing input.now.claims.now state.now.types (pos pc)) }
 {
     match mark_at(input.marks, pc) {
-        Mark::Inside => Err(Reason::NoTarget),
-        Mark::Start => Err(Reason::CertMismatch),
-        Mark::Holds(number) => {
+        ByteMark::Inside => Err(Reason::NoTarget),
+        ByteMark::Start => Err(Reason::CertMismatch),
+        ByteMark::Holds(number) => {
             if is_met(rules, state, &input.claims[usize::from(number)]) {
                 Ok(())
             } else {
@@ -188,8 +188,8 @@ pub(crate) fn fall_to<R: CheckRules>(
         return Err(Reason::FallsOff);
     }
     match mark_at(input.marks, pc) {
-        Mark::Inside | Mark::Start => Ok(true),
-        Mark::Holds(number) => {
+        ByteMark::Inside | ByteMark::Start => Ok(true),
+        ByteMark::Holds(number) => {
             if is_met(rules, state, &input.claims[usize::from(number)]) {
                 Ok(false)
             } else {
@@ -251,12 +251,12 @@ fn visit_at<R: CheckRules>(
     ensures room { HasRoom input.now.method.now state.new }
 {
     match mark_at(input.marks, usize::from(pc)) {
-        Mark::Holds(number) => {
+        ByteMark::Holds(number) => {
             let claim = &input.claims[usize::from(number)];
             state.load(&claim.locals, &claim.operands);
             visit_live_at(rules, input, state, pc, instr)
         }
-        Mark::Inside | Mark::Start => {
+        ByteMark::Inside | ByteMark::Start => {
             if live {
                 visit_live_at(rules, input, state, pc, instr)
             } else {

@@ -14,12 +14,12 @@ ghost use Rattle.jc_check.specs.Carried.{has_shape};
 ghost use Rattle.jc_check.specs.FirstFault.{reason_of, told_at, handler_stands, handlers_stand, state_stands};
 ghost use Rattle.jc_check.specs.FirstFault.{states_stand};
 ghost use Rattle.jc_check.specs.PrivateMarks.{ForMethod, ForStarts, ForTable, IsTable, claim_fits};
-ghost use Rattle.jc_check.specs.declared.mark.Mark.TheVariants.{Inside};
+ghost use Rattle.jc_check.specs.declared.mark.ByteMark.TheVariants.{Inside};
 
 use crate::claim::{Claim, types_found};
 use crate::fault::{Fault, WordFault, reason_for};
 use crate::handler::Handler;
-use crate::mark::Mark;
+use crate::mark::ByteMark;
 use crate::method::Method;
 use crate::rules::CheckRules;
 use jc_base::Reason;
@@ -27,13 +27,13 @@ use jc_cert::StateRow;
 use std::alloc::{AllocError, Global};
 
 /// A table without marks for so many bytes.
-pub(crate) fn no_marks(alloc: Global, count: usize) -> Result<Vec<Mark>, AllocError>
+pub(crate) fn no_marks(alloc: Global, count: usize) -> Result<Vec<ByteMark>, AllocError>
     ensures marks { IfOk result (λ marks. marks.items ≡ replicate count Inside) }
     ensures room { IfOk result (λ marks. vec_capacity marks ≡ count) }
 {
     let mut marks = Vec::with_capacity(alloc, count)?;
     for _ in 0..count {
-        marks.push_reserved(Mark::Inside);
+        marks.push_reserved(ByteMark::Inside);
     }
     Ok(marks)
 }
@@ -42,7 +42,7 @@ pub(crate) fn no_marks(alloc: Global, count: usize) -> Result<Vec<Mark>, AllocEr
 pub(crate) fn mark_starts<R: CheckRules>(
     rules: &R,
     method: &Method,
-    marks: &mut [Mark],
+    marks: &mut [ByteMark],
 ) -> Result<(), Fault>
     requires none { marks.old ≡ replicate (length method.now.code) Inside }
     requires short { length method.now.code < 2 ^ 16 }
@@ -57,7 +57,7 @@ pub(crate) fn mark_starts<R: CheckRules>(
     while pc < code.len() {
         match rules.next_pc(code, pc) {
             Ok(behind) => {
-                marks[pc] = Mark::Start;
+                marks[pc] = ByteMark::Start;
                 pc = behind;
             }
             Err(fault) => {
@@ -73,28 +73,28 @@ pub(crate) fn mark_starts<R: CheckRules>(
 
 /// The mark at a pc; past the code nothing begins.
 #[inline(always)]
-pub(crate) fn mark_at(marks: &[Mark], pc: usize) -> Mark
+pub(crate) fn mark_at(marks: &[ByteMark], pc: usize) -> ByteMark
     ensures { result ≡ slice_index_or marks.now pc Inside }
 {
     if pc < marks.len() {
         marks[pc]
     } else {
-        Mark::Inside
+        ByteMark::Inside
     }
 }
 
 /// Whether an instruction begins at a pc.
-fn begins_at(marks: &[Mark], pc: usize) -> bool
+fn begins_at(marks: &[ByteMark], pc: usize) -> bool
     ensures within { result ≡ true → pc < length marks.now }
     ensures begins { ForTable marks.now (λ listing. result ≡ begins listing pc) }
 {
     match mark_at(marks, pc) {
-        Mark::Inside => false,
-        Mark::Start | Mark::Holds(_) => true,
+        ByteMark::Inside => false,
+        ByteMark::Start | ByteMark::Holds(_) => true,
     }
 }
 
-fn stand_handler(marks: &[Mark], handler: &Handler) -> Result<(), Reason>
+fn stand_handler(marks: &[ByteMark], handler: &Handler) -> Result<(), Reason>
     ensures { ForTable marks.now (λ listing. result ≡ handler_stands listing handler.now) }
 {
     if !begins_at(marks, usize::from(handler.goes_on)) {
@@ -107,7 +107,7 @@ fn stand_handler(marks: &[Mark], handler: &Handler) -> Result<(), Reason>
 }
 
 /// The handlers in order: each goes on where an instruction begins, and catches a class.
-pub(crate) fn stand_handlers(marks: &[Mark], handlers: &[Handler]) -> Result<(), Fault>
+pub(crate) fn stand_handlers(marks: &[ByteMark], handlers: &[Handler]) -> Result<(), Fault>
     ensures { ForTable marks.now (λ listing. result ≡ handlers_stand listing handlers.now) }
 {
     for index in 0..handlers.len() {
@@ -156,7 +156,7 @@ fn stand_state<R: CheckRules>(
     alloc: Global,
     rules: &R,
     method: &Method,
-    marks: &[Mark],
+    marks: &[ByteMark],
     row: &StateRow,
 ) -> Result<Claim, WordFault>
     ensures within { IfOk result (λ claim. row.now.pc < length marks.now) }
@@ -188,7 +188,7 @@ fn mismatch(pc: u16) -> WordFault
 }
 
 /// Marks the place of the claim of a number, unless one is there already.
-fn hold(marks: &mut [Mark], pc: usize, number: u16)
+fn hold(marks: &mut [ByteMark], pc: usize, number: u16)
     requires within { pc < length marks.old }
     ensures len { length marks.new ≡ length marks.old }
     ensures table { (rules : Rules) (m : methods.Method) (listing : List PlacedInstr) (claims : List claimed.Claim)
@@ -197,9 +197,9 @@ fn hold(marks: &mut [Mark], pc: usize, number: u16)
         → IsTable rules m listing (claims ++ claim ∷ []) marks.new }
 {
     match marks[pc] {
-        Mark::Start => marks[pc] = Mark::Holds(number),
+        ByteMark::Start => marks[pc] = ByteMark::Holds(number),
         // States ascend by pc, so no other one stands here.
-        Mark::Inside | Mark::Holds(_) => {}
+        ByteMark::Inside | ByteMark::Holds(_) => {}
     }
 }
 
@@ -208,7 +208,7 @@ pub(crate) fn mark_states<R: CheckRules>(
     alloc: Global,
     rules: &R,
     method: &Method,
-    marks: &mut [Mark],
+    marks: &mut [ByteMark],
     states: &[StateRow],
 ) -> Result<Vec<Claim>, WordFault>
     requires { length states.now < 2 ^ 16 }

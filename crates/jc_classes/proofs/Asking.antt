@@ -18,7 +18,7 @@ use Rattle.jc_names.specs.Names.{home_of, is_same_name}
 use Rattle.jc_names.specs.declared.name.ClassName.{ClassName}
 use Rattle.jc_names.specs.declared.name.MethodName.{MethodName}
 use Rattle.jc_classes.specs.declared.found.Walked.{Walked}
-use Rattle.jc_classes.specs.declared.walk.Step.TheVariants.{Ends, Gives}
+use Rattle.jc_classes.specs.declared.walk.WalkStep.TheVariants.{Ends, Gives}
 use Rattle.jc_classes.specs.declared.walk.Visit.{Visit}
 use Rattle.jc_classes.specs.declared.walk.Visit.TheVariants.{Above, Has, Nothing}
 

@@ -7,8 +7,8 @@ use Rattle.jc_names.specs.Names.{is_same_name}
 use Rattle.jc_classes.specs.PrivateWalk.{step_of, IsOnWalk}
 use Rattle.jc_classes.specs.Walk.{walk}
 use Rattle.jc_names.specs.declared.name.ClassName.{ClassName}
-use Rattle.jc_classes.specs.declared.walk.Step.{Step}
-use Rattle.jc_classes.specs.declared.walk.Step.TheVariants.{On}
+use Rattle.jc_classes.specs.declared.walk.WalkStep.{WalkStep}
+use Rattle.jc_classes.specs.declared.walk.WalkStep.TheVariants.{On}
 use Rattle.jc_classes.specs.declared.walk.Visit.{Visit}
 
 -- ---- any look-up that finds nothing with no steps, nor with fewer steps than it finds nothing with
@@ -48,7 +48,7 @@ module _ {A : Type 0} (visit : ClassName → ClassShape → Visit A) (world : Li
   fewer_steps (suc n) zero c l e = absurd (omega arith)
   fewer_steps (suc n) (suc m) c l e = walk_behind visit world n c ∙ by_step (step_of visit world c) (sym (walk_behind visit world m c) ∙ e) (λ d. fewer_steps n m d (omega arith))
     where
-      by_step : (s : Step A) → behind s (walk visit world m) ≡ None → ((d : ClassName) → walk visit world m d ≡ None → walk visit world n d ≡ None) → behind s (walk visit world n) ≡ None
+      by_step : (s : WalkStep A) → behind s (walk visit world m) ≡ None → ((d : ClassName) → walk visit world m d ≡ None → walk visit world n d ≡ None) → behind s (walk visit world n) ≡ None
       by_step s h1 h2 = grind arith
 
   pub from_start : (n : ℕ) (c : ClassName) (total : Option A) → walk visit world n c ≡ total → IsOnWalk (walk visit world) c c n total

@@ -6,12 +6,12 @@ use Rattle.jc_classes.specs.PrivateWalk.{step_to, step_from, step_of}
 use Rattle.jc_classes.specs.Walk.{most_classes, found_from, walk, found}
 use Rattle.jc_classes.specs.World.{superclass_of}
 use Rattle.jc_names.specs.declared.name.ClassName.{ClassName}
-use Rattle.jc_classes.specs.declared.walk.Step.{Step}
-use Rattle.jc_classes.specs.declared.walk.Step.TheVariants.{Gives, Ends, On}
+use Rattle.jc_classes.specs.declared.walk.WalkStep.{WalkStep}
+use Rattle.jc_classes.specs.declared.walk.WalkStep.TheVariants.{Gives, Ends, On}
 use Rattle.jc_classes.specs.declared.walk.Visit.{Visit}
 
 -- what a walk gives behind a step, where the rest of it is known
-abbrev pub behind : {A : Type 0} → Step A → (ClassName → Option A) → Option A
+abbrev pub behind : {A : Type 0} → WalkStep A → (ClassName → Option A) → Option A
 behind (Gives a) rest = Some a
 behind Ends rest = None
 behind (On c) rest = rest c
@@ -27,7 +27,7 @@ walk_behind visit world n c = grind (arith, behind_visit)
 
 -- a walk of n steps, with one step done and m left
 module _ {A : Type 0} (visit : ClassName → ClassShape → Visit A) (world : List Shape) (total : Option A) (n m : ℕ) (c : ClassName) (one : n ≡ suc m) (so_far : walk visit world n c ≡ total) where
-  behind_one : (s : Step A) → step_of visit world c ≡ s → behind s (walk visit world m) ≡ total
+  behind_one : (s : WalkStep A) → step_of visit world c ≡ s → behind s (walk visit world m) ≡ total
   behind_one s e = sym (ap (λ i. walk visit world i c) one ∙ walk_behind visit world m c ∙ ap (λ s. behind s (walk visit world m)) e) ∙ so_far
 
   pub gives : (a : A) → step_of visit world c ≡ Gives a → Some a ≡ total

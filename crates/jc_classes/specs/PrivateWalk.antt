@@ -4,27 +4,27 @@ use Rattle.std.specs.Option.{option_map_or}
 use Rattle.jc_cap_desc.specs.Shape.{ClassShape, Shape}
 use Rattle.jc_classes.specs.World.{class_at, superclass_of}
 use Rattle.jc_names.specs.declared.name.ClassName.{ClassName}
-use Rattle.jc_classes.specs.declared.walk.Step.{Step}
-use Rattle.jc_classes.specs.declared.walk.Step.TheVariants.{Gives, Ends, On}
+use Rattle.jc_classes.specs.declared.walk.WalkStep.{WalkStep}
+use Rattle.jc_classes.specs.declared.walk.WalkStep.TheVariants.{Gives, Ends, On}
 use Rattle.jc_classes.specs.declared.walk.Visit.{Visit}
 use Rattle.jc_classes.specs.declared.walk.Visit.TheVariants.{Has, Nothing, Above}
 
 -- on to a class, if there is one
-abbrev pub step_to : {A : Type 0} → Option ClassName → Step A
+abbrev pub step_to : {A : Type 0} → Option ClassName → WalkStep A
 step_to None = Ends
 step_to (Some c) = On c
 
-abbrev pub step_above : {A : Type 0} → List Shape → ClassName → Step A
+abbrev pub step_above : {A : Type 0} → List Shape → ClassName → WalkStep A
 step_above world c = step_to (superclass_of world c)
 
 -- behind a class that was looked at
-abbrev pub step_from : {A : Type 0} → List Shape → ClassName → Visit A → Step A
+abbrev pub step_from : {A : Type 0} → List Shape → ClassName → Visit A → WalkStep A
 step_from world c (Has a) = Gives a
 step_from world c Nothing = Ends
 step_from world c Above = step_above world c
 
 -- behind the class with a name
-abbrev pub step_of : {A : Type 0} → (ClassName → ClassShape → Visit A) → List Shape → ClassName → Step A
+abbrev pub step_of : {A : Type 0} → (ClassName → ClassShape → Visit A) → List Shape → ClassName → WalkStep A
 step_of visit world c = option_map_or (λ k. step_from world c (visit c k)) (class_at world c) Ends
 
 -- what was found, seen in another way
@@ -33,7 +33,7 @@ visit_map f (Has a) = Has (f a)
 visit_map f Nothing = Nothing
 visit_map f Above = Above
 
-abbrev pub step_map : {A B : Type 0} → (A → B) → Step A → Step B
+abbrev pub step_map : {A B : Type 0} → (A → B) → WalkStep A → WalkStep B
 step_map f (Gives a) = Gives (f a)
 step_map f Ends = Ends
 step_map f (On c) = On c

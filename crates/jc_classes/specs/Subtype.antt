@@ -36,7 +36,7 @@ pub data Implements (world : List Shape) : ClassName → ClassName → Type 0 wh
   by_superclass : (c d i : ClassName) → superclass_of world c ≡ Some d → Implements world d i → Implements world c i
   by_interface : (c j i : ClassName) → Lists world c j → Implements world j i → Implements world c i
 
--- a class stands there, or an interface
+-- a class stands there, and no interface
 abbrev pub is_class_at : List Shape → ClassName → Bool
 is_class_at world c = option_map_or (λ k. is_class k.body) (class_at world c) false
 

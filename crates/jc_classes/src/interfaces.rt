@@ -12,7 +12,7 @@ ghost use Rattle.jc_classes.specs.World.{class_named};
 use crate::methods::PACKAGE_VISIBLE;
 use crate::shape::{Body, ImplementedInterface};
 use crate::table::ClassTable;
-use crate::walk::{MOST_CLASSES, Step, Visit, anchor_behind};
+use crate::walk::{MOST_CLASSES, Visit, WalkStep, anchor_behind};
 use jc_base::ClassRef;
 use jc_names::{ClassName, MethodName, PackagePlace};
 
@@ -60,18 +60,18 @@ impl ClassTable {
     }
 
     /// One step of the look-up of an interface.
-    fn listing_step(&self, at: ClassName, interface: ClassName) -> Step<&ImplementedInterface>
+    fn listing_step(&self, at: ClassName, interface: ClassName) -> WalkStep<&ImplementedInterface>
         ensures { step_map (λ row. row.now.indexes) result ≡ step_of (interface_visit self.now interface) self.now at }
     {
         let Some(found) = self.class_at(at) else {
-            return Step::Ends;
+            return WalkStep::Ends;
         };
         match self.listing_visit(interface, at.home(), &found.body) {
-            Visit::Has(row) => Step::Gives(row),
-            Visit::Nothing => Step::Ends,
+            Visit::Has(row) => WalkStep::Gives(row),
+            Visit::Nothing => WalkStep::Ends,
             Visit::Above => match self.superclass_of(at) {
-                Some(above) => Step::On(above),
-                None => Step::Ends,
+                Some(above) => WalkStep::On(above),
+                None => WalkStep::Ends,
             },
         }
     }
@@ -101,9 +101,9 @@ impl ClassTable {
         let mut anchor = class;
         for steps in 0..MOST_CLASSES {
             match self.listing_step(at, interface) {
-                Step::Gives(row) => return Some(row),
-                Step::Ends => return None,
-                Step::On(above) => at = above,
+                WalkStep::Gives(row) => return Some(row),
+                WalkStep::Ends => return None,
+                WalkStep::On(above) => at = above,
             }
             if at.is(anchor) {
                 return None;

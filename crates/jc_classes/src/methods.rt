@@ -9,7 +9,7 @@ ghost use Rattle.jc_classes.specs.PrivateWalk.{step_of};
 use crate::shape::{Body, PackageShape, Table};
 use crate::shapes::Shapes;
 use crate::table::ClassTable;
-use crate::walk::{MOST_CLASSES, Step, Visit, anchor_behind};
+use crate::walk::{MOST_CLASSES, Visit, WalkStep, anchor_behind};
 use jc_names::{ClassName, MethodName, PackagePlace};
 
 /// Tokens from here on are package-visible.
@@ -102,21 +102,21 @@ impl Shapes {
 
 impl ClassTable {
     /// One step of the look-up of a virtual method.
-    fn method_step(&self, at: ClassName, token: u8, asker: usize) -> Step<MethodName>
+    fn method_step(&self, at: ClassName, token: u8, asker: usize) -> WalkStep<MethodName>
         ensures { result ≡ step_of (virtual_visit self.now asker token) self.now at }
     {
         let Some(found) = self.class_at(at) else {
-            return Step::Ends;
+            return WalkStep::Ends;
         };
         match self
             .shapes
             .record_visit(asker, token, at.home(), &found.body)
         {
-            Visit::Has(method) => Step::Gives(method),
-            Visit::Nothing => Step::Ends,
+            Visit::Has(method) => WalkStep::Gives(method),
+            Visit::Nothing => WalkStep::Ends,
             Visit::Above => match self.superclass_of(at) {
-                Some(above) => Step::On(above),
-                None => Step::Ends,
+                Some(above) => WalkStep::On(above),
+                None => WalkStep::Ends,
             },
         }
     }
@@ -145,9 +145,9 @@ impl ClassTable {
         let mut anchor = class;
         for steps in 0..MOST_CLASSES {
             match self.method_step(at, token, asker) {
-                Step::Gives(method) => return Some(method),
-                Step::Ends => return None,
-                Step::On(above) => at = above,
+                WalkStep::Gives(method) => return Some(method),
+                WalkStep::Ends => return None,
+                WalkStep::On(above) => at = above,
             }
             if at.is(anchor) {
                 return None;

@@ -28,7 +28,7 @@ pub(crate) enum Visit<A> {
 
 /// Where a look-up stands behind a class.
 #[derive(Drop)]
-pub(crate) enum Step<A> {
+pub(crate) enum WalkStep<A> {
     /// This was found.
     Gives(A),
     /// There is nothing.

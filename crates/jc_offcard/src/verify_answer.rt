@@ -28,7 +28,7 @@ impl fmt::Display for VerifyAnswer {
         match self {
             VerifyAnswer::Certificate(bytes) => write!(f, "certificate {} bytes", bytes.len()),
             VerifyAnswer::NoCertificate { method, .. } => write!(f, "no certificate {method}"),
-            VerifyAnswer::Refused(fault) => write!(f, "refused {}", fault.words()),
+            VerifyAnswer::Refused(fault) => write!(f, "refused {fault}"),
             VerifyAnswer::Memory => write!(f, "out of memory"),
         }
     }

@@ -94,7 +94,7 @@ fn put_answer(line: &mut AnswerLine, answer: &CommandAnswer) -> io::Result<()>
 {
     match answer {
         CommandAnswer::Loaded(number) => write!(line, "loaded {number}"),
-        CommandAnswer::NotLoaded(fault) => write!(line, "refused {}", fault.words()),
+        CommandAnswer::NotLoaded(fault) => write!(line, "refused {fault}"),
         CommandAnswer::Installed(number) => write!(line, "installed {number}"),
         CommandAnswer::NotInstalled(fault) => put_refused_install(line, *fault),
         CommandAnswer::Responds(answer) => {

@@ -1,7 +1,6 @@
-//! One row a fault: the derived text says the same as the proved words, and no two faults are equal.
+//! No two faults are equal.
 
 use jc_base::{LoadFault, Reason};
-use std::test::Fail;
 
 const FAULTS: [LoadFault; 20] = [
     LoadFault::ShortComponent,
@@ -33,16 +32,6 @@ const FAULTS: [LoadFault; 20] = [
     LoadFault::Full,
     LoadFault::Memory,
 ];
-
-#[test]
-fn the_derived_text_says_the_words(rt: HostRuntime) -> Result<(), Fail> {
-    for fault in FAULTS {
-        let derived = format!(in rt.alloc(); "{fault}")?;
-        let words = format!(in rt.alloc(); "{}", fault.words())?;
-        assert_eq!(rt; derived.as_str(), words.as_str());
-    }
-    Ok(())
-}
 
 #[test]
 fn no_two_faults_are_equal(rt: HostRuntime) {

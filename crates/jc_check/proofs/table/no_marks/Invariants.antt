@@ -1,6 +1,6 @@
 use Rattle.std.proofs.Common.{◌≡◌, vec_len, vec_capacity}
 use Rattle.std.specs.Prelude.{replicate}
-use Rattle.jc_check.specs.declared.mark.Mark.TheVariants.{Inside}
+use Rattle.jc_check.specs.declared.mark.ByteMark.TheVariants.{Inside}
 use Rattle.jc_check.proofs.table.no_marks.Given as goal
 
 abbrev pub invariant-loop : goal.invariant-loop

@@ -5,6 +5,8 @@ use Rattle.std.proofs.lemmas.Bool.{cases_eq}
 use Rattle.std.proofs.lemmas.Option.{slice_get-map}
 use Rattle.jc_base.specs.declared.package_info.PackageInfo.{PackageInfo}
 use Rattle.jc_base.proofs.Binding.{the_some, both_true}
+use Rattle.jc_api.specs.Member.{last_member}
+use Rattle.jc_api.specs.Class.{last_class}
 use Rattle.jc_api.specs.Numbered.{numbered, put}
 use Rattle.jc_api.specs.Class.{number_of, numbered_classes}
 use Rattle.jc_api.specs.Member.{members}
@@ -153,8 +155,8 @@ named_has d (TheMember number) h = part (numbered d.members number) refl h
 pub has_none : (u : Statement) → Has empty_draft u → ⊥
 has_none (Package Lang i) h = cc
 has_none (Package Framework i) h = cc
-has_none (Class c t) h = none_named 22 (number_of c) t h
-has_none (Member n t) h = none_named 55 n t h
+has_none (Class c t) h = none_named last_class (number_of c) t h
+has_none (Member n t) h = none_named last_member n t h
 
 -- a row that was given a token that is taken
 found : {A : Type 0} (meets : A → A → Bool) (x : A) (t : ℕ) (rows : List A) (named : List (Option ℕ)) → list_any (λ r. meets x r.0 && is_token t r.1) (zip rows named) ≡ true → (k : ℕ) × (y : A) × (slice_get rows k ≡ Some y) × (meets x y ≡ true) × (slice_get named k ≡ Some (Some t))
@@ -189,6 +191,6 @@ pub number_at : (j : ℕ) (y : ApiClass) → numbered numbered_classes j ≡ Som
 unfolding ups
 number_at zero y h = absurd cc
 number_at (suc k) y h =
-    let at : slice_get (ups 1 22) k ≡ Some (number_of y) = slice_get-map number_of numbered_classes k ∙ ap (option_map number_of) h in
-    let e = ups_at 1 22 k (number_of y) at in
+    let at : slice_get (ups 1 last_class) k ≡ Some (number_of y) = slice_get-map number_of numbered_classes k ∙ ap (option_map number_of) h in
+    let e = ups_at 1 last_class k (number_of y) at in
     omega arith

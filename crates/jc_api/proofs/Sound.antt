@@ -3,6 +3,8 @@ use Rattle.std.proofs.Common.{◌≡◌, ℕ, suc, ◌≤◌, ◌&&◌, ◌||◌
 use Rattle.std.proofs.lemmas.Slice.Eq.{bytes_eq-Decides}
 use Rattle.jc_base.specs.declared.package_info.PackageInfo.{PackageInfo}
 use Rattle.jc_base.proofs.Binding.{the_some, the_ok, bind_ok}
+use Rattle.jc_api.specs.Member.{last_member}
+use Rattle.jc_api.specs.Class.{last_class}
 use Rattle.jc_api.specs.Options.{◌>>=◌, all_of}
 use Rattle.jc_api.specs.Numbered.{numbered}
 use Rattle.jc_api.specs.Class.{number_of, numbered_classes, package_of}
@@ -158,11 +160,11 @@ pub empty_sound : IsSound empty_draft
 empty_sound = record {
   class_count = refl;
   member_count = refl;
-  class_range = λ n t h. absurd (none_named 22 n t h);
-  member_range = λ n t m at h. absurd (none_named 55 n t h);
+  class_range = λ n t h. absurd (none_named last_class n t h);
+  member_range = λ n t m at h. absurd (none_named last_member n t h);
   aids = λ i j h. absurd cc;
-  class_tokens = λ i j t x y at there met h. absurd (none_named 22 i t h);
-  member_tokens = λ i j t x y at there met h. absurd (none_named 55 i t h);
+  class_tokens = λ i j t x y at there met h. absurd (none_named last_class i t h);
+  member_tokens = λ i j t x y at there met h. absurd (none_named last_member i t h);
 }
 
 some_bind : {A B : Type 0} (o : Option A) (f : A → Option B) (y : B) → (o >>= f) ≡ Some y → (x : A) × (o ≡ Some x) × (f x ≡ Some y)

@@ -167,7 +167,7 @@ module _ (bound : Bound) (clear : HasNoClash bound) where
       let n = number_there last_member (lang_token bound) t (number_of c) (in_range c).0 (below (in_range c).1) (token_is c t lang e) in
       ap (λ o. export_row bound (option_and_then class_of o)) n.1 ∙ ap (export_row bound) (by_token n.0 (number_has last_member (lang_token bound) t n.0 n.1))
     where
-      below : number_of c ≤ 22 → number_of c ≤ 55
+      below : number_of c ≤ last_class → number_of c ≤ last_member
       below h = omega arith
 
       by_token : (n : ℕ) → lang_token bound n ≡ Some t → class_of n ≡ Some c
@@ -191,7 +191,7 @@ module _ (bound : Bound) (clear : HasNoClash bound) where
       ∙ ap (λ (row : ExportedClass). name_in 0 row.class) (row_is c t lang e)
       ∙ ap (λ p. name_in (api_home p) (number_of c)) (sym lang) ∙ name_again c
     where
-      below : number_of c ≤ 22 → number_of c ≤ 55
+      below : number_of c ≤ last_class → number_of c ≤ last_member
       below h = omega arith
 
   spelled : (which : ApiPackage) (c : ApiClass) → is_seen which c ≡ true → class_spelled (api_world bound) (api_home which) (spelled_in bound which c) ≡ Some (Api c)

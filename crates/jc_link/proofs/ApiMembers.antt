@@ -42,7 +42,7 @@ use Rattle.jc_link.specs.MemberType.{counted, member_type_of, type_class}
 pub each_member : (p : ApiMember → Bool) → list_all p members ≡ true → (n : ℕ) (m : ApiMember) → member_of n ≡ Some m → p m ≡ true
 each_member p all n m e = all_numbered p members all n m e
 
-pub member_range : (n : ℕ) (m : ApiMember) → member_of n ≡ Some m → (1 ≤ n) × (n ≤ 55)
+pub member_range : (n : ℕ) (m : ApiMember) → member_of n ≡ Some m → (1 ≤ n) × (n ≤ last_member)
 member_range n m e = numbered_within members n m e
 
 pub no_interface : (n : ℕ) (m : ApiMember) → member_of n ≡ Some m → is_interface m.class ≡ false

@@ -125,7 +125,7 @@ module _ (bound : Bound) (clear : HasNoClash bound) where
     abbrev entries : List ℕ
     entries = each_below (room bound x.class) (entry bound x.class)
 
-    few : n ≤ 55
+    few : n ≤ last_member
     few = (member_range n x is).1
 
     at_least : 1 ≤ n

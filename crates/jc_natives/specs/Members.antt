@@ -11,7 +11,7 @@ use Rattle.jc_natives.specs.Kept.{is_incoming, is_length_set, is_outgoing, is_sa
 use Rattle.jc_natives.specs.Kept.{with_instance, with_sent, with_state}
 use Rattle.jc_natives.specs.Checks.{CallsOtherAid, Check, HasRange, Uses, UsesUnlessNull, are_aids}
 use Rattle.jc_natives.specs.Taking.{Called, on_aid, on_bytes, on_component, on_object, on_range, on_reference, on_word}
-use Rattle.jc_natives.specs.Taking.{on_words}
+use Rattle.jc_natives.specs.Taking.{on_words, ◌>>=◌, ◌>>◌}
 use Rattle.jc_natives.specs.Work.{Asks, Ending, GivesReference, GivesWord, Makes, NoResult, Work, bad_length}
 use Rattle.jc_natives.specs.Work.{buffer_bounds, gives, illegal_aid, illegal_transient, illegal_use, illegal_value}
 use Rattle.jc_natives.specs.Work.{throws, throws_apdu, throws_system, throws_with, unless_system, writes_own, writes_to}
@@ -36,10 +36,8 @@ use Rattle.jc_natives.specs.declared.native.UtilityNative.{UtilityNative}
 use Rattle.jc_natives.specs.declared.native.UtilityNative.TheVariants as utilities
 use Rattle.jc_natives.specs.declared.row.Length.TheVariants.{ByteAt, Fixed, OfAid as AsAid, ShortAt}
 use Rattle.jc_natives.specs.declared.row.Use.TheVariants.{Calls, Fields, Loads, Stores}
-use Rattle.jc_store.specs.Heap.{Object}
 use Rattle.jc_store.specs.declared.kind.ClearingEvent.{ClearingEvent}
 use Rattle.jc_store.specs.declared.kind.ClearingEvent.TheVariants.{Deselect, Reset}
-use Rattle.jc_words.specs.Values.{TaggedValue}
 
 -- ---- the members by their numbers
 
@@ -132,21 +130,25 @@ require_apdu h reason passes go = if passes then go else Some (throws_apdu (kept
 -- SystemException, APDUException)
 
 abbrev pub have_same_bytes : Called → ℕ → ℕ → Option Work
-have_same_bytes h one other =
-    on_aid h one (λ bytes. on_aid h other (λ others. ends_with h (GivesWord (bit (bytes_eq bytes others)))))
+have_same_bytes h one other = do
+  bytes ← on_aid h one
+  others ← on_aid h other
+  ends_with h (GivesWord (bit (bytes_eq bytes others)))
 
 -- the same object, or two AIDs of the same bytes
 abbrev pub equals : Called → Option Work
-equals h =
-    on_reference h 0 (λ one. on_reference h 1 (λ other.
-    if one == other then ends_with h (GivesWord 1)
-    else option_and_then (λ aids. if aids then have_same_bytes h one other else ends_with h (GivesWord 0))
-    (are_aids h)))
+equals h = do
+  one ← on_reference h 0
+  other ← on_reference h 1
+  if one == other then ends_with h (GivesWord 1)
+  else option_and_then (λ aids. if aids then have_same_bytes h one other else ends_with h (GivesWord 0)) (are_aids h)
 
 -- the reason of an exception is its first component
 abbrev pub sets_reason : Called → Option Work
-sets_reason h =
-    on_reference h 0 (λ object. on_word h 1 (λ reason. writes_words h object 0 (word reason ∷ []) NoResult))
+sets_reason h = do
+  object ← on_reference h 0
+  reason ← on_word h 1
+  writes_words h object 0 (word reason ∷ []) NoResult
 
 abbrev pub object_member : ObjectNative → Member
 object_member objects.Construct = record { tests = Uses 0 Fields ∷ []; does = λ h. ends_with h NoResult }
@@ -154,42 +156,58 @@ object_member objects.Equals = record { tests = Uses 0 Calls ∷ CallsOtherAid �
 object_member objects.ConstructWithReason = record { tests = Uses 0 Fields ∷ []; does = sets_reason }
 object_member objects.GetReason = record {
   tests = Uses 0 Calls ∷ [];
-  does = λ h. on_reference h 0 (λ object. on_component h object 0 (λ reason. ends_with h (GivesWord (word reason))));
+  does = λ h. do
+    object ← on_reference h 0
+    reason ← on_component h object 0
+    ends_with h (GivesWord (word reason));
 }
 object_member objects.SetReason = record { tests = Uses 0 Calls ∷ []; does = sets_reason }
 -- throwIt sets the reason of the runtime's exception, and throws it
 object_member (objects.ThrowIt object) = record {
   tests = [];
-  does = λ h. on_word h 0 (λ reason. Some (throws_with (kept_of h) object (word reason)));
+  does = λ h. do
+    reason ← on_word h 0
+    Some (throws_with (kept_of h) object (word reason));
 }
 
 -- ---- AID
 
 -- an AID has 5 to 16 bytes, and stands behind their count
 abbrev pub keeps_aid : Called → ℕ → List ℕ → Option Work
-keeps_aid h aid bytes =
-    require_system h illegal_value (has_aid_length (length bytes))
-    (writes_words h aid 0 (length bytes ∷ bytes) NoResult)
+keeps_aid h aid bytes = do
+  require_system h illegal_value (has_aid_length (length bytes))
+  writes_words h aid 0 (length bytes ∷ bytes) NoResult
 
 abbrev pub is_range : Called → ℕ → Option Work
-is_range h aid =
-    on_aid h aid (λ own. on_range h 1 2 (ByteAt 3) (λ bytes. ends_with h (GivesWord (bit (bytes_eq own bytes)))))
+is_range h aid = do
+  own ← on_aid h aid
+  bytes ← on_range h 1 2 (ByteAt 3)
+  ends_with h (GivesWord (bit (bytes_eq own bytes)))
 
 -- the constructor keeps the bytes of a range; equals compares them; getBytes writes them, and gives their number
 abbrev pub aid_member : AidNative → Member
 aid_member aids.Construct = record {
   tests = Uses 0 Fields ∷ Uses 1 Loads ∷ HasRange 1 2 (ByteAt 3) ∷ [];
-  does = λ h. on_reference h 0 (λ aid. on_range h 1 2 (ByteAt 3) (keeps_aid h aid));
+  does = λ h. do
+    aid ← on_reference h 0
+    bytes ← on_range h 1 2 (ByteAt 3)
+    keeps_aid h aid bytes;
 }
 aid_member aids.Equals = record {
   tests = Uses 0 Calls ∷ UsesUnlessNull 1 Loads ∷ HasRange 1 2 (ByteAt 3) ∷ [];
-  does = λ h. on_reference h 0 (λ aid. on_reference h 1 (λ array.
-      if array == 0 then ends_with h (GivesWord 0) else is_range h aid));
+  does = λ h. do
+    aid ← on_reference h 0
+    array ← on_reference h 1
+    if array == 0 then ends_with h (GivesWord 0) else is_range h aid;
 }
 aid_member aids.GetBytes = record {
   tests = Uses 0 Calls ∷ Uses 1 Stores ∷ HasRange 1 2 (AsAid 0) ∷ [];
-  does = λ h. on_reference h 0 (λ aid. on_reference h 1 (λ array. on_word h 2 (λ offset. on_aid h aid (λ bytes.
-      writes_words h array offset bytes (GivesWord (length bytes))))));
+  does = λ h. do
+    aid ← on_reference h 0
+    array ← on_reference h 1
+    offset ← on_word h 2
+    bytes ← on_aid h aid
+    writes_words h array offset bytes (GivesWord (length bytes));
 }
 
 -- ---- APDU. The card has one state, whichever object the member is called on
@@ -204,15 +222,16 @@ in_state h fits go = require_apdu h illegal_use fits go
 
 -- so many bytes from an offset of the buffer on
 abbrev pub in_buffer : Called → ℕ → ℕ → (List ℕ → Option Work) → Option Work
-in_buffer h offset count go =
-    on_object h apdu_buffer (λ buffer. require_apdu h buffer_bounds (is_within (length buffer.cells) offset count)
-    (on_bytes h apdu_buffer offset count go))
+in_buffer h offset count go = do
+  buffer ← on_object h apdu_buffer
+  require_apdu h buffer_bounds (is_within (length buffer.cells) offset count)
+  on_bytes h apdu_buffer offset count go
 
 -- bytes more, where they are no more in all than was announced
 abbrev pub sends : Called → List ℕ → Option Work
-sends h bytes =
-    require_apdu h illegal_use (nat_le (length (kept_of h).sent + length bytes) (kept_of h).announced)
-    (Some (gives (with_sent (kept_of h) ((kept_of h).sent ++ bytes)) NoResult))
+sends h bytes = do
+  require_apdu h illegal_use (nat_le (length (kept_of h).sent + length bytes) (kept_of h).announced)
+  Some (gives (with_sent (kept_of h) ((kept_of h).sent ++ bytes)) NoResult)
 
 -- what is sent at once is all that is sent
 abbrev pub sends_at_once : Called → ℕ → List ℕ → Option Work
@@ -225,34 +244,47 @@ apdu_member apdus.GetBuffer = record {
 }
 apdu_member apdus.SetIncomingAndReceive = record {
   tests = Uses 0 Calls ∷ [];
-  does = λ h. in_state h (is_fresh (kept_of h).state)
-      (Some (writes_own (with_state (kept_of h) Received) apdu_buffer data_offset (kept_of h).incoming
-      (GivesWord (length (kept_of h).incoming))));
+  does = λ h. do
+    in_state h (is_fresh (kept_of h).state)
+    Some (writes_own (with_state (kept_of h) Received) apdu_buffer data_offset (kept_of h).incoming
+        (GivesWord (length (kept_of h).incoming)));
 }
 apdu_member apdus.SetOutgoing = record {
   tests = Uses 0 Calls ∷ [];
-  does = λ h. in_state h (is_incoming (kept_of h).state)
-      (Some (gives (with_state (kept_of h) Outgoing) (GivesWord (expected_of (kept_of h)))));
+  does = λ h. do
+    in_state h (is_incoming (kept_of h).state)
+    Some (gives (with_state (kept_of h) Outgoing) (GivesWord (expected_of (kept_of h))));
 }
 apdu_member apdus.SetOutgoingLength = record {
   tests = Uses 0 Calls ∷ [];
-  does = λ h. on_word h 1 (λ count. in_state h (is_outgoing (kept_of h).state)
-      (require_apdu h bad_length (nat_le count most_sent)
-      (Some (gives (with_announced (kept_of h) LengthSet count) NoResult))));
+  does = λ h. do
+    count ← on_word h 1
+    in_state h (is_outgoing (kept_of h).state)
+    require_apdu h bad_length (nat_le count most_sent)
+    Some (gives (with_announced (kept_of h) LengthSet count) NoResult);
 }
 apdu_member apdus.SendBytes = record {
   tests = Uses 0 Calls ∷ [];
-  does = λ h. on_word h 1 (λ offset. on_word h 2 (λ count. in_state h (is_length_set (kept_of h).state)
-      (in_buffer h offset count (sends h))));
+  does = λ h. do
+    offset ← on_word h 1
+    count ← on_word h 2
+    in_state h (is_length_set (kept_of h).state)
+    in_buffer h offset count (sends h);
 }
 apdu_member apdus.SendBytesLong = record {
   tests = Uses 0 Calls ∷ Uses 1 Loads ∷ HasRange 1 2 (ShortAt 3) ∷ [];
-  does = λ h. in_state h (is_length_set (kept_of h).state) (on_range h 1 2 (ShortAt 3) (sends h));
+  does = λ h. do
+    in_state h (is_length_set (kept_of h).state)
+    on_range h 1 2 (ShortAt 3) (sends h);
 }
 apdu_member apdus.SetOutgoingAndSend = record {
   tests = Uses 0 Calls ∷ [];
-  does = λ h. on_word h 1 (λ offset. on_word h 2 (λ count. in_state h (is_incoming (kept_of h).state)
-      (require_apdu h bad_length (nat_le count most_sent) (in_buffer h offset count (sends_at_once h count)))));
+  does = λ h. do
+    offset ← on_word h 1
+    count ← on_word h 2
+    in_state h (is_incoming (kept_of h).state)
+    require_apdu h bad_length (nat_le count most_sent)
+    in_buffer h offset count (sends_at_once h count);
 }
 
 -- ---- Applet, but for its constructor
@@ -280,14 +312,15 @@ on_installing h (Some i) go = go i
 
 -- the applet, and the instance in whose name it registers
 abbrev pub on_allowed : Called → (ℕ → Owner → Installing → Option Work) → Option Work
-on_allowed h go =
-    on_reference h 0 (λ applet. on_object h applet (λ (object : Object TaggedValue).
-    on_installing h (allowed object.owner (kept_of h).installing) (go applet object.owner)))
+on_allowed h go = do
+  applet ← on_reference h 0
+  object ← on_object h applet
+  on_installing h (allowed object.owner (kept_of h).installing) (go applet object.owner)
 
 abbrev pub registers_under : Called → ℕ → Owner → Installing → List ℕ → Option Work
-registers_under h applet owner i aid =
-    require_system h illegal_value (has_aid_length (length aid))
-    (Some (registers (kept_of h) i.owner.instance applet owner aid))
+registers_under h applet owner i aid = do
+  require_system h illegal_value (has_aid_length (length aid))
+  Some (registers (kept_of h) i.owner.instance applet owner aid)
 
 -- register takes the AID of the applet, or the bytes of a range; what applets override gives 1, nothing, and null
 abbrev pub applet_member : AppletNative → Member
@@ -346,9 +379,10 @@ makes k active selected elements size (Some event) =
     else throws k negative_size_exception)
 
 abbrev pub makes_array : Elements → Called → Option Work
-makes_array elements h =
-    on_word h 0 (λ size. on_word h 1 (λ event.
-    Some (makes (kept_of h) h.call.active.context h.call.selected elements size (event_of (extended event)))))
+makes_array elements h = do
+  size ← on_word h 0
+  event ← on_word h 1
+  Some (makes (kept_of h) h.call.active.context h.call.selected elements size (event_of (extended event)))
 
 abbrev pub system_member : SystemNative → Member
 system_member system.GetAid = record {
@@ -357,8 +391,9 @@ system_member system.GetAid = record {
 }
 system_member system.LookupAid = record {
   tests = Uses 0 Loads ∷ HasRange 0 1 (ByteAt 2) ∷ [];
-  does = λ h. on_range h 0 1 (ByteAt 2) (λ bytes.
-      ends_with h (GivesReference (aid_of (instance_with (kept_of h).instances bytes))));
+  does = λ h. do
+    bytes ← on_range h 0 1 (ByteAt 2)
+    ends_with h (GivesReference (aid_of (instance_with (kept_of h).instances bytes)));
 }
 system_member system.GetPreviousAid = record {
   tests = [];
@@ -366,8 +401,11 @@ system_member system.GetPreviousAid = record {
 }
 system_member system.AskForShareable = record {
   tests = Uses 0 Calls ∷ [];
-  does = λ h. on_reference h 0 (λ aid. on_word h 1 (λ byte. on_aid h aid (λ bytes.
-      Some (asks (kept_of h) h.call.active byte (instance_with (kept_of h).instances bytes)))));
+  does = λ h. do
+    aid ← on_reference h 0
+    byte ← on_word h 1
+    bytes ← on_aid h aid
+    Some (asks (kept_of h) h.call.active byte (instance_with (kept_of h).instances bytes));
 }
 system_member system.MakeBooleans = record { tests = []; does = makes_array Booleans }
 system_member system.MakeBytes = record { tests = []; does = makes_array Bytes }
@@ -381,33 +419,54 @@ system_member system.MakeReferences = record { tests = []; does = makes_array Re
 abbrev pub utility_member : UtilityNative → Member
 utility_member utilities.ArrayCopy = record {
   tests = Uses 0 Loads ∷ Uses 2 Stores ∷ HasRange 0 1 (ShortAt 4) ∷ HasRange 2 3 (ShortAt 4) ∷ [];
-  does = λ h. on_reference h 0 (λ source. on_word h 1 (λ from. on_reference h 2 (λ target. on_word h 3 (λ to.
-      on_word h 4 (λ count. on_words h source from count (λ words.
-      writes_words h target to words (GivesWord (word (to + count)))))))));
+  does = λ h. do
+    source ← on_reference h 0
+    from ← on_word h 1
+    target ← on_reference h 2
+    to ← on_word h 3
+    count ← on_word h 4
+    words ← on_words h source from count
+    writes_words h target to words (GivesWord (word (to + count)));
 }
 utility_member utilities.ArrayFill = record {
   tests = Uses 0 Stores ∷ HasRange 0 1 (ShortAt 2) ∷ [];
-  does = λ h. on_reference h 0 (λ array. on_word h 1 (λ from. on_word h 2 (λ count. on_word h 3 (λ byte.
-      writes_words h array from (replicate count (low byte)) (GivesWord (word (from + count)))))));
+  does = λ h. do
+    array ← on_reference h 0
+    from ← on_word h 1
+    count ← on_word h 2
+    byte ← on_word h 3
+    writes_words h array from (replicate count (low byte)) (GivesWord (word (from + count)));
 }
 utility_member utilities.ArrayCompare = record {
   tests = Uses 0 Loads ∷ Uses 2 Loads ∷ HasRange 0 1 (ShortAt 4) ∷ HasRange 2 3 (ShortAt 4) ∷ [];
-  does = λ h. on_range h 0 1 (ShortAt 4) (λ bytes. on_range h 2 3 (ShortAt 4) (λ others.
-      ends_with h (GivesWord (order_of bytes others))));
+  does = λ h. do
+    bytes ← on_range h 0 1 (ShortAt 4)
+    others ← on_range h 2 3 (ShortAt 4)
+    ends_with h (GivesWord (order_of bytes others));
 }
 utility_member utilities.GetShort = record {
   tests = Uses 0 Loads ∷ HasRange 0 1 (Fixed 2) ∷ [];
-  does = λ h. on_reference h 0 (λ array. on_word h 1 (λ from. on_component h array from (λ one.
-      on_component h array (from + 1) (λ other. ends_with h (GivesWord (word_of_bytes (low one) (low other)))))));
+  does = λ h. do
+    array ← on_reference h 0
+    from ← on_word h 1
+    one ← on_component h array from
+    other ← on_component h array (from + 1)
+    ends_with h (GivesWord (word_of_bytes (low one) (low other)));
 }
 utility_member utilities.SetShort = record {
   tests = Uses 0 Stores ∷ HasRange 0 1 (Fixed 2) ∷ [];
-  does = λ h. on_reference h 0 (λ array. on_word h 1 (λ from. on_word h 2 (λ short.
-      writes_words h array from (high short ∷ low short ∷ []) (GivesWord (word (from + 2))))));
+  does = λ h. do
+    array ← on_reference h 0
+    from ← on_word h 1
+    short ← on_word h 2
+    writes_words h array from (high short ∷ low short ∷ []) (GivesWord (word (from + 2)));
 }
 utility_member utilities.MakeShort = record {
   tests = [];
-  does = λ h. on_word h 0 (λ one. on_word h 1 (λ other. ends_with h (GivesWord (word_of_bytes (low one) (low other)))));
+  does = λ h. do
+    one ← on_word h 0
+    other ← on_word h 1
+    ends_with h (GivesWord (word_of_bytes (low one) (low other)));
 }
 
 -- ---- all members

@@ -104,3 +104,13 @@ on_length h (OfAid place) go = on_reference h place (λ aid. on_aid h aid (λ by
 abbrev pub on_range : {A : Type 0} → Called → ℕ → ℕ → Length → (List ℕ → Option A) → Option A
 on_range h array offset count go =
     on_reference h array (λ number. on_word h offset (λ from. on_length h count (λ n. on_bytes h number from n go)))
+
+-- ---- one look behind the other, each on a line of a `do` block: what is found has a name, and a test has none
+
+infixl 10 ◌>>=◌
+abbrev pub ◌>>=◌ : {A B : Type 0} → ((A → Option B) → Option B) → (A → Option B) → Option B
+◌>>=◌ look go = look go
+
+infixl 10 ◌>>◌
+abbrev pub ◌>>◌ : {B : Type 0} → (Option B → Option B) → Option B → Option B
+◌>>◌ test go = test go

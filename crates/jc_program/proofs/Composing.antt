@@ -1,8 +1,7 @@
 -- The tables of a world, put together of those before it and of what a package more brings.
-use Rattle.std.proofs.Common.{◌≡◌, ℕ, suc, ◌+◌, ◌-◌, ◌≤◌, List, [], ◌∷◌, ◌++◌, length, map, take, drop, Some, None}
+use Rattle.std.proofs.Common.{◌≡◌, ℕ, suc, ◌+◌, ◌-◌, ◌≤◌, List, [], ◌∷◌, ◌++◌, length, map, take, Some, None}
 use Rattle.std.proofs.Common.{slice_get, get_or, sym, ap, subst, ◌∙◌, arith, length-append}
 use Rattle.std.proofs.Math.Seq.{get_or-append_seam}
-use Rattle.std.proofs.lemmas.List.{length-map}
 use Rattle.jc_cap_desc.specs.Shape.{Shape}
 use Rattle.jc_classes.specs.Growth.{KeepsAllLookups, LiesWithin, StandWithin, grown}
 use Rattle.jc_classes.specs.Limits.{IsSmall}
@@ -14,7 +13,7 @@ use Rattle.jc_names.specs.Names.{home_at}
 use Rattle.jc_names.specs.declared.name.ClassName.{ClassName}
 use Rattle.jc_program.specs.Called.{AreCalled, AreInterfaceCalls, AreVisible, keyed_at}
 use Rattle.jc_program.specs.ClassRows.{AreClassRows}
-use Rattle.jc_program.specs.Classes.{HaveWordOffsets, class_names, superclass_number}
+use Rattle.jc_program.specs.Classes.{HaveWordOffsets, class_names}
 use Rattle.jc_program.specs.Entries.{AreEntries}
 use Rattle.jc_program.specs.MemberTokens.{AreMemberTokens}
 use Rattle.jc_program.specs.Methods.{AreLoaded, LoadedMethod, methods_of}
@@ -27,7 +26,7 @@ use Rattle.jc_program.specs.declared.program.Program.{Program}
 use Rattle.jc_program.proofs.Calling.{get_last}
 use Rattle.jc_program.proofs.Enlarging.{lies_behind}
 use Rattle.jc_program.proofs.Extending.{entries_grown, loaded_grown, number_behind, words_grown}
-use Rattle.jc_program.proofs.Growing.{interface_lists, rows_stay, superclasses_grown, tokens_stay}
+use Rattle.jc_program.proofs.Growing.{interface_lists, rows_stay, tokens_stay}
 use Rattle.jc_program.proofs.Growing.{entry_stays, virtual_lists, visible_lists}
 
 -- the last of bodies with one more
@@ -47,8 +46,6 @@ pub record Composed (p : Program) (world : World) (shapes : List Shape) (body : 
   pub pools : length (p.entries ++ pool_of ms body ∷ []) ≡ suc (length world.bodies)
   pub names_now : names ≡ class_names world.shapes
   pub words : HaveLastWordOffsets shapes → HaveWordOffsets world.shapes
-  pub superclasses : p.superclasses ++ map (superclass_number shapes names) (drop (length p.superclasses) names)
-      ≡ map (superclass_number world.shapes names) names
   pub virtual : AreListed (HasCalled shapes ms 0 0 128) names (length p.virtual_methods) p.virtual_methods
   pub visible : AreListed (HasVisible shapes ms) names (length p.visible_methods) p.visible_methods
   pub interfaces : AreListed (HasListed shapes ms names) names (length p.interface_methods) p.interface_methods
@@ -208,23 +205,6 @@ module _ (all_lookups : (before after : List Shape) → LiesWithin before after 
         tokens_here : AreMemberTokens world.shapes p.member_tokens
         tokens_here = grind (arith, shapes_are, tokens_stay, keeps, sound_before, two)
 
-        superclasses_before : p.superclasses ≡ map (superclass_number before (class_names before)) (class_names before)
-        superclasses_before =
-            is.tables.superclasses ∙ ap (λ ns. map (superclass_number before ns) ns) is.tables.classes
-
-        superclasses_here : p.superclasses ++ map (superclass_number shapes names) (drop (length p.superclasses) names)
-            ≡ map (superclass_number world.shapes names) names
-        superclasses_here =
-            ap (λ xs. xs ++ map (superclass_number shapes names) (drop (length xs) names)) superclasses_before
-            ∙ ap (λ i. map (superclass_number before (class_names before)) (class_names before)
-            ++ map (superclass_number shapes names) (drop i names))
-            (length-map (class_names before) (superclass_number before (class_names before)))
-            ∙ moved (λ s ns. map (superclass_number before (class_names before)) (class_names before)
-            ++ map (superclass_number s ns) (drop (length (class_names before)) ns)
-            ≡ map (superclass_number s ns) ns)
-            (superclasses_grown before is.bound.0 keeps (stands before) sound_before two)
-            ∙ ap (λ s. map (superclass_number s names) names) same
-
         pub composed : Composed p world shapes body ms names
         composed = record {
           loaded = loaded_here;
@@ -232,7 +212,6 @@ module _ (all_lookups : (before after : List Shape) → LiesWithin before after 
           pools = pools_here;
           names_now = names_are ∙ ap class_names same;
           words = words_here;
-          superclasses = superclasses_here;
           virtual = virtual_here;
           visible = visible_here;
           interfaces = interfaces_here;

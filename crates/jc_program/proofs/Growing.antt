@@ -1,10 +1,9 @@
 -- What tables of a world hold stays right in the world with one package more.
 use Rattle.std.proofs.Common.{◌≡◌, ◌⊎◌, inl, inr, ℕ, zero, suc, ◌+◌, ◌-◌, ◌<◌, ◌≤◌, Bool, true, false, cond}
-use Rattle.std.proofs.Common.{List, [], ◌∷◌, ◌++◌, length, take, drop, map, Option, Some, None, is_some, slice_get}
+use Rattle.std.proofs.Common.{List, [], ◌∷◌, length, take, Option, Some, None, is_some, slice_get}
 use Rattle.std.proofs.Common.{unwrap_or, nat_lt, refl, sym, ap, subst, ◌∙◌, arith, length-append}
 use Rattle.std.proofs.lemmas.Bool.{cases_lt, ne_eqb}
 use Rattle.std.proofs.lemmas.Iterator.Adapters.{position_from-zero}
-use Rattle.std.proofs.lemmas.List.{drop_at, map-append}
 use Rattle.std.proofs.lemmas.Option.{cond_some, option_and_then_some}
 use Rattle.std.specs.List.{position, position_from}
 use Rattle.std.specs.Option.{option_and_then, option_map_or}
@@ -30,7 +29,7 @@ use Rattle.jc_names.specs.declared.name.MethodName.{MethodName}
 use Rattle.jc_names.specs.declared.name.MethodName.TheVariants as Named
 use Rattle.jc_program.specs.Called.{AreCalled, AreInterfaceCalls, AreVisible, KeyedTable, called_of, interface_call_of}
 use Rattle.jc_program.specs.Called.{keyed_at}
-use Rattle.jc_program.specs.Classes.{class_names, class_number, names_in, superclass_number}
+use Rattle.jc_program.specs.Classes.{class_names, class_number}
 use Rattle.jc_program.specs.ClassRows.{AreClassRows, class_row_of}
 use Rattle.jc_program.specs.Entries.{method_entry}
 use Rattle.jc_program.specs.MemberTokens.{AreMemberTokens}
@@ -45,13 +44,6 @@ use Rattle.jc_program.proofs.Counting.{get_front, is_there, keeps_numbers, new_a
 use Rattle.jc_program.proofs.Same.{is_placed, name_itself, named, same_name}
 
 -- ---- lists and options
-
--- maps of functions that are the same on what stands in a list
-maps_same : {A B : Type 0} (f g : A → B) (xs : List A) → ((n : ℕ) (x : A) → slice_get xs n ≡ Some x → f x ≡ g x)
-    → map f xs ≡ map g xs
-maps_same f g [] alike = refl
-maps_same f g (x ∷ xs) alike =
-    ap (λ y. y ∷ map f xs) (alike zero x refl) ∙ ap (λ ys. g x ∷ ys) (maps_same f g xs (λ n. alike (suc n)))
 
 -- what begins with a list, and has nothing behind it that passes, has the list's places
 place_stays : {A : Type 0} (p : A → Bool) (xs ys : List A) (first : ℕ) → take (length xs) ys ≡ xs
@@ -122,28 +114,6 @@ module _ (before : List Shape) (more : Shape) (keeps : KeepsAllLookups before (g
 
       not_new : (m : ℕ) → class_number names c ≡ None → class_number later c ≡ Some m → ⊥
       not_new m none e = by_order m none (named later c m e) (cases_lt m (length names))
-
-  above_stays : (c : ClassName) → IsWithin before c
-      → superclass_number after later c ≡ superclass_number before names c
-  above_stays c w =
-      ap (option_and_then (class_number later)) (keeps.superclasses c w)
-      ∙ then_same_at (class_number later) (class_number names) (superclass_of before c)
-      (λ d e. number_stays d (above_within c d w e))
-
-  -- the numbers of superclasses that were there, and behind them those of the new classes, are those of all
-  pub superclasses_grown : map (superclass_number before names) names
-      ++ map (superclass_number after later) (drop (length names) later)
-      ≡ map (superclass_number after later) later
-  superclasses_grown =
-      let new = names_in (length before) more in
-      let f = superclass_number after later in
-      let grows = (keeps_numbers before more).names in
-      ap (λ ns. map (superclass_number before names) names ++ map f (drop (length names) ns)) grows
-      ∙ ap (λ ns. map (superclass_number before names) names ++ map f ns) (drop_at names new (length names) refl)
-      ∙ ap (λ ns. ns ++ map f new)
-      (maps_same (superclass_number before names) f names (λ n c at. sym (above_stays c (named_within n c at))))
-      ∙ sym (map-append f names new)
-      ∙ ap (map f) (sym grows)
 
   -- ---- tokens of the API's members
 

@@ -3,7 +3,7 @@ use Rattle.std.proofs.Common.{◌≡◌, ◌≢◌, ◌⊎◌, inl, inr, ℕ, ze
 use Rattle.std.proofs.Common.{◌||◌, Bool, true, false, not, cond, max, nat_lt, List, [], ◌∷◌, ◌++◌, length, get_or, set}
 use Rattle.std.proofs.Common.{take, bit_or, refl, sym, ap, ◌∙◌, arith}
 use Rattle.std.specs.Int.{bit_at, w64}
-use Rattle.std.proofs.lemmas.Bool.{cases_eq, eq-eqb, eqb-true, le-ltb, ne_eqb}
+use Rattle.std.proofs.lemmas.Bool.{cases_eq, eq-eqb, eqb-true, ne_eqb}
 use Rattle.std.proofs.lemmas.List.{get_or-set_same, get_or-set_other}
 use Rattle.std.proofs.lemmas.Nat.Bits.{bit_at-lt, bit_at-zero, bit_at_or}
 use Rattle.std.proofs.lemmas.Nat.Bits.{bit_at_set_other, bit_at_set_same, same_from_bits_below}
@@ -216,9 +216,6 @@ one_bit number n = by_number (cases_eq n number)
 
 abbrev pub bits_before : List ℕ → ℕ → ℕ → Bool
 bits_before words at n = nat_lt (n / 64) at && has_bit words n
-
-pub none_before : (words : List ℕ) (n : ℕ) → bits_before words 0 n ≡ false
-none_before words n = ap (λ b. b && has_bit words n) (le-ltb (n / 64) 0 (omega arith))
 
 -- ---- words in a list that has others behind
 

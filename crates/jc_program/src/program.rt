@@ -10,11 +10,10 @@ use crate::interfaces::InterfaceMethods;
 use crate::loading::put_package;
 use crate::member_tokens::MemberTokens;
 use crate::methods::Methods;
-use crate::superclasses::Superclasses;
 use crate::supertypes::Supertypes;
 use crate::virtuals::VirtualMethods;
 use crate::visible::VisibleMethods;
-use jc_classes::{ClassTable, growing_keeps_lookups};
+use jc_classes::growing_keeps_lookups;
 use jc_link::{World, built_worlds_are_sound, growing_keeps_linking};
 use std::alloc::{AllocError, Global};
 
@@ -24,7 +23,6 @@ pub struct Program {
     pub methods: Methods,
     pub entries: Entries,
     pub classes: Classes,
-    pub superclasses: Superclasses,
     pub virtual_methods: VirtualMethods,
     pub visible_methods: VisibleMethods,
     pub interface_methods: InterfaceMethods,
@@ -49,7 +47,6 @@ impl Program {
         let methods = Methods::new(alloc, world)?;
         let entries = Entries::new(alloc, world, &methods)?;
         let classes = Classes::new(alloc, world)?;
-        let superclasses = Superclasses::new(alloc, world, &classes)?;
         let virtual_methods = VirtualMethods::new(alloc, world, &methods, &classes)?;
         let visible_methods = VisibleMethods::new(alloc, world, &methods, &classes)?;
         let interface_methods = InterfaceMethods::new(alloc, world, &methods, &classes)?;
@@ -60,7 +57,6 @@ impl Program {
             methods,
             entries,
             classes,
-            superclasses,
             virtual_methods,
             visible_methods,
             interface_methods,
@@ -99,7 +95,6 @@ impl Program {
         put_package(alloc, &mut self.methods, table, bodies.len() as u8, body)?;
         self.entries.grow(alloc, &self.methods, body)?;
         self.classes.grow(alloc, table)?;
-        self.superclasses.grow(alloc, table, &self.classes)?;
         self.virtual_methods
             .grow(alloc, table, &self.methods, &self.classes)?;
         self.visible_methods
@@ -118,7 +113,6 @@ impl Program {
         self.methods.keep(size.methods);
         self.entries.keep(size.pools);
         self.classes.keep(size.classes);
-        self.superclasses.keep(size.classes);
         self.virtual_methods.keep(size.classes);
         self.visible_methods.keep(size.classes);
         self.interface_methods.keep(size.classes);

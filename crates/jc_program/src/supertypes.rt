@@ -1,6 +1,6 @@
 //! What the classes of a world are below, by number.
 
-ghost use Rattle.std.specs.Prelude.{◌≡◌, ℕ, ◌+◌, ◌<◌, ◌≤◌, ◌==◌, ◌&&◌, ◌||◌, ◌++◌, length, map, slice_get};
+ghost use Rattle.std.specs.Prelude.{◌≡◌, ℕ, ◌+◌, ◌<◌, ◌≤◌, ◌==◌, ◌&&◌, ◌||◌, ◌++◌, length, map};
 ghost use Rattle.std.specs.Prelude.{take, Some, IfOk};
 ghost use Rattle.std.specs.List.{filter_map};
 ghost use Rattle.std.specs.Option.{option_and_then, option_to_list};
@@ -13,8 +13,7 @@ ghost use Rattle.jc_program.specs.PrivateSupertypes.{AreAbove, AreBegun, AreNumb
 ghost use Rattle.jc_program.specs.PrivateSupertypes.{AreWithin, HasObjects, IsPut};
 ghost use Rattle.jc_program.specs.PrivateSupertypes.{itself_and_above};
 ghost use Rattle.jc_program.specs.Supertypes.{AreSupertypes, is_listed};
-ghost use Rattle.jc_names.specs.Names.{home_of, is_same_name};
-ghost use Rattle.jc_names.specs.declared.name.ClassName.{ClassName as Name};
+ghost use Rattle.jc_names.specs.Names.{home_of};
 ghost use Rattle.jc_names.specs.declared.name.ClassName.TheVariants.{Api};
 
 use crate::bit_row::BitRow;

@@ -15,6 +15,16 @@ put_package-requires-clause-known c =
     c.table-table.result.now c.table-table.ensures.table c.len-count.ensures.small c.index-bodies-bodies.result
     c.bodies-bodies.result.now c.bodies-bodies.ensures.bodies c.index-bodies-bodies.is
 
+pub grow-requires-3-clause-first : goal.grow-requires-3-clause-first
+grow-requires-3-clause-first c =
+    (composed c.growing_keeps_lookups.ensures.kept c.growing_keeps_linking.ensures.kept
+    c.growing_keeps_lookups.ensures.there c.growing_keeps_lookups.ensures.small c.growing_keeps_linking.ensures.first
+    c.built_worlds_are_sound.ensures c.args.self.now c.args.world.now c.requires.grown c.bodies-bodies.ensures.world
+    c.table-table.result.now c.table-table.ensures.table c.len-count.ensures.small c.index-bodies-bodies.result
+    c.bodies-bodies.result.now c.bodies-bodies.ensures.bodies c.index-bodies-bodies.is c.put_package.new.loaded
+    c.in_ok-put_package.ensures.done c.in_ok-put_package.ensures.begins
+    c.grow-2.new.self c.in_ok-grow-2.ensures.names).virtual
+
 pub grow-requires-4-clause-first : goal.grow-requires-4-clause-first
 grow-requires-4-clause-first c =
     (composed c.growing_keeps_lookups.ensures.kept c.growing_keeps_linking.ensures.kept
@@ -23,7 +33,7 @@ grow-requires-4-clause-first c =
     c.table-table.result.now c.table-table.ensures.table c.len-count.ensures.small c.index-bodies-bodies.result
     c.bodies-bodies.result.now c.bodies-bodies.ensures.bodies c.index-bodies-bodies.is c.put_package.new.loaded
     c.in_ok-put_package.ensures.done c.in_ok-put_package.ensures.begins
-    c.grow-2.new.self c.in_ok-grow-2.ensures.names).virtual
+    c.grow-2.new.self c.in_ok-grow-2.ensures.names).visible
 
 pub grow-requires-5-clause-first : goal.grow-requires-5-clause-first
 grow-requires-5-clause-first c =
@@ -33,20 +43,10 @@ grow-requires-5-clause-first c =
     c.table-table.result.now c.table-table.ensures.table c.len-count.ensures.small c.index-bodies-bodies.result
     c.bodies-bodies.result.now c.bodies-bodies.ensures.bodies c.index-bodies-bodies.is c.put_package.new.loaded
     c.in_ok-put_package.ensures.done c.in_ok-put_package.ensures.begins
-    c.grow-2.new.self c.in_ok-grow-2.ensures.names).visible
-
-pub grow-requires-6-clause-first : goal.grow-requires-6-clause-first
-grow-requires-6-clause-first c =
-    (composed c.growing_keeps_lookups.ensures.kept c.growing_keeps_linking.ensures.kept
-    c.growing_keeps_lookups.ensures.there c.growing_keeps_lookups.ensures.small c.growing_keeps_linking.ensures.first
-    c.built_worlds_are_sound.ensures c.args.self.now c.args.world.now c.requires.grown c.bodies-bodies.ensures.world
-    c.table-table.result.now c.table-table.ensures.table c.len-count.ensures.small c.index-bodies-bodies.result
-    c.bodies-bodies.result.now c.bodies-bodies.ensures.bodies c.index-bodies-bodies.is c.put_package.new.loaded
-    c.in_ok-put_package.ensures.done c.in_ok-put_package.ensures.begins
     c.grow-2.new.self c.in_ok-grow-2.ensures.names).interfaces
 
-pub grow-requires-8-clause-first : goal.grow-requires-8-clause-first
-grow-requires-8-clause-first c =
+pub grow-requires-7-clause-first : goal.grow-requires-7-clause-first
+grow-requires-7-clause-first c =
     (composed c.growing_keeps_lookups.ensures.kept c.growing_keeps_linking.ensures.kept
     c.growing_keeps_lookups.ensures.there c.growing_keeps_lookups.ensures.small c.growing_keeps_linking.ensures.first
     c.built_worlds_are_sound.ensures c.args.self.now c.args.world.now c.requires.grown c.bodies-bodies.ensures.world
@@ -55,8 +55,8 @@ grow-requires-8-clause-first c =
     c.in_ok-put_package.ensures.done c.in_ok-put_package.ensures.begins
     c.grow-2.new.self c.in_ok-grow-2.ensures.names).rows
 
-pub grow-requires-7 : goal.grow-requires-7
-grow-requires-7 c = grind (arith, rows_before)
+pub grow-requires-6 : goal.grow-requires-6
+grow-requires-6 c = grind (arith, rows_before)
 
 pub returns-clause-done : goal.returns-clause-done
 returns-clause-done c =
@@ -75,23 +75,22 @@ returns-clause-done c =
       pools = ap length c.in_ok-grow.ensures.done ∙ all.pools;
       classes = all.names_now;
       offsets = all.words c.in_ok-grow-2.ensures.offsets;
-      superclasses = c.in_ok-grow-3.ensures.done ∙ all.superclasses;
-      virtual_methods = subst (λ s. AreCalled s methods names c.grow-4.new.self) same c.in_ok-grow-4.ensures.called;
-      visible_methods = subst (λ s. AreVisible s methods names c.grow-5.new.self) same c.in_ok-grow-5.ensures.visible;
-      interface_methods = subst (λ s. AreInterfaceCalls s methods names c.grow-6.new.self) same
-          c.in_ok-grow-6.ensures.calls;
-      supertypes = subst (λ s. AreSupertypes s names c.grow-7.new.self) same c.in_ok-grow-7.ensures.above;
-      rows = subst (λ s. AreClassRows s names c.grow-8.new.self) same c.in_ok-grow-8.ensures.rows;
+      virtual_methods = subst (λ s. AreCalled s methods names c.grow-3.new.self) same c.in_ok-grow-3.ensures.called;
+      visible_methods = subst (λ s. AreVisible s methods names c.grow-4.new.self) same c.in_ok-grow-4.ensures.visible;
+      interface_methods = subst (λ s. AreInterfaceCalls s methods names c.grow-5.new.self) same
+          c.in_ok-grow-5.ensures.calls;
+      supertypes = subst (λ s. AreSupertypes s names c.grow-6.new.self) same c.in_ok-grow-6.ensures.above;
+      rows = subst (λ s. AreClassRows s names c.grow-7.new.self) same c.in_ok-grow-7.ensures.rows;
       member_tokens = all.tokens;
       counts = record {
-        virtual_methods = c.in_ok-grow-4.ensures.count;
-        visible_methods = c.in_ok-grow-5.ensures.count;
-        interface_methods = c.in_ok-grow-6.ensures.count;
-        supertypes = c.in_ok-grow-7.ensures.count;
-        rows = c.in_ok-grow-8.ensures.count;
+        virtual_methods = c.in_ok-grow-3.ensures.count;
+        visible_methods = c.in_ok-grow-4.ensures.count;
+        interface_methods = c.in_ok-grow-5.ensures.count;
+        supertypes = c.in_ok-grow-6.ensures.count;
+        rows = c.in_ok-grow-7.ensures.count;
       };
       known = record {
-        supertypes = c.in_ok-grow-7.ensures.known;
-        interface_methods = c.in_ok-grow-6.ensures.known;
+        supertypes = c.in_ok-grow-6.ensures.known;
+        interface_methods = c.in_ok-grow-5.ensures.known;
       };
     }

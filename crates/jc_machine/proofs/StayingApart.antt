@@ -64,7 +64,7 @@ module _ (before after : Heap TaggedValue) (owner : Owner) (apart : IsSetApart b
   others_by number o e c (Some p) f =
       let r = apart.others number p f (sym (old_context number o p e f) ∙ c) in record {
         instance = ap (λ (x : Owner). x.instance) (old_owner number o p e f) ∙ r.instance;
-        codeless = ap (λ (x : ObjectKind). has_no_code x.object) (old_kind number o p e f) ∙ r.codeless;
+        codeless = ap (λ (x : ObjectKind). has_no_code x.object_type) (old_kind number o p e f) ∙ r.codeless;
       }
 
   marked_by : (number : ℕ) (o : Object TaggedValue) → object_at after number ≡ Some o → o.kind.mark ≢ Plain

@@ -58,8 +58,8 @@ pub record IsSetApart (heap : Heap TaggedValue) : Type 0 where
 abbrev pub is_applets : Owner → Bool
 is_applets owner = not (owner.context == runtime_context)
 
--- so are the objects of a machine; no static field of it holds a reference that may not be stored there; its frames are
--- active as applets; and what the runtime keeps passes a test
+-- the objects of a machine are set apart; no static field of it holds a reference that may not be stored there; its
+-- frames are active as applets; and what the runtime keeps passes a test
 pub record IsApart {C : Type 0} (keeps : C → Bool) (m : Machine C) : Type 0 where
   pub objects : IsSetApart m.heap
   pub statics : FieldsHoldStorable m.heap m.statics
@@ -88,14 +88,14 @@ SparesPlain heap touch = touch.active ≡ runtime_context → (o : Object Tagged
 
 -- ---- native members
 
--- what it does in the runtime's name spares plain objects; no component holds what may not be stored; and what the
--- runtime keeps passes the test still
+-- a native member's accesses in the runtime's name spare plain objects; no component holds what may not be stored; and
+-- what the runtime keeps still passes the test
 pub record IsApartAnswer {C : Type 0} (keeps : C → Bool) (call : NativeCall C) (a : NativeAnswer C) : Type 0 where
   pub spares : AllByRecursion (SparesPlain call.heap) a.touches
   pub stored : HoldStorable a.heap
   pub kept : keeps a.runtime ≡ true
 
--- each answer to a call by an applet is so
+-- this holds of each answer to a call by an applet
 abbrev pub AreNativesApart : {C : Type 0} → (C → Bool) → Natives C → Type 0
 AreNativesApart {C} keeps natives = (w : World) (call : NativeCall C) → IsSetApart call.heap
     → is_applets call.active ≡ true → keeps call.runtime ≡ true → IsApartAnswer keeps call (natives.answer w call)

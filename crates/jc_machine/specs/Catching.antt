@@ -39,7 +39,7 @@ pub record Catches (w : World) (f : Frame) (body : MethodBody) (class : ClassNam
   pub until : body.code_offset + f.pc < handler.start + handler.active_length
   pub type : (handler.catch_type ≡ 0) ⊎ NamesClassAbove w f class handler
 
--- no handler of the frame's method does
+-- no handler of the frame's method catches objects of a class
 pub record CatchesNone (w : World) (class : ClassName) (f : Frame) : Type 0 where
   pub body : MethodBody
   pub has_code : code_at w f.method ≡ Some body
@@ -49,8 +49,8 @@ pub record CatchesNone (w : World) (class : ClassName) (f : Frame) : Type 0 wher
 
 -- what a machine comes to in which an object of a class is thrown. The innermost frame with a handler that catches it
 -- goes on at the first that does, with the object as its one operand, and the frames within it are gone; where no frame
--- has one the object is thrown out of the call. Nothing else changes. That machines are stuck which aren't well typed
--- isn't ruled out here
+-- has one the object is thrown out of the call. Nothing else changes. The machine may also be stuck: jc_safety proves
+-- that a well-typed one isn't
 pub data UnwindsTo {C : Type 0} (s : Surroundings C) (m : Machine C) (object : ℕ) (class : ClassName)
     : Outcome C → Type 0 where
   caught : (within : List Frame) (f : Frame) (waiting : List Frame) (body : MethodBody) (handler : Handler)

@@ -164,7 +164,7 @@ pub record IsAccessed (active : ℕ) (touches : List Touch) (number : ℕ) (obje
   pub who : (touch.active ≡ active) ⊎ (touch.active ≡ runtime_context)
   pub own : object.kind.mark ≡ Plain → (active ≡ object.owner.context) ⊎ (touch.active ≡ runtime_context)
 
--- of the objects that were there components change only of those that were so accessed
+-- of the objects that were there, only those that were so accessed have other components
 abbrev pub ChangesAccessed : ℕ → List Touch → Heap TaggedValue → Heap TaggedValue → Type 0
 ChangesAccessed active touches before after = (number : ℕ) (o p : Object TaggedValue)
     → object_at before number ≡ Some o → object_at after number ≡ Some p

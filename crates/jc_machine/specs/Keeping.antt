@@ -9,7 +9,7 @@ abbrev pub MembersKeep : {C : Type 0} → (C → Bool) → Natives C → Type 0
 MembersKeep {C} keeps natives =
     (w : World) (call : NativeCall C) → keeps call.runtime ≡ true → keeps (natives.answer w call).runtime ≡ true
 
--- it holds of what a call leaves, unless that was stuck
+-- the test holds of what a call leaves, unless the machine was stuck
 abbrev pub LeavesKept : {C : Type 0} → (C → Bool) → CallEnd C → Type 0
 LeavesKept keeps (Gave m value) = keeps m.runtime ≡ true
 LeavesKept keeps (Threw m object at) = keeps m.runtime ≡ true

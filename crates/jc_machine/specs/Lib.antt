@@ -1,3 +1,4 @@
+-- the machine
 pub mod Machine
 pub mod Runtime
 pub mod Lookup
@@ -9,6 +10,7 @@ pub mod Fields
 pub mod Calls
 pub mod Objects
 pub mod Step
+-- what its laws say
 pub mod Reading
 pub mod Accepted
 pub mod Typed
@@ -16,16 +18,17 @@ pub mod TypedWords
 pub mod Storable
 pub mod Guarded
 pub mod Natives
-pub mod Apart
-pub mod Keeping
-pub mod Running
-pub mod Uncounted
-pub mod WordNatives
 pub mod Idle
-pub mod ExamplePackages
-pub mod Examples
-pub mod TypedExamples
+pub mod WordNatives
+pub mod Running
+pub mod Keeping
+pub mod Apart
 pub mod Unseen
 pub mod Owning
 pub mod Accessing
 pub mod Catching
+pub mod Uncounted
+-- examples
+pub mod ExamplePackages
+pub mod Examples
+pub mod TypedExamples

@@ -48,7 +48,7 @@ pub record IsRefusedAnswer {C : Type 0} (call : NativeCall C) (a : NativeAnswer 
   pub unchanged : IsUnchanged call a
   pub throws : a.ends ≡ ThrowsObject security_exception
 
--- where a native member makes its accesses: the context is its caller's
+-- the setting of a native member's accesses: the context is its caller's
 abbrev pub setting_for : {C : Type 0} → Natives C → World → NativeCall C → Setting
 setting_for natives w call = record {
   shapes = w.shapes;
@@ -58,7 +58,7 @@ setting_for natives w call = record {
   registers = natives.registers call.runtime;
 }
 
--- objects have room within limits
+-- objects are within limits
 pub record IsWithin (limits : Limits) (heap : Heap TaggedValue) : Type 0 where
   pub objects : length heap ≤ limits.objects
   pub cells : cells_in heap ≤ limits.cells
@@ -94,7 +94,7 @@ pub record IsGuardedAnswer {C : Type 0} (natives : Natives C) (w : World) (call 
   pub modest : (number : ℕ) (rest : List TaggedValue) → call.member ≡ shareable_member
       → call.arguments ≡ Ref number ∷ rest → IsModest number call a
 
--- each answer is so, in any world, of any call
+-- each answer is guarded, in any world, to any call
 abbrev pub AreNativesGuarded : {C : Type 0} → Natives C → Type 0
 AreNativesGuarded {C} natives =
     (w : World) (call : NativeCall C) → IsGuardedAnswer natives w call (natives.answer w call)

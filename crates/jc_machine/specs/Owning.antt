@@ -81,7 +81,7 @@ pub data FramesGo {C : Type 0} (s : Surroundings C) (m : Machine C) (touches : L
   back : (k : ℕ) (f top : Frame) (waiting : List Frame) → drop k (m.top ∷ m.waiting) ≡ f ∷ waiting → GoesOn f top
       → FramesGo s m touches (top ∷ waiting)
 
--- frames go so behind a step that goes on; what is thrown leaves them as they were
+-- frames change so in a step that goes on; a step that throws leaves them as they were
 abbrev pub OwnersGo : {C : Type 0} → Surroundings C → Machine C → List Touch → Outcome C → Type 0
 OwnersGo s m touches (Next after) = FramesGo s m touches (after.top ∷ after.waiting)
 OwnersGo s m touches (Throws after object) = (after.top ∷ after.waiting) ≡ (m.top ∷ m.waiting)

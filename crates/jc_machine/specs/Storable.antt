@@ -33,12 +33,12 @@ may_be_static heap (Ref n) = option_map_or (λ o. is_storable o || is_librarys n
 may_be_static heap Null = true
 may_be_static heap Unset = true
 
--- so it is with all components of all objects
+-- all components of all objects hold such values
 abbrev pub HoldStorable : Heap TaggedValue → Type 0
 HoldStorable heap = (number : ℕ) (o : Object TaggedValue) → object_at heap number ≡ Some o
     → AllByRecursion (λ (v : TaggedValue). may_be_held heap v ≡ true) o.cells
 
--- and with all static fields
+-- all static fields hold values that a static field may hold
 abbrev pub FieldsHoldStorable : Heap TaggedValue → List (List StaticValue) → Type 0
 FieldsHoldStorable heap statics =
     AllByRecursion (AllByRecursion (λ (s : StaticValue). may_be_static heap s.value ≡ true)) statics

@@ -41,7 +41,7 @@ use Rattle.jc_words.specs.Values.{TaggedValue, is_written}
 
 -- ---- values
 
--- a value of a verification type. What nothing is known of may be unset
+-- a value of a verification type. A value of which nothing is known may be unset
 abbrev pub has_type : List Shape → Heap TaggedValue → TaggedValue → Ty → Bool
 has_type world heap v types.Top = true
 has_type world heap v types.Word = is_word v
@@ -54,7 +54,7 @@ has_type world heap v (types.ReferenceArray c) =
     leads_to heap
     (λ object. option_map_or (λ e. is_class_below world (counted world e) c) (component_class object) false) v
 
--- locals of these types
+-- local variables of these types
 abbrev pub HaveTypes : List Shape → Heap TaggedValue → List TaggedValue → List Ty → Type 0
 HaveTypes world heap vs ts = Pointwise (λ v t. has_type world heap v t ≡ true) vs ts
 
@@ -176,15 +176,15 @@ WaitTyped w heap result (f ∷ waiting) = WaitsTyped w heap result f × WaitType
 
 -- ---- machines
 
--- what it keeps beside its frames: the objects and the static fields are typed, the runtime's own objects are there,
--- and what the runtime keeps fits the objects
+-- what a machine has beside its frames: the objects and the static fields are typed, the runtime's own objects are
+-- there, and what the runtime keeps fits the objects
 pub record IsTypedBeside {C : Type 0} (s : Surroundings C) (m : Machine C) : Type 0 where
   pub heap : HeapTyped s.world.shapes m.heap
   pub statics : StaticsTyped s.world m.heap m.statics
   pub runtime_objects : HasRuntimeObjects m.heap
   pub fits : s.natives.fits s.world m.heap m.runtime ≡ true
 
--- and its frames
+-- a machine is typed: what it has beside its frames, the frame that runs, and those that wait
 pub record IsTyped {C : Type 0} (s : Surroundings C) (m : Machine C) : Type 0 where
   pub beside : IsTypedBeside s m
   pub top : RunsTyped s.world m.heap m.top

@@ -36,8 +36,8 @@ pub data LeavesTyped {C : Type 0} (world : List Shape) (heap : Heap TaggedValue)
   returning : (word : ℕ) → word < 65536 → returned ≡ Some types.Word
       → LeavesTyped world heap h returned operation after (returns_value h (Word word))
 
--- so it is of each operation whose effect on the types of a frame's values leads to these types, in any world and
--- beside any order of classes; a constant that is pushed is a short
+-- each operation whose effect leads from the types of a frame's values to these types leaves such values, in any world
+-- and by any order of classes; a constant that is pushed is a short
 abbrev pub KeepWordsTyped : (C : Type 0) → Type 0
 KeepWordsTyped C =
     (world : List Shape) (heap : Heap TaggedValue) (below : ClassName → ClassName → Bool) (h : StepContext C)

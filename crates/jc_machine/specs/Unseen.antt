@@ -78,8 +78,8 @@ pub record IsBlindAnswer {C : Type 0} (context : ℕ) (a b : NativeAnswer C) : T
 abbrev pub with_objects : {C : Type 0} → NativeCall C → Heap TaggedValue → NativeCall C
 with_objects call heap = record call { heap = heap }
 
--- each answer to a call by an applet of another context is so, and each answer of the one member that native members
--- have called (getShareableInterfaceObject), whoever calls it
+-- answers don't depend on hidden components: those to calls by applets of other contexts, and those of the one member
+-- that native members have called (getShareableInterfaceObject), whoever calls it
 pub record AreNativesBlind {C : Type 0} (natives : Natives C) : Type 0 where
   pub members : (context : ℕ) (w : World) (call : NativeCall C) (heap : Heap TaggedValue)
       → HasRuntimeObjects call.heap → is_applets call.active ≡ true → call.active.context ≢ context
@@ -91,7 +91,7 @@ pub record AreNativesBlind {C : Type 0} (natives : Natives C) : Type 0 where
 
 -- ---- a call
 
--- one that begins with other objects
+-- a call that begins with other objects
 abbrev pub from_objects : {C : Type 0} → Start C → Heap TaggedValue → Start C
 from_objects start heap = record start { heap = heap }
 

@@ -15,7 +15,7 @@ use Rattle.jc_names.specs.declared.name.ClassName.TheVariants.{Api, Loaded}
 use Rattle.jc_store.specs.Heap.{Heap, Object, cells_in}
 use Rattle.jc_store.specs.Store.{IsFull, Store, with_made}
 use Rattle.jc_words.specs.Values.{Word}
-use Rattle.jc_card.specs.New.{own_cells, own_objects}
+use Rattle.jc_machine.specs.Limits.{own_cells, own_objects}
 use Rattle.jc_card.specs.PrivateNew.{HasOwn, HasOwnRoom, HasRoomFor, HaveApiNumbers}
 use Rattle.jc_card.specs.PrivateNew.{made_of, own_object, own_objects_until, words_until}
 use Rattle.jc_card.specs.declared.runtime_objects.OwnObject.{OwnObject}

@@ -21,10 +21,11 @@ use Rattle.jc_natives.specs.Kept.{nothing_kept}
 use Rattle.jc_natives.specs.Meaning.{meaning}
 use Rattle.jc_names.specs.declared.name.ClassName.TheVariants.{Api}
 use Rattle.jc_store.specs.Store.{Store}
-use Rattle.jc_card.specs.New.{are_limits, new_card}
+use Rattle.jc_card.specs.New.{new_card}
+use Rattle.jc_machine.specs.Limits.{are_limits}
 use Rattle.jc_card.specs.PrivateNew.{HasOwn, HasOwnRoom, HaveApiNumbers}
 use Rattle.jc_card.specs.Reads.{CardWords, Holds}
-use Rattle.jc_card.specs.declared.limits.Limits.{Limits}
+use Rattle.jc_machine.specs.declared.limits.Limits.{Limits}
 use Rattle.jc_card.proofs.Making.{own_read}
 use Rattle.jc_card.proofs.TypedCards.{new_typed}
 

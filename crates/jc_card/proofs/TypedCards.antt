@@ -34,7 +34,7 @@ use Rattle.jc_card.specs.Load.{IsFit, IsLoad, has_room, with_package}
 use Rattle.jc_card.specs.New.{new_card}
 use Rattle.jc_card.specs.PrivateTyped.{KeepsTyped, ZeroedTyped}
 use Rattle.jc_card.specs.Typed.{IsTypedCard}
-use Rattle.jc_card.specs.declared.limits.Limits.{Limits}
+use Rattle.jc_machine.specs.declared.limits.Limits.{Limits}
 
 -- ---- calls, and what the runtime keeps
 

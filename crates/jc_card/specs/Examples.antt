@@ -10,7 +10,7 @@ use Rattle.jc_card.specs.Commands.{Response, apdu_command, reset_command}
 use Rattle.jc_card.specs.Install.{Installed, install_command}
 use Rattle.jc_card.specs.New.{new_card}
 use Rattle.jc_card.specs.Parts.{Left}
-use Rattle.jc_card.specs.declared.limits.Limits.{Limits}
+use Rattle.jc_machine.specs.declared.limits.Limits.{Limits}
 
 -- ---- the card
 

@@ -1,30 +1,12 @@
--- A card that is new, and what its limits may be (Java Card Runtime Environment Specification, Lifetime of the Java
--- Card Virtual Machine, JCRE Entry Point Objects, Global Arrays).
-use Rattle.std.specs.Prelude.{ℕ, ◌&&◌, nat_le, nat_lt, Bool, [], None, length}
+-- A card that is new (Java Card Runtime Environment Specification, Lifetime of the Java Card Virtual Machine, JCRE Entry
+-- Point Objects, Global Arrays).
+use Rattle.std.specs.Prelude.{[], None}
 use Rattle.jc_api.specs.Bound.{Bound}
 use Rattle.jc_machine.specs.Accepted.{api_alone}
 use Rattle.jc_machine.specs.Runtime.{new_heap}
+use Rattle.jc_machine.specs.declared.limits.Limits.{Limits}
 use Rattle.jc_natives.specs.Kept.{nothing_kept}
-use Rattle.jc_store.specs.Heap.{cells_in}
 use Rattle.jc_card.specs.Card.{CardState}
-use Rattle.jc_card.specs.declared.limits.Limits.{Limits}
-
--- how many the runtime's own objects are, and how many cells they take: 45, and 980
-abbrev pub own_objects : ℕ
-own_objects = length new_heap
-
-abbrev pub own_cells : ℕ
-own_cells = cells_in new_heap
-
--- a number of an object isn't negative as a short
-abbrev pub most_objects : ℕ
-most_objects = 32767
-
--- the runtime's own objects have room, and a call may make a step in a frame with a word
-abbrev pub are_limits : Limits → Bool
-are_limits l =
-    nat_le own_objects l.objects && nat_le l.objects most_objects && nat_le own_cells l.cells && nat_lt 0 l.frames
-    && nat_lt 0 l.frame_words && nat_lt 0 l.steps
 
 -- no package is loaded beside the API's, the runtime's own objects are all objects, and no applet is installed
 abbrev pub new_card : Limits → Bound → CardState

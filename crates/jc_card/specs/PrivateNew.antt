@@ -16,7 +16,7 @@ use Rattle.jc_store.specs.Heap.{Heap, Object, cells_in}
 use Rattle.jc_store.specs.Store.{Store}
 use Rattle.jc_store.specs.declared.kind.Mark.TheVariants.{GlobalArray, PermanentEntryPoint, TemporaryEntryPoint}
 use Rattle.jc_store.specs.declared.kind.ObjectType.TheVariants.{ByteArray, Instance}
-use Rattle.jc_card.specs.New.{own_cells, own_objects}
+use Rattle.jc_machine.specs.Limits.{own_cells, own_objects}
 use Rattle.jc_card.specs.declared.runtime_objects.OwnObject.{OwnObject}
 
 abbrev pub temporary : ApiClass → ℕ → OwnObject

@@ -15,7 +15,7 @@ ghost use Rattle.jc_card.specs.New.{new_card};
 ghost use Rattle.jc_card.specs.Order.{Resets, apdu_order, install_order};
 ghost use Rattle.jc_card.specs.PrivateGuarded.{StepsGuarded};
 ghost use Rattle.jc_card.specs.Unseen.{IsLoadedAlike, KeepsOut, SeesNothing};
-ghost use Rattle.jc_card.specs.declared.limits.Limits.{Limits};
+ghost use Rattle.jc_machine.specs.declared.limits.Limits.{Limits};
 ghost use Rattle.jc_machine.specs.Machine.{Touch};
 ghost use Rattle.jc_machine.specs.Unseen.{AreAlike};
 ghost use Rattle.jc_store.specs.Heap.{Heap};

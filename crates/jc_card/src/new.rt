@@ -1,20 +1,20 @@
 //! A card that is new.
 
 ghost use Rattle.std.specs.Prelude.{◌≡◌, ◌↔◌, IfOk, Err, false};
-ghost use Rattle.jc_card.specs.New.{are_limits, new_card};
+ghost use Rattle.jc_machine.specs.Limits.{are_limits};
+ghost use Rattle.jc_card.specs.New.{new_card};
 ghost use Rattle.jc_card.specs.Reads.{Holds};
 ghost use Rattle.jc_card.specs.declared.fault.CardFault.TheVariants.{BadLimits};
 
 use crate::card::Card;
 use crate::fault::CardFault;
 use crate::laws::is_word;
-use crate::limits::Limits;
 use crate::runtime_objects::make_own_objects;
 use jc_api::Binding;
 use jc_frames::Frames;
 use jc_interp::{ShownFrame, Statics, WordMachine};
 use jc_link::{World, built_worlds_have_the_api};
-use jc_machine::{accepted_worlds_grow, new_machines_are_typed};
+use jc_machine::{Limits, accepted_worlds_grow, new_machines_are_typed};
 use jc_natives::{Runtime, calls_keep_fitting};
 use jc_program::{Program, program_laws};
 use jc_store::Store;

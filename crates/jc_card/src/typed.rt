@@ -12,7 +12,7 @@ ghost use Rattle.jc_card.specs.Load.{IsLoad};
 ghost use Rattle.jc_card.specs.New.{new_card};
 ghost use Rattle.jc_card.specs.PrivateTyped.{CommandLaws};
 ghost use Rattle.jc_card.specs.Typed.{GivesTyped, IsTypedCard};
-ghost use Rattle.jc_card.specs.declared.limits.Limits.{Limits};
+ghost use Rattle.jc_machine.specs.declared.limits.Limits.{Limits};
 ghost use Rattle.jc_natives.specs.Kept.{are_bytes, is_aid};
 
 use crate::checking::fit_packages_are_accepted;

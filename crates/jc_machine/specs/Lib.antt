@@ -1,6 +1,7 @@
 -- the machine
 pub mod Machine
 pub mod Runtime
+pub mod Limits
 pub mod Lookup
 pub mod Going
 pub mod Returns

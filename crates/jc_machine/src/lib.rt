@@ -4,6 +4,7 @@
 mod examples;
 mod idle;
 mod laws;
+mod limits;
 mod member;
 mod natives;
 mod stop;
@@ -20,5 +21,6 @@ pub use laws::{
     operations_on_words_keep_types, owners_go_by_calls, runtime_objects_stay, steps_stay_apart,
     throws_are_caught,
 };
+pub use limits::Limits;
 pub use natives::{AtOnce, MOST_ARGUMENTS, Natives, WordCall, WordCallback, WordOutcome};
 pub use stop::{Budget, CodePoint};

@@ -3,10 +3,11 @@ use Rattle.std.proofs.Common.{◌≡◌, ℕ, List, [], ◌∷◌, ◌++◌, Opt
 use Rattle.std.proofs.Common.{refl, sym, ap, ◌∙◌, append_assoc}
 use Rattle.jc_api.specs.Bound.{Bound}
 use Rattle.jc_card.specs.Card.{CardState}
-use Rattle.jc_card.specs.New.{are_limits, new_card}
+use Rattle.jc_card.specs.New.{new_card}
+use Rattle.jc_machine.specs.Limits.{are_limits}
 use Rattle.jc_card.specs.declared.fault.CardFault.{CardFault}
 use Rattle.jc_card.specs.declared.fault.CardFault.TheVariants as cards
-use Rattle.jc_card.specs.declared.limits.Limits.{Limits}
+use Rattle.jc_machine.specs.declared.limits.Limits.{Limits}
 use Rattle.jc_run.proofs.Ending.{none_more}
 use Rattle.jc_run.proofs.Starting.{AreLawful, limits_fit}
 use Rattle.jc_run.specs.Answer.{Answered}

@@ -7,9 +7,10 @@ use Rattle.jc_card.specs.Accesses.{ChangesBy, IsApartCard, IsGuardedCommand, Kee
 use Rattle.jc_card.specs.Card.{CardState, with_steps}
 use Rattle.jc_card.specs.Commands.{apdu_command, reset_command}
 use Rattle.jc_card.specs.Install.{install_command}
-use Rattle.jc_card.specs.New.{are_limits, new_card}
+use Rattle.jc_card.specs.New.{new_card}
+use Rattle.jc_machine.specs.Limits.{are_limits}
 use Rattle.jc_card.specs.Order.{Resets, apdu_order, install_order}
-use Rattle.jc_card.specs.declared.limits.Limits.{Limits}
+use Rattle.jc_machine.specs.declared.limits.Limits.{Limits}
 use Rattle.jc_machine.specs.Machine.{Touch}
 use Rattle.jc_source.specs.Source.{Asked}
 use Rattle.jc_run.specs.Answer.{Answered}

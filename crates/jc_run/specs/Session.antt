@@ -4,8 +4,9 @@ use Rattle.std.specs.Prelude.{⊤, ◌≡◌, ℕ, false, true, List, [], ◌∷
 use Rattle.jc_api.specs.Bound.{Bound}
 use Rattle.jc_card.specs.Accesses.{IsApartCard}
 use Rattle.jc_card.specs.Card.{CardState}
-use Rattle.jc_card.specs.New.{are_limits, new_card}
-use Rattle.jc_card.specs.declared.limits.Limits.{Limits}
+use Rattle.jc_card.specs.New.{new_card}
+use Rattle.jc_machine.specs.Limits.{are_limits}
+use Rattle.jc_machine.specs.declared.limits.Limits.{Limits}
 use Rattle.jc_machine.specs.Machine.{Touch}
 use Rattle.jc_run.specs.Answer.{Answered}
 use Rattle.jc_run.specs.NeverStuck.{IsNeverStuck}

@@ -6,7 +6,7 @@ ghost use Rattle.jc_api.specs.Bound.{Bound};
 ghost use Rattle.jc_api.specs.NoClash.{HasNoClash};
 ghost use Rattle.jc_card.specs.Accesses.{IsApartCard};
 ghost use Rattle.jc_card.specs.New.{new_card};
-ghost use Rattle.jc_card.specs.declared.limits.Limits.{Limits};
+ghost use Rattle.jc_machine.specs.declared.limits.Limits.{Limits};
 ghost use Rattle.jc_run.specs.Isolation.{AreIsolated};
 ghost use Rattle.jc_run.specs.NeverStuck.{IsNeverStuck};
 ghost use Rattle.jc_run.specs.Runs.{AreGuarded};

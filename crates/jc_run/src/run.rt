@@ -1,8 +1,8 @@
 //! Scripts, line by line.
 
 ghost use Rattle.std.specs.Prelude.{false, ◌≡◌, ◌+◌, ◌<◌, ◌≤◌, ◌^◌, ℕ, List, Some, IfOk, IfErr, OnOk, length};
+ghost use Rattle.jc_machine.specs.Limits.{are_limits};
 ghost use Rattle.jc_card.specs.Card.{CardState};
-ghost use Rattle.jc_card.specs.New.{are_limits};
 ghost use Rattle.jc_card.specs.Reads.{Holds};
 ghost use Rattle.jc_source.specs.Source.{HoldSame};
 ghost use Rattle.jc_run.specs.End.{end_of, end_of_fault};
@@ -19,7 +19,8 @@ use crate::laws::commands_are_lawful;
 use crate::telling::Teller;
 use crate::writing::write_answer;
 use jc_api::Binding;
-use jc_card::{Card, Limits};
+use jc_card::Card;
+use jc_machine::Limits;
 use jc_script::{
     Dialect, LineCause, LineFault, MOST_BYTES, MOST_IN_LINE, MOST_LINES, NextLine, ScriptCommand,
     ScriptLine, ScriptReader, fault_in, said_by,

@@ -2,7 +2,7 @@
 use Rattle.std.proofs.Common.{ℕ, List, Option}
 use Rattle.jc_api.specs.Bound.{Bound}
 use Rattle.jc_card.specs.Card.{CardState}
-use Rattle.jc_card.specs.declared.limits.Limits.{Limits}
+use Rattle.jc_machine.specs.declared.limits.Limits.{Limits}
 use Rattle.jc_source.specs.Source.{Asked}
 use Rattle.jc_run.specs.Performs.{HasRun}
 use Rattle.jc_run.specs.Play.{IsFailing, ScriptEnd}
@@ -11,10 +11,10 @@ use Rattle.jc_run.specs.Runs.{EndsWith, IsPlayed, RunsTo}
 use Rattle.jc_run.specs.Runs.EndsWith.{bad_line, memory, over, source, unread, unwritten}
 use Rattle.jc_run.specs.Runs.RunsTo.{no_card, played, unfit}
 use Rattle.jc_script.specs.Script.{Numbered, Script}
-use Rattle.jcard.specs.FileSource.{IsFaultOf, IsSourceFault}
-use Rattle.jcard.specs.Files.{Entry}
+use Rattle.jc_host.specs.FileSource.{IsFaultOf, IsSourceFault}
+use Rattle.jc_host.specs.Files.{Entry}
 use Rattle.jcard.specs.Play.{IsTold}
-use Rattle.jcard.specs.PrivateFileSource.{IsToldOfSome}
+use Rattle.jc_host.specs.FileSource.{IsToldOfSome}
 use Rattle.jcard.specs.PrivatePlay.{IsToldAt}
 use Rattle.jcard.specs.declared.play.PlayFault.{PlayFault}
 use Rattle.jcard.specs.declared.play.PlayFault.TheVariants.{File, Load, Memory, Script as OfScript}

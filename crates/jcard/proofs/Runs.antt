@@ -3,17 +3,17 @@ use Rattle.std.proofs.Common.{◌∷◌, subst, sym, ℕ, List, [], inl, inr}
 use Rattle.std.specs.Prelude.{Option, Err, refl}
 use Rattle.std.proofs.lemmas.List.{append-nil}
 use Rattle.jc_api.specs.Bound.{Bound}
-use Rattle.jcard.specs.Binding.{IsBindingFault, IsBindingFor}
-use Rattle.jcard.specs.Files.{Entry, IsFaultAt, OfFile}
+use Rattle.jc_host.specs.Binding.{IsBindingFault, IsBindingFor}
+use Rattle.jc_host.specs.Files.{Entry, IsFaultAt, OfFile}
 use Rattle.jcard.specs.Play.{told_of}
 use Rattle.jcard.specs.Ran.{ComesOfRun, ComesOfSession}
 use Rattle.jcard.specs.Ran.ComesOfRun.{memory, unbound, unopened}
 use Rattle.jcard.specs.Ran.ComesOfSession.{memory as session_memory, unbound as session_unread}
-use Rattle.jcard.specs.Scripts.{AreAsked, IsUnopened, Opening}
-use Rattle.jcard.specs.declared.files.ReadFault.{ReadFault}
-use Rattle.jcard.specs.declared.files.ReadFault.TheVariants.{File, Memory}
-use Rattle.jcard.specs.declared.job.CardJob.{CardJob}
-use Rattle.jcard.specs.declared.job.RunJob.{RunJob}
+use Rattle.jc_host.specs.Scripts.{AreAsked, IsUnopened, Opening}
+use Rattle.jc_host.specs.declared.files.ReadFault.{ReadFault}
+use Rattle.jc_host.specs.declared.files.ReadFault.TheVariants.{File, Memory}
+use Rattle.jc_host.specs.declared.job.CardJob.{CardJob}
+use Rattle.jc_host.specs.declared.job.RunJob.{RunJob}
 
 -- no script is opened where none was to be
 none_asked : (has : List (List ℕ) → Type 0) → AreAsked has has []

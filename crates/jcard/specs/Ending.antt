@@ -1,44 +1,40 @@
--- The end of the program: what is written of what is said, and the exit status.
-use Rattle.std.specs.Prelude.{◌≡◌, ℕ, List, Option, Some, None, IfSome}
+-- The end of the program behind a script or a session: why that ended early, as it is written, and the exit status.
+use Rattle.std.specs.Prelude.{◌≡◌, ◌++◌, ℕ, List, Option, Some, Ok, Err, IfSome, option_map, codes}
+use Rattle.std.specs.Fmt.{decimal}
 use Rattle.std.specs.Io.KnownBytes.{Appends}
-use Rattle.jcard.specs.Saying.{remark_of, status_number, text_of}
-use Rattle.jcard.specs.declared.saying.Message.{Message}
-use Rattle.jcard.specs.declared.saying.Said.{Said}
-use Rattle.jcard.specs.declared.saying.Status.TheVariants.{Failure}
-use Rattle.jcard.specs.declared.saying.Stream.{Stream}
-use Rattle.jcard.specs.declared.saying.Stream.TheVariants.{Output, Errors}
+use Rattle.jc_host.specs.Files.{file_line}
+use Rattle.jc_host.specs.Saying.{line_feed, status_number}
+use Rattle.jc_host.specs.declared.saying.Status.TheVariants.{Failure, Success}
+use Rattle.jc_run.specs.Texts.{script_fault_text}
+use Rattle.jcard.specs.Ran.{Played}
+use Rattle.jcard.specs.declared.play.PlayFault.{PlayFault}
+use Rattle.jcard.specs.declared.play.PlayFault.TheVariants.{File, Load, Script, Memory}
 
--- the exit status behind what was said at the end. Where nothing was, all was done
-abbrev pub exit_number : Option Said → ℕ
-exit_number None = 0
-exit_number (Some said) = status_number said.status
+-- a line of standard error
+abbrev pub error_line : List ℕ → List ℕ
+error_line line = (codes "error: " ++ line) ++ line_feed
 
--- a message is written to standard output: its text, where that is known, stands behind what stood there. Standard
--- error stays as it was, unless something is said beside it
-pub record IsPrinted {W E : Type 0} (contents : W → Option (List ℕ)) (old new : W) (before after : E)
-    (message : Message) : Type 0 where
-  pub text : IfSome (text_of message) (Appends (contents old) (contents new))
-  pub alone : remark_of message ≡ None → after ≡ before
+-- a line of a script, by its number, and a file that it names, by its own line
+abbrev pub load_line : ℕ → List ℕ → List ℕ
+load_line number line = (((codes "error: line " ++ decimal number) ++ codes ": ") ++ line) ++ line_feed
 
--- a message is written to standard error: its text, where that is known, stands behind what stood there. Standard
--- output stays as it was
-pub record IsComplained {W E : Type 0} (contents : E → Option (List ℕ)) (old new : W) (before after : E)
-    (message : Message) : Type 0 where
-  pub text : IfSome (text_of message) (Appends (contents before) (contents after))
-  pub alone : new ≡ old
+-- the bytes that are written, but for the words of the system, and of a script that can't be read
+abbrev pub play_text : PlayFault → Option (List ℕ)
+play_text (File fault) = option_map error_line (file_line fault)
+play_text (Load number fault) = option_map (load_line number) (file_line fault)
+play_text (Script fault) = option_map error_line (script_fault_text fault)
+play_text Memory = Some (codes "error: out of memory" ++ line_feed)
 
-abbrev pub IsMessageTo : {W E : Type 0} → Stream → (W → Option (List ℕ)) → (E → Option (List ℕ)) → (old new : W)
-    → (before after : E) → Message → Type 0
-IsMessageTo Output contents told old new before after message = IsPrinted contents old new before after message
-IsMessageTo Errors contents told old new before after message = IsComplained told old new before after message
+-- why a play ended early is written to standard error: its text, where that is known, stands behind what stood there
+abbrev pub IsToldTo : {E : Type 0} → (E → Option (List ℕ)) → (before after : E) → PlayFault → Type 0
+IsToldTo told before after fault = IfSome (play_text fault) (Appends (told before) (told after))
 
--- the end of the program, by what is said, and its exit status
-pub data IsEnd {W E : Type 0} (contents : W → Option (List ℕ)) (told : E → Option (List ℕ)) (old new : W)
-    (before after : E) : Option Said → ℕ → Type 0 where
-  -- nothing is said, and nothing is written
-  silent : new ≡ old → after ≡ before → IsEnd contents told old new before after None (exit_number None)
-  -- what is said is written to its stream, and has the status with it
-  written : (said : Said) → IsMessageTo said.stream contents told old new before after said.message
-      → IsEnd contents told old new before after (Some said) (exit_number (Some said))
-  -- it can't be written, which is a failure
-  unwritten : (said : Said) → IsEnd contents told old new before after (Some said) (status_number Failure)
+-- the end of the program, by how a play ended, and its exit status
+pub data IsPlayEnd {E : Type 0} (told : E → Option (List ℕ)) (before after : E) : Played → ℕ → Type 0 where
+  -- it was played to its end, and nothing is written
+  silent : after ≡ before → IsPlayEnd told before after (Ok tt) (status_number Success)
+  -- it ended early, and it is written why
+  written : (fault : PlayFault) → IsToldTo told before after fault
+      → IsPlayEnd told before after (Err fault) (status_number Failure)
+  -- that can't be written
+  unwritten : (fault : PlayFault) → IsPlayEnd told before after (Err fault) (status_number Failure)

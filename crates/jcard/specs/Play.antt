@@ -6,9 +6,9 @@ use Rattle.jc_run.specs.End.{end_of_fault}
 use Rattle.jc_run.specs.Play.{NoMemory, NotRead, Over, ScriptEnd, SourceFailed}
 use Rattle.jc_run.specs.declared.fault.ScriptFault.{ScriptFault}
 use Rattle.jc_run.specs.declared.fault.ScriptFault.TheVariants as scripts
-use Rattle.jcard.specs.declared.files.FileFault.{FileFault}
-use Rattle.jcard.specs.declared.files.ReadFault.{ReadFault}
-use Rattle.jcard.specs.declared.files.ReadFault.TheVariants as reading
+use Rattle.jc_host.specs.declared.files.FileFault.{FileFault}
+use Rattle.jc_host.specs.declared.files.ReadFault.{ReadFault}
+use Rattle.jc_host.specs.declared.files.ReadFault.TheVariants as reading
 use Rattle.jcard.specs.declared.play.PlayFault.{PlayFault}
 use Rattle.jcard.specs.declared.play.PlayFault.TheVariants.{File, Load, Script, Memory}
 

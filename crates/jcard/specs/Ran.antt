@@ -1,24 +1,21 @@
--- What `run` and `session` come to: which binding, which limits and which script, what is written, and what is said at
--- the end.
-use Rattle.std.specs.Prelude.{⊤, ◌≡◌, ◌⊎◌, ◌∷◌, [], ℕ, List, Option, Some, None, Result, Ok, Err, IfErr}
+-- What `run` and `session` come to: which binding, which limits and which script, what is written, and how it ends.
+use Rattle.std.specs.Prelude.{◌≡◌, ◌⊎◌, ◌∷◌, [], ℕ, List, Option, Some, Result, Err, IfErr}
 use Rattle.jc_api.specs.Bound.{Bound}
-use Rattle.jc_card.specs.declared.limits.Limits.{Limits}
+use Rattle.jc_machine.specs.declared.limits.Limits.{Limits}
 use Rattle.jc_run.specs.Performs.{HasRun}
 use Rattle.jc_run.specs.Session.{HasHeld}
-use Rattle.jcard.specs.Binding.{IsBindingFault, IsBindingFor}
-use Rattle.jcard.specs.Files.{Entry, IsFaultAt}
-use Rattle.jcard.specs.FileSource.{HoldsCertificate, IsFaultOf, IsSourceFault}
-use Rattle.jcard.specs.Folders.{IsImage}
+use Rattle.jc_host.specs.Binding.{IsBindingFault, IsBindingFor}
+use Rattle.jc_host.specs.Files.{Entry, IsFaultAt}
+use Rattle.jc_host.specs.FileSource.{HoldsCertificate, IsFaultOf, IsSourceFault}
+use Rattle.jc_host.specs.Folders.{IsImage}
 use Rattle.jcard.specs.Play.{IsTold, IsToldOfSession, end_of_play, fault_of_end}
-use Rattle.jcard.specs.Saying.{IsSaidOfPlay}
-use Rattle.jcard.specs.Scripts.{IsUnopened, Opening}
-use Rattle.jcard.specs.Scripts.Opening.{readable}
-use Rattle.jcard.specs.declared.files.FileFault.{FileFault}
-use Rattle.jcard.specs.declared.job.CardJob.{CardJob}
-use Rattle.jcard.specs.declared.job.RunJob.{RunJob}
+use Rattle.jc_host.specs.Scripts.{IsUnopened, Opening}
+use Rattle.jc_host.specs.Scripts.Opening.{readable}
+use Rattle.jc_host.specs.declared.files.FileFault.{FileFault}
+use Rattle.jc_host.specs.declared.job.CardJob.{CardJob}
+use Rattle.jc_host.specs.declared.job.RunJob.{RunJob}
 use Rattle.jcard.specs.declared.play.PlayFault.{PlayFault}
 use Rattle.jcard.specs.declared.play.PlayFault.TheVariants.{File, Memory}
-use Rattle.jcard.specs.declared.saying.Said.{Said}
 
 -- how a play ends: to its end, or for this fault
 abbrev pub Played : Type 0
@@ -100,18 +97,3 @@ pub data ComesOfSession {R W : Type 0} (holds : List ℕ → Entry → Type 0) (
   -- the session is held
   held : (result : Played) → HoldsSession holds job (remaining from) (contents old) (contents new) result
       → ComesOfSession holds remaining from to contents old new job result
-
--- ---- what is said
-
--- nothing is said of a play to its end
-abbrev pub IsSaidAtEnd : Played → Option Said → Type 0
-IsSaidAtEnd (Ok u) None = ⊤
-IsSaidAtEnd (Ok u) (Some said) = ⊥
-IsSaidAtEnd (Err fault) None = ⊥
-IsSaidAtEnd (Err fault) (Some said) = IsSaidOfPlay fault said
-
--- it is said of a play of which this comes
-pub record IsSaidOf (comes : Played → Type 0) (said : Option Said) : Type 0 where
-  pub result : Played
-  pub is : comes result
-  pub told : IsSaidAtEnd result said

@@ -1,41 +1,26 @@
 //! The program of the card.
 #![tactic(auto)]
 
-mod answer;
-mod binding;
 mod ending;
-mod eval;
-mod file_source;
-mod files;
-mod folders;
-mod host_files;
-mod job;
-mod line;
 mod play;
 mod ran;
-mod saying;
-mod shown;
-mod streams;
 mod telling;
-mod texts;
-mod verify_folders;
 
-use ending::end_with;
-use host_files::{HostFiles, HostScripts};
-use job::{CardJob, RunJob, VerifyJob};
-use ran::{said_of_run, said_of_session};
-use saying::{Reply, Said, said_to, said_without_words};
-use shown::ShownName;
+use ending::end_play;
+use jc_host::{
+    CardJob, HostFiles, HostScripts, Patient, Reply, RunJob, Said, ShownName, VerifyJob,
+    WholeLines, end_with, older_stays, refused_folder, said_of_job, said_to, said_without_words,
+};
+use play::PlayFault;
+use ran::{run, session};
 use std::io::Write;
 use std::process::ExitCode;
 use std::{env, io};
-use streams::{Patient, WholeLines};
-use verify_folders::{older_stays, refused_folder, said_of_job};
 
 fn main(rt: HostRuntime) -> ExitCode {
     match words_given(&rt) {
         Ok(words) => reply_to(&rt, &words),
-        Err(error) => end(&rt, &Some(said_without_words(&error))),
+        Err(error) => end(&rt, &said_without_words(&error)),
     }
 }
 
@@ -47,10 +32,10 @@ fn words_given(rt: &HostRuntime) -> io::Result<Vec<String>> {
 // Does what the words of a command line ask for, and says what comes of it.
 fn reply_to(rt: &HostRuntime, words: &[String]) -> ExitCode {
     match said_to(rt.alloc(), words) {
-        Reply::Said(said) => end(rt, &Some(said)),
+        Reply::Said(said) => end(rt, &said),
         Reply::Verify(job) => verify_job(rt, &job),
-        Reply::Run(job) => end(rt, &run_job(rt, &job)),
-        Reply::Session(job) => end(rt, &session_job(rt, &job)),
+        Reply::Run(job) => end_of_play(rt, &run_job(rt, &job)),
+        Reply::Session(job) => end_of_play(rt, &session_job(rt, &job)),
     }
 }
 
@@ -61,7 +46,7 @@ fn verify_job(rt: &HostRuntime, job: &VerifyJob) -> ExitCode {
     let said = said_of_job(&mut files, rt.alloc(), job);
     let stays = older_stays(&files, job, &said);
     let refused = refused_folder(&files, rt.alloc(), job, &said);
-    let code = end(rt, &Some(said));
+    let code = end(rt, &said);
     let mut errors = WholeLines::new(rt.stderr());
     if let Some(refused) = refused {
         let _told = writeln!(errors, "{refused}");
@@ -74,8 +59,8 @@ fn verify_job(rt: &HostRuntime, job: &VerifyJob) -> ExitCode {
 }
 
 // Hands over what a script is played with: the system's files, standard output for its answers, and standard error.
-fn run_job(rt: &HostRuntime, job: &RunJob) -> Option<Said> {
-    said_of_run(
+fn run_job(rt: &HostRuntime, job: &RunJob) -> Result<(), PlayFault> {
+    run(
         &HostFiles::new(rt),
         &mut HostScripts::new(rt),
         rt.alloc(),
@@ -86,8 +71,8 @@ fn run_job(rt: &HostRuntime, job: &RunJob) -> Option<Said> {
 }
 
 // The same for a session, whose lines are those of standard input.
-fn session_job(rt: &HostRuntime, job: &CardJob) -> Option<Said> {
-    said_of_session(
+fn session_job(rt: &HostRuntime, job: &CardJob) -> Result<(), PlayFault> {
+    session(
         &HostFiles::new(rt),
         rt.alloc(),
         &mut rt.stdin(),
@@ -98,10 +83,15 @@ fn session_job(rt: &HostRuntime, job: &CardJob) -> Option<Said> {
 }
 
 // Hands over the streams that what is said is written to.
-fn end(rt: &HostRuntime, said: &Option<Said>) -> ExitCode {
+fn end(rt: &HostRuntime, said: &Said) -> ExitCode {
     ExitCode::from(end_with(
         &mut Patient::new(io::writer(rt), rt),
         &mut WholeLines::new(rt.stderr()),
         said,
     ))
+}
+
+// Hands over standard error, which it is written to why a play ended early.
+fn end_of_play(rt: &HostRuntime, played: &Result<(), PlayFault>) -> ExitCode {
+    ExitCode::from(end_play(&mut WholeLines::new(rt.stderr()), played))
 }

@@ -5,23 +5,23 @@ ghost use Rattle.jc_run.specs.End.{end_of_fault};
 ghost use Rattle.jc_run.specs.Performs.{HasRun};
 ghost use Rattle.jc_run.specs.Play.{failures_at};
 ghost use Rattle.jc_run.specs.Session.{HasHeld};
-ghost use Rattle.jcard.specs.FileSource.{HoldsCertificate, IsFaultOf, IsSourceFault};
-ghost use Rattle.jcard.specs.Folders.{IsImage};
+ghost use Rattle.jc_host.specs.FileSource.{HoldsCertificate, IsFaultOf, IsKeptOf, IsSourceFault, IsToldOfSome};
+ghost use Rattle.jc_host.specs.FileSource.{TellsAll};
+ghost use Rattle.jc_host.specs.Folders.{IsImage};
 ghost use Rattle.jcard.specs.Play.{IsTold, IsToldOfSession, end_of_play, end_of_told, fault_of_end, fault_of_told};
-ghost use Rattle.jcard.specs.PrivateFileSource.{IsKeptOf, IsToldOfSome, TellsAll};
 ghost use Rattle.jcard.specs.PrivatePlay.{IsToldAt};
 
-use crate::file_source::{Faults, FileSource};
-use crate::files::{FileFault, Files, ReadFault};
 use crate::telling::LineTeller;
 use jc_api::Binding;
-use jc_card::Limits;
+use jc_host::{Faults, FileFault, FileSource, Files, ReadFault};
+use jc_machine::Limits;
 use jc_run::{ScriptFault, run_script, run_session};
 use std::alloc::Global;
+use std::fmt;
 use std::io::{Read, Write};
 use std::marker::Brand;
 
-/// Why a script isn't played to its end.
+/// Why a script isn't played to its end. Its `Display` is a whole line.
 #[derive(Debug, Drop)]
 pub enum PlayFault {
     /// The file of the binding or of the script is at fault.
@@ -43,6 +43,21 @@ impl From<ReadFault> for PlayFault {
         match fault {
             ReadFault::File(fault) => PlayFault::File(fault),
             ReadFault::Memory => PlayFault::Memory,
+        }
+    }
+}
+
+impl fmt::Display for PlayFault {
+    ghost use Rattle.jcard.specs.Ending.{play_text};
+
+    ghost output = { play_text };
+
+    fn fmt<W: fmt::Write>(&self, f: &mut fmt::Formatter<W>) -> fmt::Result {
+        match self {
+            PlayFault::File(fault) => write!(f, "error: {fault}\n"),
+            PlayFault::Load { number, fault } => write!(f, "error: line {number}: {fault}\n"),
+            PlayFault::Script(fault) => write!(f, "error: {fault}\n"),
+            PlayFault::Memory => write!(f, "error: out of memory\n"),
         }
     }
 }

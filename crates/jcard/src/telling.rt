@@ -1,12 +1,11 @@
 //! What is told on standard error of the lines of a script or a session.
 
-use crate::file_source::{Faults, FileSource};
-use crate::files::Files;
 use jc_api::ApiClass;
-use jc_card::{Cause, InstallFault, Limits};
+use jc_card::{Cause, InstallFault};
 use jc_firewall::{Access, Denial, Rule};
+use jc_host::{Faults, FileSource, Files};
 use jc_interp::{IndexFault, ShownFrame};
-use jc_machine::{Budget, CodePoint};
+use jc_machine::{Budget, CodePoint, Limits};
 use jc_names::{ClassName, Owner};
 use jc_run::{CommandAnswer, LineRefusal, Teller};
 use jc_script::LineFault;

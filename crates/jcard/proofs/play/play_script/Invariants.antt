@@ -1,4 +1,4 @@
-use Rattle.jcard.specs.FileSource.{IsFaultOf}
+use Rattle.jc_host.specs.FileSource.{IsFaultOf}
 use Rattle.jcard.proofs.play.play_script.Given as goal
 
 -- the faults of readings of these files are told

@@ -1,6 +1,6 @@
 use Rattle.std.proofs.lemmas.Result.{err_from_is_err_and}
 use Rattle.jcard.specs.Ran.ComesOfRun.{played}
-use Rattle.jcard.specs.Scripts.{AreAsked}
+use Rattle.jc_host.specs.Scripts.{AreAsked}
 use Rattle.jcard.proofs.Runs.{run_unbound, run_unopened}
 use Rattle.jcard.proofs.ran.run.Goals as goal
 
@@ -14,7 +14,7 @@ returns-in_err-binding g c =
 pub returns-in_err-script : goal.returns-in_err-script
 returns-in_err-script g c =
     let told = err_from_is_err_and c.from_residual-in_err-script.result c.from_residual-in_err-script.ensures.1 in
-    let asked = AreAsked (g.S.Scripts.has_asked c.args.scripts.now) (g.S.Scripts.has_asked c.opened.new.scripts) in
+    let asked = AreAsked (g.S.Scripts.has_asked c.args.scripts.now) (g.S.Scripts.has_asked c.open_script.new.scripts) in
     rw (told.1, told.2) (run_unopened (g.F.Files.holds c.args.files.now) (g.S.Scripts.tells c.args.scripts.now) asked
     g.W.Write.contents c.args.writer.now c.args.job.now c.in_ok-binding.binding c.in_err-script.field-0.0
     c.in_ok-binding.ensures.bound c.in_err-script.ensures.faults c.in_err-script.ensures.asked)

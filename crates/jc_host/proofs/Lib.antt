@@ -1,0 +1,5 @@
+mod Evaluating
+mod Lines
+mod Reading
+mod Jobs
+mod Sources

@@ -1,0 +1,17 @@
+pub mod Answer
+pub mod Eval
+pub mod PrivateEval
+pub mod Texts
+pub mod Line
+pub mod PrivateLine
+pub mod Folders
+pub mod PrivateFolders
+pub mod Binding
+pub mod Verify
+pub mod PrivateVerify
+pub mod Files
+pub mod FileSource
+pub mod Scripts
+pub mod Saying
+pub mod PrivateSaying
+pub mod Ending

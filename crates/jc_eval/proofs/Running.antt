@@ -31,7 +31,7 @@ use Rattle.jc_loop.specs.Loop.{MayRun, MayRunBy, Ran, ReadReady, frame_behind, n
 use Rattle.jc_loop.specs.Moves.{IsRead, WordsAreDecoded, word_at, word_for}
 use Rattle.jc_loop.specs.Words.{Continues, Divides, Outcome as WordOutcome, WordFrame, Yields, done_by}
 use Rattle.jc_loop.specs.Words as words
-use Rattle.jc_machine.specs.Going.{Here, check, moved, on_some, with_top}
+use Rattle.jc_machine.specs.Going.{StepContext, check, moved, on_some, with_top}
 use Rattle.jc_machine.specs.Machine.{Frame, Machine, Next, Outcome, Stepped, Stuck, Throws, Ends}
 use Rattle.jc_machine.specs.Returns.{returns_to, returns_value}
 use Rattle.jc_machine.specs.Runtime.{arithmetic_exception}
@@ -113,7 +113,7 @@ pub record Laws (code : List ℕ) (typing : Typing) (t : IsTyping word_rules (wo
   pub first : IsTypedAlone typing first_machine
   pub stands : (m : Machine ⊤) → IsTypedAlone typing m → StandsAt code t.listing m
   pub steps : (m : Machine ⊤) → IsTypedAlone typing m → StepsTyped typing m (alone_step t.listing m).outcome
-  pub follow : (h : Here ⊤) → WordsFollow h
+  pub follow : (h : StepContext ⊤) → WordsFollow h
   pub decoded : WordsAreDecoded
 
 module _ (code : List ℕ) (typing : Typing) (t : IsTyping word_rules (word_method code) typing)
@@ -135,7 +135,7 @@ module _ (code : List ℕ) (typing : Typing) (t : IsTyping word_rules (word_meth
     abbrev at : StandsAt code listing m
     at = laws.stands m g.typed
 
-    abbrev h : Here ⊤
+    abbrev h : StepContext ⊤
     h = here_alone m at.instr.instr
 
     within_code : w.pc < length code
@@ -182,7 +182,7 @@ module _ (code : List ℕ) (typing : Typing) (t : IsTyping word_rules (word_meth
     abbrev stands : StandsAt code listing before
     stands = laws.stands before g.typed
 
-    abbrev place : Here ⊤
+    abbrev place : StepContext ⊤
     place = here_alone before stands.instr.instr
 
     step_ends : (o : Outcome ⊤) → (alone_step listing before).outcome ≡ o

@@ -20,7 +20,7 @@ use Rattle.jc_code.specs.declared.instr.WordOperation.TheVariants as ops
 use Rattle.jc_types.specs.State.{Types, all_below}
 use Rattle.jc_types.specs.declared.ty.Ty.TheVariants as types
 use Rattle.jc_words.specs.Values.{TaggedValue, Unset, Word}
-use Rattle.jc_machine.specs.Going.{Here, check, jumps, moved, on_some, with_top}
+use Rattle.jc_machine.specs.Going.{StepContext, check, jumps, moved, on_some, with_top}
 use Rattle.jc_machine.specs.Machine.{Ends, Frame, Machine, Next, Outcome, Stepped, Stuck, Throws, UsedUp}
 use Rattle.jc_machine.specs.Returns.{returns_to, returns_value}
 use Rattle.jc_machine.specs.Step.{Called, continued}
@@ -41,7 +41,7 @@ unmapped P f (x ∷ xs) h = (h.0, unmapped P f xs h.1)
 -- ---- an instruction
 
 module _ (typing : Typing) (m : Machine ⊤) (t : IsTypedAlone typing m) (next : ℕ) where
-  abbrev here : Here ⊤
+  abbrev here : StepContext ⊤
   here = record {
     around = nothing_around;
     machine = m;

@@ -15,7 +15,7 @@ use Rattle.jc_firewall.specs.Verdict as firewall
 use Rattle.jc_link.specs.Linked.{World}
 use Rattle.jc_names.specs.declared.name.ClassName.TheVariants.{Api}
 use Rattle.jc_words.specs.Values.{Unset, Word}
-use Rattle.jc_machine.specs.Going.{Here, moved, on_some, stuck}
+use Rattle.jc_machine.specs.Going.{StepContext, moved, on_some, stuck}
 use Rattle.jc_machine.specs.Idle.{idle}
 use Rattle.jc_machine.specs.Machine.{Limits, Machine, Stepped, Surroundings}
 use Rattle.jc_machine.specs.Runtime.{arithmetic_exception}
@@ -59,7 +59,7 @@ alone_method = record {
 -- ---- a step
 
 -- where a machine stands with an instruction of the code
-abbrev pub here_alone : Machine ⊤ → Instr → Here ⊤
+abbrev pub here_alone : Machine ⊤ → Instr → StepContext ⊤
 here_alone m instr = record {
   around = nothing_around;
   machine = m;
@@ -69,7 +69,7 @@ here_alone m instr = record {
 }
 
 -- one instruction: one on words acts as in any method, and there is no other
-abbrev pub act_alone : Here ⊤ → Operation → Stepped ⊤
+abbrev pub act_alone : StepContext ⊤ → Operation → Stepped ⊤
 act_alone h (operations.Word operation) = act_word h operation
 act_alone h (operations.Object operation) = stuck
 

@@ -25,7 +25,7 @@ use Rattle.jc_types.specs.declared.ty.Ty.{Ty}
 use Rattle.jc_types.specs.declared.ty.Ty.TheVariants as types
 use Rattle.jc_machine.specs.Arrays.{act_length, act_load, act_store_reference, act_store_word, is_array_of}
 use Rattle.jc_machine.specs.Arrays.{is_in_bounds, loads, stored_as}
-use Rattle.jc_machine.specs.Going.{Here, accessed, check, on_object, on_some, require}
+use Rattle.jc_machine.specs.Going.{StepContext, accessed, check, on_object, on_some, require}
 use Rattle.jc_machine.specs.Lookup.{class_of, component_class, is_array, is_byte, is_instance, is_of_class}
 use Rattle.jc_machine.specs.Lookup.{is_word, leads_to}
 use Rattle.jc_firewall.specs.declared.access.Access.TheVariants.{ArrayLength, LoadComponent, StoreComponent}
@@ -97,7 +97,7 @@ holds_references world c o h1 = grind (arith, world)
 
 module _ {C : Type 0} (s : Surroundings C) (ground : Ground s) (m : Machine C) (t : IsTyped s m) (d : DeclaredMethod)
     (next : ℕ) where
-  abbrev at : List TaggedValue → Here C
+  abbrev at : List TaggedValue → StepContext C
   at vs = here s ground m t d next vs
 
   abbrev shapes : List Shape

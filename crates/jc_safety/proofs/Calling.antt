@@ -47,7 +47,7 @@ use Rattle.jc_machine.specs.Reading.{Pointwise}
 use Rattle.jc_machine.specs.Calls.{act_call, act_interface, act_of_interface, act_special, act_static_call, act_virtual}
 use Rattle.jc_machine.specs.Calls.{found_for, has_interface, invokes, special_target, static_target, virtual_target}
 use Rattle.jc_machine.specs.Calls.{with_arguments, with_receiver}
-use Rattle.jc_machine.specs.Going.{Here, asking, check, judged, on_object, on_reference, on_some, require, wanting}
+use Rattle.jc_machine.specs.Going.{StepContext, asking, check, judged, on_object, on_reference, on_some, require, wanting}
 use Rattle.jc_machine.specs.Lookup.{are_of_types, body_at, class_of, instruction_at, is_of_class, leads_to}
 use Rattle.jc_machine.specs.Machine.{Machine, Stepped, Surroundings}
 use Rattle.jc_machine.specs.Runtime.{class_cast_exception}
@@ -177,7 +177,7 @@ module _ {C : Type 0} (s : Surroundings C) (ground : Ground s) (m : Machine C) (
   asked_count signature = grind (arith, mapped_length)
 
   module _ (d : DeclaredMethod) (next : ℕ) where
-    abbrev at : List TaggedValue → Here C
+    abbrev at : List TaggedValue → StepContext C
     at us = rows.here s ground m t d next us
 
     -- a call without an object

@@ -27,7 +27,7 @@ use Rattle.jc_store.specs.declared.kind.ObjectType.TheVariants.{ShortArray}
 use Rattle.jc_types.specs.State.{Types}
 use Rattle.jc_types.specs.declared.ty.Ty.{Ty}
 use Rattle.jc_types.specs.declared.ty.Ty.TheVariants as types
-use Rattle.jc_machine.specs.Going.{Here, gives, judged, on_object, on_reference, require, wanting}
+use Rattle.jc_machine.specs.Going.{StepContext, gives, judged, on_object, on_reference, require, wanting}
 use Rattle.jc_machine.specs.Lookup.{class_of, component_class, is_instance, is_of_class, leads_to}
 use Rattle.jc_machine.specs.Machine.{Machine, Stepped, Surroundings}
 use Rattle.jc_machine.specs.Objects.{Test, act_check_cast, act_instance_of, bit, is_array_of_words, on_test, tested}
@@ -50,7 +50,7 @@ use Rattle.jc_safety.proofs.Writing.{ref_case}
 
 module _ {C : Type 0} (s : Surroundings C) (ground : Ground s) (m : Machine C) (t : IsTyped s m) (d : DeclaredMethod)
     (next : ℕ) where
-  abbrev at : List TaggedValue → Here C
+  abbrev at : List TaggedValue → StepContext C
   at vs = rows.here s ground m t d next vs
 
   abbrev shapes : List Shape

@@ -19,7 +19,7 @@ use Rattle.jc_types.specs.State.{Types}
 use Rattle.jc_types.specs.declared.ty.Ty.{Ty}
 use Rattle.jc_machine.specs.Accepted.{linked_as}
 use Rattle.jc_machine.specs.Calls.{accepts, active_in, entered, enters, frame_of, has_room, previous_in, takes}
-use Rattle.jc_machine.specs.Going.{Here, check, moved, plain, throws}
+use Rattle.jc_machine.specs.Going.{StepContext, check, moved, plain, throws}
 use Rattle.jc_machine.specs.Lookup.{body_at, code_at, declared_at, instruction_at, may_begin_with}
 use Rattle.jc_machine.specs.Machine.{Frame, Machine, MethodPlace, Next, Stepped, Surroundings, UsedUp}
 use Rattle.jc_machine.specs.Natives.{IsThrown, KeepsObjects}
@@ -85,7 +85,7 @@ module _ {C : Type 0} (s : Surroundings C) (ground : Ground s) (m : Machine C) (
     abbrev pub still : List TaggedValue → Frame
     still vs = moved m.top m.top.pc m.top.locals vs
 
-    abbrev pub at : List TaggedValue → Here C
+    abbrev pub at : List TaggedValue → StepContext C
     at us = record { around = s; machine = now (still us) m.waiting; method = d; max_stack = most; next_pc = next }
 
     pub beside_now : (top : Frame) (waiting : List Frame) → IsTypedBeside s (now top waiting)

@@ -32,7 +32,7 @@ use Rattle.jc_types.specs.Ty.{type_of_declared}
 use Rattle.jc_machine.specs.Arrays.{stored_as}
 use Rattle.jc_machine.specs.Fields.{act_field, act_get_static, act_on_target, act_put_static, field_target, of_class}
 use Rattle.jc_machine.specs.Fields.{of_objects, put_static, static_at, stored_in_static, with_static}
-use Rattle.jc_machine.specs.Going.{Here, check, leaves_operands, on_some, on_top}
+use Rattle.jc_machine.specs.Going.{StepContext, check, leaves_operands, on_some, on_top}
 use Rattle.jc_machine.specs.Lookup.{fields_of, is_of_type, leads_to}
 use Rattle.jc_machine.specs.Machine.{Machine, Stepped, Surroundings}
 use Rattle.jc_machine.specs.Typed.{HaveTypes, HoldTypes, IsTyped, has_type}
@@ -67,7 +67,7 @@ ref_there world heap e n h1 = grind (arith, leads_up, any_object)
 
 module _ {C : Type 0} (s : Surroundings C) (ground : Ground s) (m : Machine C) (t : IsTyped s m) (d : DeclaredMethod)
     (next : ℕ) where
-  abbrev at : List TaggedValue → Here C
+  abbrev at : List TaggedValue → StepContext C
   at vs = rows.here s ground m t d next vs
 
   abbrev shapes : List Shape

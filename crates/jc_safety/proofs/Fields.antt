@@ -30,7 +30,7 @@ use Rattle.jc_types.specs.declared.ty.Ty.{Ty}
 use Rattle.jc_types.specs.declared.ty.Ty.TheVariants as types
 use Rattle.jc_machine.specs.Arrays.{loads, stored_as}
 use Rattle.jc_machine.specs.Fields.{InstanceField, gets, puts, putting}
-use Rattle.jc_machine.specs.Going.{Here, check, on_reference, on_reference_local, on_top}
+use Rattle.jc_machine.specs.Going.{StepContext, check, on_reference, on_reference_local, on_top}
 use Rattle.jc_machine.specs.Lookup.{fields_of, is_byte, is_kept_as, is_of_class, is_of_type, is_word, leads_to}
 use Rattle.jc_machine.specs.Machine.{Machine, Surroundings}
 use Rattle.jc_machine.specs.Typed.{CellsTyped, HaveTypes, HoldTypes, IsTyped, has_type, is_cell}
@@ -111,7 +111,7 @@ unformed below most b row s t fits a = grind arith
 
 module _ {C : Type 0} (s : Surroundings C) (ground : Ground s) (m : Machine C) (t : IsTyped s m) (d : DeclaredMethod)
     (next : ℕ) where
-  abbrev at : List TaggedValue → Here C
+  abbrev at : List TaggedValue → StepContext C
   at vs = rows.here s ground m t d next vs
 
   abbrev shapes : List Shape

@@ -14,7 +14,7 @@ use Rattle.jc_store.specs.Heap.{Heap}
 use Rattle.jc_types.specs.State.{Types, all_below}
 use Rattle.jc_types.specs.declared.ty.Ty.{Ty}
 use Rattle.jc_machine.specs.Accepted.{linked_as}
-use Rattle.jc_machine.specs.Going.{Here, branches, gives, goes_on, jumps, leaves_operands, moved}
+use Rattle.jc_machine.specs.Going.{StepContext, branches, gives, goes_on, jumps, leaves_operands, moved}
 use Rattle.jc_machine.specs.Machine.{Frame, Machine, StaticValue, Surroundings}
 use Rattle.jc_machine.specs.Natives.{IsThrown, KeepsObjects}
 use Rattle.jc_machine.specs.Typed.{HaveTypes, HeapTyped, HoldTypes, IsPlaced, IsTyped, IsTypedBeside}
@@ -144,7 +144,7 @@ module _ {C : Type 0} (s : Surroundings C) (ground : Ground s) where
 
     module _ (d : DeclaredMethod) (most next : ℕ) where
       -- the place, with these operands
-      abbrev pub spot : List TaggedValue → Here C
+      abbrev pub spot : List TaggedValue → StepContext C
       spot operands = record {
         around = s;
         machine = record {

@@ -6,7 +6,7 @@ use Rattle.jc_cap_desc.specs.Shape.{Shape}
 use Rattle.jc_code.specs.declared.object.Form.{Form}
 use Rattle.jc_code.specs.declared.object.Form.TheVariants as Forms
 use Rattle.jc_machine.specs.Arrays.{loaded_as, loads}
-use Rattle.jc_machine.specs.Going.{Here, gives}
+use Rattle.jc_machine.specs.Going.{StepContext, gives}
 use Rattle.jc_machine.specs.Lookup.{leads_to}
 use Rattle.jc_machine.specs.Machine.{Surroundings}
 use Rattle.jc_machine.specs.Typed.{IsOperand, has_type}
@@ -45,7 +45,7 @@ module _ (world : List Shape) (heap : Heap TaggedValue) where
   reference_loaded test u v h1 h2 = grind arith
 
 -- it is pushed then
-pub safe_loads : {C : Type 0} (s : Surroundings C) (h : Here C) (form : Form) (held : TaggedValue)
+pub safe_loads : {C : Type 0} (s : Surroundings C) (h : StepContext C) (form : Form) (held : TaggedValue)
     (us : List TaggedValue) (world : List Shape) (heap : Heap TaggedValue) (u : Ty)
     → (l : IsLoaded world heap form held u) → IsSafe s (gives h l.value us) → IsSafe s (loads h form held us)
 safe_loads s h form held us world heap u l safe = grind (arith, safe_some)

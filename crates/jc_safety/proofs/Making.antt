@@ -28,7 +28,7 @@ use Rattle.jc_store.specs.declared.kind.ObjectType.TheVariants.{BooleanArray, By
 use Rattle.jc_types.specs.State.{Types}
 use Rattle.jc_types.specs.declared.ty.Ty.{Ty}
 use Rattle.jc_types.specs.declared.ty.Ty.TheVariants as types
-use Rattle.jc_machine.specs.Going.{Here, check, gives, no_resource, on_word, throws_system}
+use Rattle.jc_machine.specs.Going.{StepContext, check, gives, no_resource, on_word, throws_system}
 use Rattle.jc_machine.specs.Lookup.{is_array, is_boolean_array, is_byte_array, is_short_array, leads_to}
 use Rattle.jc_machine.specs.Machine.{Machine, Surroundings}
 use Rattle.jc_machine.specs.Objects.{act_create, cells_of, creates, creates_array, has_space, made, word_array}
@@ -55,7 +55,7 @@ use Rattle.jc_safety.proofs.Writing.{made_typed, typed_at, written}
 
 module _ {C : Type 0} (s : Surroundings C) (ground : Ground s) (m : Machine C) (t : IsTyped s m) (d : DeclaredMethod)
     (next : ℕ) where
-  abbrev at : List TaggedValue → Here C
+  abbrev at : List TaggedValue → StepContext C
   at vs = rows.here s ground m t d next vs
 
   abbrev shapes : List Shape

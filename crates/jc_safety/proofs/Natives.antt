@@ -36,7 +36,7 @@ use Rattle.jc_types.specs.declared.ty.Ty.{Ty}
 use Rattle.jc_machine.specs.Calls.{callback_fits, called_as, calls_back, inner_native_ends, invokes, is_in_place_of}
 use Rattle.jc_machine.specs.Calls.{is_member_or_loaded, native_ends, native_gives, native_may_begin, native_type}
 use Rattle.jc_machine.specs.Calls.{on_native, type_of_member, virtual_member, with_given}
-use Rattle.jc_machine.specs.Going.{Here, leaves_operands, moved}
+use Rattle.jc_machine.specs.Going.{StepContext, leaves_operands, moved}
 use Rattle.jc_machine.specs.Lookup.{are_of_types, class_of, is_given, is_object_of, is_of_class}
 use Rattle.jc_machine.specs.Lookup.{is_of_type, may_begin_with}
 use Rattle.jc_machine.specs.Machine.{Callback, Calls, Gives, IsStuck, Machine, NativeAnswer, NativeCall}
@@ -277,7 +277,7 @@ module _ {C : Type 0} (s : Surroundings C) (ground : Ground s) (m : Machine C) (
       }
 
   module _ (d : DeclaredMethod) (next : ℕ) where
-    abbrev spot : (heap : Heap TaggedValue) (runtime : C) → Beside s ground m t heap runtime → List TaggedValue → Here C
+    abbrev spot : (heap : Heap TaggedValue) (runtime : C) → Beside s ground m t heap runtime → List TaggedValue → StepContext C
     spot heap runtime b us = entering.at s ground m t d next heap runtime b us
 
     module _ (heap : Heap TaggedValue) (runtime : C) (b : Beside s ground m t heap runtime) where

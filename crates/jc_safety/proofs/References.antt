@@ -19,7 +19,7 @@ use Rattle.jc_store.specs.declared.kind.ObjectType.{ObjectType}
 use Rattle.jc_types.specs.State.{Types}
 use Rattle.jc_types.specs.declared.ty.Ty.{Ty}
 use Rattle.jc_types.specs.declared.ty.Ty.TheVariants as types
-use Rattle.jc_machine.specs.Going.{Here, accessed, branches, check, gives, goes_on, on_reference, on_reference_local, throws}
+use Rattle.jc_machine.specs.Going.{StepContext, accessed, branches, check, gives, goes_on, on_reference, on_reference_local, throws}
 use Rattle.jc_machine.specs.Lookup.{is_throwable, leads_to}
 use Rattle.jc_machine.specs.Machine.{Machine, Surroundings}
 use Rattle.jc_machine.specs.Arrays.{is_there}
@@ -45,7 +45,7 @@ leads_written heap test v h1 = grind arith
 
 module _ {C : Type 0} (s : Surroundings C) (ground : Ground s) (m : Machine C) (t : IsTyped s m) (d : DeclaredMethod)
     (next : ℕ) where
-  abbrev at : List TaggedValue → Here C
+  abbrev at : List TaggedValue → StepContext C
   at vs = rows.here s ground m t d next vs
 
   abbrev shapes : List Shape

@@ -20,7 +20,7 @@ use Rattle.jc_store.specs.Heap.{Heap}
 use Rattle.jc_types.specs.State.{Types, all_below}
 use Rattle.jc_types.specs.Ty.{type_of_declared}
 use Rattle.jc_types.specs.declared.ty.Ty.{Ty}
-use Rattle.jc_machine.specs.Going.{Here, on_reference}
+use Rattle.jc_machine.specs.Going.{StepContext, on_reference}
 use Rattle.jc_machine.specs.Lookup.{declared_at, is_given, is_of_type}
 use Rattle.jc_machine.specs.Machine.{Frame, Machine, Surroundings}
 use Rattle.jc_machine.specs.Returns as returns
@@ -149,7 +149,7 @@ module _ {C : Type 0} (s : Surroundings C) (ground : Ground s) where
     behind_is = grind arith
 
   module _ (m : Machine C) (t : IsTyped s m) (d : DeclaredMethod) (next : ℕ) where
-    abbrev at : List TaggedValue → Here C
+    abbrev at : List TaggedValue → StepContext C
     at vs = rows.here s ground m t d next vs
 
     -- to the frames that wait

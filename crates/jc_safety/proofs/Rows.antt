@@ -23,7 +23,7 @@ use Rattle.jc_types.specs.State.{Types}
 use Rattle.jc_types.specs.declared.ty.Ty.{Ty}
 use Rattle.jc_machine.specs.Accepted.{linked_as}
 use Rattle.jc_machine.specs.Reading.{Pointwise}
-use Rattle.jc_machine.specs.Going.{Here, accessed, accessed_to_store, branches, gives, leaves_operands}
+use Rattle.jc_machine.specs.Going.{StepContext, accessed, accessed_to_store, branches, gives, leaves_operands}
 use Rattle.jc_machine.specs.Going.{on_target, throws, require, stored_in}
 use Rattle.jc_machine.specs.Lookup.{body_at, target_at}
 use Rattle.jc_machine.specs.Machine.{Machine, Stepped, Surroundings}
@@ -114,7 +114,7 @@ module _ {C : Type 0} (s : Surroundings C) (ground : Ground s) (m : Machine C) (
       resolved s.world m.top.method.number p.body p.loaded stands.known.resolved index target e
 
   module _ (d : DeclaredMethod) (next : ℕ) where
-    abbrev pub here : List TaggedValue → Here C
+    abbrev pub here : List TaggedValue → StepContext C
     here vs = spot s ground m t d most next vs
 
     pub safe_target : {A : Type 0} (us : List TaggedValue) (index : ℕ) (wanted : PoolTarget

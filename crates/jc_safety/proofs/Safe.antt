@@ -4,7 +4,7 @@ use Rattle.jc_firewall.specs.declared.access.Verdict.{Verdict}
 use Rattle.jc_names.specs.declared.owner.Owner.{Owner}
 use Rattle.jc_words.specs.Values.{TaggedValue}
 use Rattle.jc_store.specs.Heap.{Object}
-use Rattle.jc_machine.specs.Going.{Here, by_verdict, check, judged, on_some, require, touched}
+use Rattle.jc_machine.specs.Going.{StepContext, by_verdict, check, judged, on_some, require, touched}
 use Rattle.jc_machine.specs.Machine.{Asked, Ends, Machine, Next, Outcome, Stepped, Stuck, Surroundings, Throws, Touch}
 use Rattle.jc_machine.specs.Machine.{UsedUp}
 use Rattle.jc_machine.specs.Natives.{IsThrown}
@@ -41,17 +41,17 @@ module _ {C : Type 0} (s : Surroundings C) where
       → IsSafe s (on_some x go)
   safe_some {A} x a go e h = subst (λ (o : Option A). IsSafe s (on_some o go)) (sym e) h
 
-  pub safe_require : (h : Here C) (exception : ℕ) (b : Bool) (x : Stepped C) → MayUnwind s h.machine exception
+  pub safe_require : (h : StepContext C) (exception : ℕ) (b : Bool) (x : Stepped C) → MayUnwind s h.machine exception
       → (b ≡ true → IsSafe s x) → IsSafe s (require h exception b x)
   safe_require h exception b x h1 h2 = grind arith
 
-  safe_verdict : (h : Here C) (asked : Asked) (verdict : Verdict) (go : Option Owner → Stepped C)
+  safe_verdict : (h : StepContext C) (asked : Asked) (verdict : Verdict) (go : Option Owner → Stepped C)
       → MayUnwind s h.machine security_exception
       → ((switch : Option Owner) → IsSafe s (go switch)) → IsSafe s (by_verdict h asked verdict go)
   safe_verdict h asked verdict go h1 h2 = grind arith
 
   -- an access: it is denied, or the step goes on, whoever is active then
-  pub safe_judged : (h : Here C) (asked : Asked) (object : Object TaggedValue) (go : Option Owner → Stepped C)
+  pub safe_judged : (h : StepContext C) (asked : Asked) (object : Object TaggedValue) (go : Option Owner → Stepped C)
       → MayUnwind s h.machine security_exception
       → ((switch : Option Owner) → IsSafe s (go switch)) → IsSafe s (judged h asked object go)
   safe_judged h asked object go may each = grind (arith, safe_verdict)

@@ -27,7 +27,7 @@ use Rattle.jc_types.specs.declared.ty.Ty.{Ty}
 use Rattle.jc_types.specs.declared.ty.Ty.TheVariants as types
 use Rattle.jc_words.specs.Values.{Word}
 use Rattle.jc_names.specs.declared.name.ClassName.{ClassName}
-use Rattle.jc_machine.specs.Going.{Here}
+use Rattle.jc_machine.specs.Going.{StepContext}
 use Rattle.jc_machine.specs.Lookup.{code_at, declared_at, instruction_at}
 use Rattle.jc_machine.specs.Machine.{Machine, Outcome, Stepped, Surroundings}
 use Rattle.jc_machine.specs.Objects.{act_object}
@@ -64,7 +64,7 @@ unmapped P f (x ∷ xs) h = (h.0, unmapped P f xs h.1)
 
 module _ {C : Type 0} (s : Surroundings C) (ground : Ground s) (m : Machine C) (t : IsTyped s m) (d : DeclaredMethod)
     (next : ℕ) where
-  abbrev at : Here C
+  abbrev at : StepContext C
   at = rows.here s ground m t d next m.top.operands
 
   abbrev most : ℕ

@@ -30,7 +30,7 @@ use Rattle.jc_types.specs.declared.ty.Ty.TheVariants as types
 use Rattle.jc_machine.specs.Going.{StepContext, gives, judged, on_object, on_reference, require, wanting}
 use Rattle.jc_machine.specs.Lookup.{class_of, component_class, is_instance, is_of_class, leads_to}
 use Rattle.jc_machine.specs.Machine.{Machine, Stepped, Surroundings}
-use Rattle.jc_machine.specs.Objects.{Test, act_check_cast, act_instance_of, bit, is_array_of_words, on_test, tested}
+use Rattle.jc_machine.specs.Objects.{InstanceTest, act_check_cast, act_instance_of, bit, is_array_of_words, on_test, tested}
 use Rattle.jc_machine.specs.Runtime.{class_cast_exception}
 use Rattle.jc_machine.specs.Typed.{IsOperand, IsTyped, has_type}
 use Rattle.jc_words.specs.Values.{Null, Ref, TaggedValue, is_tagged_reference}
@@ -72,7 +72,7 @@ module _ {C : Type 0} (s : Surroundings C) (ground : Ground s) (m : Machine C) (
   set = setting s ground m t d next
 
   -- an object that passes is of the type, and null is
-  record Fits (test : Test) (u : Ty) : Type 0 where
+  record Fits (test : InstanceTest) (u : Ty) : Type 0 where
     passes : (n : ℕ) (o : heaps.Object TaggedValue) → object_at m.heap n ≡ Some o
         → test.passes o.kind.object_type ≡ true → has_type shapes m.heap (Ref n) u ≡ true
     null : has_type shapes m.heap Null u ≡ true
@@ -100,7 +100,7 @@ module _ {C : Type 0} (s : Surroundings C) (ground : Ground s) (m : Machine C) (
 
   -- the test that an instruction makes
   test_safe : (type : TestedType) (u : Ty) → tested_type set type ≡ Some u → (us : List TaggedValue)
-      → (go : Test → Stepped C) → ((test : Test) → Fits test u → IsSafe s (go test))
+      → (go : InstanceTest → Stepped C) → ((test : InstanceTest) → Fits test u → IsSafe s (go test))
       → IsSafe s (on_test (at us) type go)
   test_safe (Tested.Class index) u e us go each =
       let x = mapped_some s ground m t d next (λ (c : ClassName). types.Class (counted set.world c))
@@ -112,7 +112,7 @@ module _ {C : Type 0} (s : Surroundings C) (ground : Ground s) (m : Machine C) (
       let counts : is_class_below shapes (counted shapes x.0) (counted (rows.before s ground m t) x.0) ≡ true =
       subst (λ (k : ClassName). is_class_below shapes (counted shapes x.0) k ≡ true) named.counts
       (counted_reflexive s ground x.0) in
-      let test : Test = record { wanted = Some x.0; passes = is_instance shapes x.0 } in
+      let test : InstanceTest = record { wanted = Some x.0; passes = is_instance shapes x.0 } in
       rows.safe_target s ground m t d next us index class_target f.target x.0
       (λ c. go (record { wanted = Some c; passes = is_instance shapes c })) f.is f.gives
       (each test
@@ -125,7 +125,7 @@ module _ {C : Type 0} (s : Surroundings C) (ground : Ground s) (m : Machine C) (
       })))
   test_safe (Tested.WordArray kind) u e us go each =
       let same : checked.word_array kind ≡ u = cc in
-      let test : Test = record { wanted = None; passes = is_array_of_words kind } in
+      let test : InstanceTest = record { wanted = None; passes = is_array_of_words kind } in
       each test (subst (λ (v : Ty). Fits test v) same (words_fit kind))
   test_safe (Tested.ReferenceArray index) u e us go each =
       let x = mapped_some s ground m t d next (reference_array set.world) (class_of_entry set index) u e in
@@ -133,7 +133,7 @@ module _ {C : Type 0} (s : Surroundings C) (ground : Ground s) (m : Machine C) (
       let p = placed s ground m t in
       let named = named_class s.world m.top.method.number p.body (ground.packages m.top.method.number p.body p.loaded)
       index f.target x.0 f.is f.gives in
-      let test : Test = record {
+      let test : InstanceTest = record {
         wanted = None;
         passes = λ object. option_map_or (λ (e : ClassName). is_subtype shapes e x.0) (component_class object) false;
       } in

@@ -17,8 +17,6 @@ mod data;
 #[cfg(test)]
 mod desc;
 #[cfg(test)]
-mod faults;
-#[cfg(test)]
 mod head;
 #[cfg(test)]
 mod method;

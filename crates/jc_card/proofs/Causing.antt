@@ -30,6 +30,6 @@ module _ (k : CardWords) (c : CardState) (h : Holds k c) (number : ℕ) (at : Op
       let p = tagged k.machine.store.objects c.heap h.beside.heap number there.object there.is in
       let x = across k.machine.store.objects c.heap h.beside.heap number p.0 p.1 in
       let kind_is : kind ≡ (p.0).kind = kinds x.object x.there ∙ (x.reads).kind in
-      ap (λ (q : ObjectKind). Some (Threw q.object reason at)) kind_is
-      ∙ ap (λ (n : ℕ). Some (Threw ((p.0).kind).object n at)) (reasons p.0 p.1)
+      ap (λ (q : ObjectKind). Some (Threw q.object_type reason at)) kind_is
+      ∙ ap (λ (n : ℕ). Some (Threw ((p.0).kind).object_type n at)) (reasons p.0 p.1)
       ∙ ap cause (sym p.1)

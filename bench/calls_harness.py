@@ -14,7 +14,7 @@ OBJECTS = '''//! The runtime's own objects: its exceptions, in the order of thei
 use jc_api::ApiClass;
 use jc_program::Program;
 use jc_names::{ClassName, Owner};
-use jc_store::{Kind, Mark, ObjectType, Store};
+use jc_store::{Mark, ObjectKind, ObjectType, Store};
 
 const EXCEPTIONS: [ApiClass; 10] = [
     ApiClass::ArithmeticException,
@@ -35,8 +35,8 @@ pub(crate) fn make_exceptions(store: &mut Store, program: &Program) -> Option<()
         let name = ClassName::Api(class);
         let number = program.classes.number_of(name)?;
         let len = program.rows.row(number).cells as usize;
-        let kind = Kind {
-            object: ObjectType::Instance(name),
+        let kind = ObjectKind {
+            object_type: ObjectType::Instance(name),
             mark: Mark::TemporaryEntryPoint,
             clears: None,
         };

@@ -2,7 +2,7 @@
 //! deselect and process).
 
 ghost use Rattle.std.specs.Prelude.{◌≡◌, ◌≤◌, IfSome, length};
-ghost use Rattle.jc_card.specs.Accesses.{IsGuardedCommand};
+ghost use Rattle.jc_card.specs.Accesses.{IsApartCard, IsGuardedCommand, KeepsApart};
 ghost use Rattle.jc_card.specs.Card.{CardState};
 ghost use Rattle.jc_card.specs.Command.{buffer_of, buffer_size};
 ghost use Rattle.jc_card.specs.Commands.{apdu_command, ask, choose, dispatch, perform, process, receive};
@@ -12,7 +12,7 @@ ghost use Rattle.jc_card.specs.Parts.{write};
 ghost use Rattle.jc_card.specs.Reads.{Does, GivesNothing, Holds, ReadsResponse};
 ghost use Rattle.jc_machine.specs.Runtime.{apdu_buffer};
 
-use crate::accesses::commands_are_guarded;
+use crate::accesses::{commands_are_guarded, commands_stay_apart};
 use crate::answer::Answer;
 use crate::calls::AppletCall;
 use crate::card::Card;
@@ -142,8 +142,11 @@ impl Card {
         ensures done { Does self.old self.new (ReadsResponse result) (λ c. apdu_command c bytes.now) }
         ensures guarded { (c : CardState) → Holds self.old c
             → IfSome (apdu_command c bytes.now) (IsGuardedCommand (apdu_order c bytes.now) c) }
+        ensures apart { (c : CardState) → Holds self.old c → IsApartCard c
+            → IfSome (apdu_command c bytes.now) (λ l. KeepsApart (apdu_order c bytes.now) c l.touches l.card) }
     {
         commands_are_guarded();
+        commands_stay_apart();
         match Command::parse(bytes) {
             Some(command) => self.receive(&command),
             None => Answer::status_alone(WRONG_LENGTH),

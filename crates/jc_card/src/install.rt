@@ -2,7 +2,7 @@
 //! Applet installation parameters).
 
 ghost use Rattle.std.specs.Prelude.{◌≡◌, ◌<◌, ◌≤◌, suc, IfNone, IfSome, Some, length};
-ghost use Rattle.jc_card.specs.Accesses.{IsGuardedCommand};
+ghost use Rattle.jc_card.specs.Accesses.{IsApartCard, IsGuardedCommand, KeepsApart};
 ghost use Rattle.jc_card.specs.Card.{CardState, with_kept};
 ghost use Rattle.jc_card.specs.Install.{accepted, begin, call_install, failure_of, failure_status, install_as};
 ghost use Rattle.jc_card.specs.Install.{install_command, install_size, most_data, padded, parameters_of};
@@ -16,7 +16,7 @@ ghost use Rattle.jc_machine.specs.Runtime.{most_instances};
 ghost use Rattle.jc_names.specs.declared.name.MethodName.TheVariants.{Loaded};
 ghost use Rattle.jc_natives.specs.Kept.{after_install, with_install};
 
-use crate::accesses::commands_are_guarded;
+use crate::accesses::{commands_are_guarded, commands_stay_apart};
 use crate::card::Card;
 use crate::fault::{Failure, InstallFault};
 use crate::laws::aids_are_fit;
@@ -283,8 +283,12 @@ impl Card {
         ensures guarded { (c : CardState) → Holds self.old c
             → IfSome (install_command c applet.now instance.now incoming.now)
             (IsGuardedCommand (install_order c applet.now) c) }
+        ensures apart { (c : CardState) → Holds self.old c → IsApartCard c
+            → IfSome (install_command c applet.now instance.now incoming.now)
+            (λ l. KeepsApart (install_order c applet.now) c l.touches l.card) }
     {
         commands_are_guarded();
+        commands_stay_apart();
         let Some(place) = applet_of(&self.world, applet) else {
             return Err(InstallFault::UnknownApplet);
         };

@@ -2,14 +2,14 @@
 //! Transient Objects).
 
 ghost use Rattle.std.specs.Prelude.{IfSome};
-ghost use Rattle.jc_card.specs.Accesses.{AllCleared, IsGuardedCommand};
+ghost use Rattle.jc_card.specs.Accesses.{AllCleared, IsApartCard, IsGuardedCommand, KeepsApart};
 ghost use Rattle.jc_card.specs.Card.{CardState, with_selected};
 ghost use Rattle.jc_card.specs.Commands.{deselect, reset_command, unselect};
 ghost use Rattle.jc_card.specs.Order.{Resets};
 ghost use Rattle.jc_card.specs.Parts.{clear, gives};
 ghost use Rattle.jc_card.specs.Reads.{Does, GivesNothing, Holds};
 
-use crate::accesses::commands_are_guarded;
+use crate::accesses::{commands_are_guarded, commands_stay_apart};
 use crate::calls::AppletCall;
 use crate::card::Card;
 use jc_machine::Natives;
@@ -58,8 +58,11 @@ impl Card {
         ensures guarded { (c : CardState) → Holds self.old c → IfSome (reset_command c) (IsGuardedCommand Resets c) }
         ensures cleared { (c : CardState) → Holds self.old c
             → IfSome (reset_command c) (λ l. AllCleared c.heap l.card.heap) }
+        ensures apart { (c : CardState) → Holds self.old c → IsApartCard c
+            → IfSome (reset_command c) (λ l. KeepsApart Resets c l.touches l.card) }
     {
         commands_are_guarded();
+        commands_stay_apart();
         self.set_selected(None);
         self.clear(ClearingEvent::Reset, None);
         self.clear(ClearingEvent::Deselect, None);

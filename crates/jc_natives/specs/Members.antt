@@ -141,7 +141,8 @@ equals h = do
   one ← on_reference h 0
   other ← on_reference h 1
   if one == other then ends_with h (GivesWord 1)
-  else option_and_then (λ aids. if aids then have_same_bytes h one other else ends_with h (GivesWord 0)) (are_aids h)
+      else option_and_then (λ aids. if aids then have_same_bytes h one other else ends_with h (GivesWord 0))
+      (are_aids h)
 
 -- the reason of an exception is its first component
 abbrev pub sets_reason : Called → Option Work

@@ -126,7 +126,7 @@ module _ (images certificates : List ℕ → List ℕ → Type 0) where
 -- ---- a session on a new card
 
 module _ (images certificates : List ℕ → List ℕ → Type 0) (limits : Limits) (binding : Bound)
-    (lawful : AreLawful images certificates limits binding) (input before : List ℕ) (now : Option (List ℕ)) {A : Type 0}
+    (lawful : AreLawful limits binding) (input before : List ℕ) (now : Option (List ℕ)) {A : Type 0}
     (result : Result A CardFault)
     (told : (result ≡ Err cards.BadLimits) ↔ (are_limits limits ≡ false)) where
   simulated : (written : List ℕ) (end : ScriptEnd)

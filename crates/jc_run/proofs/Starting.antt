@@ -14,15 +14,15 @@ use Rattle.jc_run.specs.NeverStuck.{IsNeverStuck}
 use Rattle.jc_run.specs.End.{card_fault, end_of_fault}
 use Rattle.jc_run.specs.Performs.{HasRun, PlaysOn}
 use Rattle.jc_run.specs.Play.{BadLimits, NoMemory, ScriptEnd}
-use Rattle.jc_run.specs.Runs.{AreGuarded, IsSimulated, RunsTo}
+use Rattle.jc_run.specs.Runs.{AreGuarded, IsSimulated, RunsTo, anything}
 use Rattle.jc_run.specs.Runs.RunsTo.{no_card, played, unfit}
 
 -- what is known of all commands, and of a new card
-pub record AreLawful (images certificates : List ℕ → List ℕ → Type 0) (limits : Limits) (binding : Bound) : Type 0 where
-  pub accesses : AreGuarded images certificates
-  pub isolated : AreIsolated images certificates
+pub record AreLawful (limits : Limits) (binding : Bound) : Type 0 where
+  pub accesses : AreGuarded anything anything
+  pub isolated : AreIsolated anything anything
   pub apart : IsApartCard (new_card limits binding)
-  pub never_stuck : IsNeverStuck images certificates (new_card limits binding)
+  pub never_stuck : IsNeverStuck anything anything (new_card limits binding)
 
 -- where a card is made, or memory is out, its limits are such as it may have
 pub limits_fit : {A : Type 0} (fit : Bool) (result made : Result A CardFault)
@@ -31,7 +31,7 @@ pub limits_fit : {A : Type 0} (fit : Bool) (result made : Result A CardFault)
 limits_fit fit result made h1 h2 h3 = grind arith
 
 module _ (images certificates : List ℕ → List ℕ → Type 0) (failed_at : Asked → Type 0) (limits : Limits)
-    (binding : Bound) (lawful : AreLawful images certificates limits binding) (script before : List ℕ)
+    (binding : Bound) (lawful : AreLawful limits binding) (script before : List ℕ)
     (now : Option (List ℕ)) {A : Type 0} (result : Result A CardFault)
     (told : (result ≡ Err cards.BadLimits) ↔ (are_limits limits ≡ false)) where
   simulated : (written : List ℕ) (end : ScriptEnd)

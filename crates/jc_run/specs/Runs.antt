@@ -1,7 +1,7 @@
 -- The simulation theorem, of a whole script: which commands were done, what the defensive machine answers to them,
 -- which objects it accessed, and what changed by that (Java Card Runtime Environment Specification, Applet Isolation
 -- and Object Sharing).
-use Rattle.std.specs.Prelude.{◌≡◌, ℕ, true, false, List, [], ◌∷◌, ◌++◌, Option, Some, None, IfSome, map}
+use Rattle.std.specs.Prelude.{⊤, ◌≡◌, ℕ, true, false, List, [], ◌∷◌, ◌++◌, Option, Some, None, IfSome, map}
 use Rattle.jc_api.specs.Bound.{Bound}
 use Rattle.jc_card.specs.Accesses.{ChangesBy, IsApartCard, IsGuardedCommand, KeepsApart, LeavesObjects}
 use Rattle.jc_card.specs.Card.{CardState, with_steps}
@@ -47,6 +47,10 @@ IsKeptApart c Reset after = IfSome (reset_command c) (λ l. KeepsApart Resets c 
 IsKeptApart c Cells after = after ≡ c
 IsKeptApart c Objects after = after ≡ c
 IsKeptApart c (Steps steps) after = after ≡ with_steps c steps
+
+-- whatever is loaded: any bytes may be what a name stands for
+abbrev pub anything : List ℕ → List ℕ → Type 0
+anything name bytes = ⊤
 
 -- of each command on each card, and of each run from each card on. From a card on which the runtime's name is its own
 -- each command is kept apart, and each run leaves such a card
@@ -120,11 +124,12 @@ pub data RunsTo (images certificates : List ℕ → List ℕ → Type 0) (failed
 
 -- the theorem: the responses are those of the defensive machine on a new card; each access is one that the firewall
 -- allows, or is denied, throws and changes nothing; what a context keeps is isolated, on each card on which the
--- runtime's name is its own; the new card is one; and no list of commands is stuck there
+-- runtime's name is its own; the new card is one; and no list of commands is stuck there. Only the responses hang on
+-- what the source holds: the others are said of every list of commands, whatever is loaded
 pub record IsSimulated (images certificates : List ℕ → List ℕ → Type 0) (failed_at : Asked → Type 0) (limits : Limits)
     (binding : Bound) (script written : List ℕ) (end : ScriptEnd) : Type 0 where
   pub responses : RunsTo images certificates failed_at limits binding script written end
-  pub accesses : AreGuarded images certificates
-  pub isolated : AreIsolated images certificates
+  pub accesses : AreGuarded anything anything
+  pub isolated : AreIsolated anything anything
   pub apart : IsApartCard (new_card limits binding)
-  pub never_stuck : IsNeverStuck images certificates (new_card limits binding)
+  pub never_stuck : IsNeverStuck anything anything (new_card limits binding)

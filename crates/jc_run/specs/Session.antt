@@ -14,7 +14,7 @@ use Rattle.jc_run.specs.Play.{BadLimits, IsAnswered, IsPart, NoMemory, NotRead, 
 use Rattle.jc_run.specs.Play.{answer_line}
 use Rattle.jc_run.specs.CardRun.{IsCardRun}
 use Rattle.jc_run.specs.Isolation.{AreIsolated}
-use Rattle.jc_run.specs.Runs.{AreGuarded, answer_lines}
+use Rattle.jc_run.specs.Runs.{AreGuarded, answer_lines, anything}
 use Rattle.jc_script.specs.Script.{Apdu, Asks, Bad, Cells, Install, Load, Objects, Reset, ScriptCommand, ScriptLine}
 use Rattle.jc_script.specs.Script.{Skipped, Steps, lines_of, session_line}
 
@@ -80,14 +80,15 @@ pub data SessionRunsTo (images certificates : List ℕ → List ℕ → Type 0) 
 
 -- the theorem: the responses are those of the defensive machine on a new card, with the lines left out that were
 -- refused; each access is one that the firewall allows, or is denied, throws and changes nothing; what a context keeps
--- is isolated; on that card the runtime's name is its own; and no list of commands is stuck there
+-- is isolated; on that card the runtime's name is its own; and no list of commands is stuck there. Only the responses
+-- hang on what the source holds
 pub record IsSessionSimulated (images certificates : List ℕ → List ℕ → Type 0) (limits : Limits) (binding : Bound)
     (input written : List ℕ) (end : ScriptEnd) : Type 0 where
   pub responses : SessionRunsTo images certificates limits binding input written end
-  pub accesses : AreGuarded images certificates
-  pub isolated : AreIsolated images certificates
+  pub accesses : AreGuarded anything anything
+  pub isolated : AreIsolated anything anything
   pub apart : IsApartCard (new_card limits binding)
-  pub never_stuck : IsNeverStuck images certificates (new_card limits binding)
+  pub never_stuck : IsNeverStuck anything anything (new_card limits binding)
 
 -- what was written behind what was there, and how it ended, is what the session comes to on a new card: the theorem
 -- holds of it

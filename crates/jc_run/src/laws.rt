@@ -9,24 +9,22 @@ ghost use Rattle.jc_card.specs.New.{new_card};
 ghost use Rattle.jc_machine.specs.declared.limits.Limits.{Limits};
 ghost use Rattle.jc_run.specs.Isolation.{AreIsolated};
 ghost use Rattle.jc_run.specs.NeverStuck.{IsNeverStuck};
-ghost use Rattle.jc_run.specs.Runs.{AreGuarded};
+ghost use Rattle.jc_run.specs.Runs.{AreGuarded, anything};
 
 use jc_card::{
     accesses_add_up, commands_are_answered, commands_are_guarded, commands_are_never_stuck,
     commands_keep_contents, commands_see_no_contents, commands_stay_apart,
 };
 use jc_natives::members_keep_what_is_kept;
-use jc_source::PackageSource;
 
-/// The accesses of each command on each card are guarded, what a context keeps is isolated, and each run leaves a card
-/// apart that was; a new card is one, and no list of commands is stuck there. What a source holds says what loads come
-/// to. It does nothing.
-pub(crate) fn commands_are_lawful<S: PackageSource>(source: &S)
-    ensures guarded { AreGuarded (S.holds_image source.now) (S.holds_certificate source.now) }
-    ensures isolated { AreIsolated (S.holds_image source.now) (S.holds_certificate source.now) }
+/// Whatever is loaded, the accesses of each command on each card are guarded, what a context keeps is isolated, and each
+/// run leaves a card apart that was; a new card is one, and no list of commands is stuck there. It does nothing.
+pub(crate) fn commands_are_lawful()
+    ensures guarded { AreGuarded anything anything }
+    ensures isolated { AreIsolated anything anything }
     ensures apart { (limits : Limits) (binding : Bound) → HasNoClash binding → IsApartCard (new_card limits binding) }
     ensures never_stuck { (limits : Limits) (binding : Bound) → limits.cells < 65536 → HasNoClash binding
-        → IsNeverStuck (S.holds_image source.now) (S.holds_certificate source.now) (new_card limits binding) }
+        → IsNeverStuck anything anything (new_card limits binding) }
 {
     commands_are_guarded();
     commands_stay_apart();

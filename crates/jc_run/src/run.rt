@@ -252,7 +252,7 @@ pub fn run_script<R: Read, W: Write, S: PackageSource, T: Teller<S>>(
     ensures same_images { HoldSame (S.holds_image source.old) (S.holds_image source.new) }
     ensures same_certificates { HoldSame (S.holds_certificate source.old) (S.holds_certificate source.new) }
 {
-    commands_are_lawful(&*source);
+    commands_are_lawful();
     binding.has_no_clash();
     let mut card = Card::new(alloc, limits, binding)?;
     play(alloc, reader, writer, source, &mut card, teller)

@@ -5,7 +5,7 @@ use Rattle.jc_run.proofs.Running.{all_guarded}
 use Rattle.jc_run.proofs.laws.commands_are_lawful.Goals as goal
 
 pub returns-clause-guarded : goal.returns-clause-guarded
-returns-clause-guarded g c = all_guarded (record {
+returns-clause-guarded c = all_guarded (record {
   apdu = c.commands_are_guarded.ensures.apdu;
   install = c.commands_are_guarded.ensures.install;
   reset = c.commands_are_guarded.ensures.reset;
@@ -19,7 +19,7 @@ returns-clause-guarded g c = all_guarded (record {
 }) _ _
 
 pub returns-clause-isolated : goal.returns-clause-isolated
-returns-clause-isolated g c = all_isolated (record {
+returns-clause-isolated c = all_isolated (record {
   apdu = c.commands_see_no_contents.ensures.apdu;
   install = c.commands_see_no_contents.ensures.install;
   reset = c.commands_see_no_contents.ensures.reset;
@@ -31,10 +31,10 @@ returns-clause-isolated g c = all_isolated (record {
     install = c.commands_keep_contents.ensures.install;
     reset = c.commands_keep_contents.ensures.reset;
   };
-}) _ _ (returns-clause-guarded g c)
+}) _ _ (returns-clause-guarded c)
 
 pub returns-clause-never_stuck : goal.returns-clause-never_stuck
-returns-clause-never_stuck g c = λ limits binding few clear commands fit.
+returns-clause-never_stuck c = λ limits binding few clear commands fit.
     never_stuck (record {
       apdu = c.commands_are_never_stuck.ensures.apdu;
       install = c.commands_are_never_stuck.ensures.install;

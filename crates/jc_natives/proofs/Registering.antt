@@ -44,8 +44,8 @@ same_installing one other e = grind (arith, bytes_eq-Decides)
 same_from : (one other : Option Installing) → one ≡ other → is_same_installing one other ≡ true
 same_from one other e = grind (arith, bytes_eq-Decides)
 
-pub same_owner : (a b : Owner) → is_same_owner a b ≡ true → a ≡ b
-same_owner a b e = grind (arith, and_parts, eqb-true)
+owners_are_one : (a b : Owner) → is_same_owner a b ≡ true → a ≡ b
+owners_are_one a b e = grind (arith, and_parts, eqb-true)
 
 owner_itself : (a b : Owner) → a ≡ b → is_same_owner a b ≡ true
 owner_itself a b e = grind (arith, eq-eqb)
@@ -103,7 +103,7 @@ module _ (before after : Kept) where
           as_they_were (is ∙ append-nil before.instances) (same_installing after.installing o e ∙ sym was)
       by_rest (i ∷ []) is None was e = absurd (true≢false (sym e))
       by_rest (i ∷ []) is (Some j) was e =
-          one_more j i was (grind arith) (grind (arith, same_owner)) is (grind (arith, same_installing))
+          one_more j i was (grind arith) (grind (arith, owners_are_one)) is (grind (arith, same_installing))
       by_rest (i ∷ j ∷ rest) is o was e = absurd (true≢false (sym e))
 
   by_followers : (rest : List Instance) → after.instances ≡ before.instances ++ rest

@@ -24,7 +24,6 @@ use Rattle.jc_natives.proofs.Changed.{either_is}
 use Rattle.jc_natives.proofs.Spared.{all_throw_own, throws_own}
 use Rattle.jc_natives.specs.Cells.{Write, extended, has_room, is_count, written}
 use Rattle.jc_natives.specs.Checks.{Check, Passed, Refused, TestEnd, Unfit, Uses, are_aids, tested}
-use Rattle.jc_natives.proofs.Registering.{same_owner}
 use Rattle.jc_natives.specs.Kept.{Kept, aid_object, expected_of, has_aid_length, instance_of}
 use Rattle.jc_natives.specs.Kept.{instance_with, is_fresh, is_incoming, is_length_set, is_outgoing, is_same_owner}
 use Rattle.jc_natives.specs.Kept.{most_sent, now_registered, with_announced, with_instance, with_sent, with_state}

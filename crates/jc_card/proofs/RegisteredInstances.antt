@@ -61,7 +61,7 @@ keeps_then c (Some l) next h f =
 kept_by : (c after : CardState) → c.kept.installing ≡ None → MayRegister c.kept after.kept → KeepsRegistered c after
 kept_by c after none (as_they_were instances installing) =
     record { instances = instances; installing = installing ∙ none }
-kept_by c after none (one_more installing instance was waited number instances is) =
+kept_by c after none (one_more installing instance was waited same instances is) =
     absurd (none-some installing (sym none ∙ was))
 
 -- the same of a card that differs elsewhere
@@ -252,10 +252,11 @@ module _ (c : CardState) where
     settled_so : MayRegister call.before.kept k → Settled call.called.value
     settled_so (as_they_were instances installing) =
         by_same call.called.value refl (instances ∙ call.instances) (ap registered_by (installing ∙ call.installing))
-    settled_so (one_more installing instance was waited number instances is) =
+    settled_so (one_more installing instance was waited same instances is) =
         by_more instance (instances ∙ ap (λ (xs : List Instance). xs ++ instance ∷ []) call.instances)
         (ap registered_by is) call.called.value refl
-        (number ∙ ap (λ (i : Installing). i.owner.instance) (same_Some installing _ (sym was ∙ call.installing)))
+        (ap (λ (o : Owner). o.instance) same
+        ∙ ap (λ (i : Installing). i.owner.instance) (same_Some installing _ (sym was ∙ call.installing)))
 
   module _ (keep : KeepInstances) where
     method_registers : (b : CardState) (place : AppletPlace) (owner : Owner) (size : ℕ)

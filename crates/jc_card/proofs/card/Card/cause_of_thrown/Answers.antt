@@ -11,5 +11,5 @@ pub returns : goal.returns
 returns c card holds =
     let k : CardWords = the_view c.self.inside in
     let h = subst (λ (x : CardWords). Holds x card) (sym c.self.view_is) holds in
-    its_cause k card h c.args.object c.args.at (c.is_there.ensures.yes c.if-not-is_there.false) c.class_of.result
+    its_cause k card h c.args.object c.args.at (c.is_there.ensures.yes c.if-not-is_there.false) c.kind_of.result
     c.kind_of.ensures c.reason_of.result (λ thrown found. c.reason_of.ensures card thrown holds found)

@@ -24,8 +24,8 @@ use Rattle.jc_words.specs.Values.{TaggedValue, Word}
 
 -- the frame goes on with values of the types behind the operation: at the next instruction if it falls through, or
 -- where one of its offsets leads; it throws the arithmetic exception; or it returns a word, where its method gives one
-pub data LeavesTyped {C : Type 0} (world : List Shape) (heap : Heap TaggedValue) (h : StepContext C) (returned : Option Ty)
-    (operation : WordOperation) (after : Types) : Stepped C → Type 0 where
+pub data LeavesTyped {C : Type 0} (world : List Shape) (heap : Heap TaggedValue) (h : StepContext C)
+    (returned : Option Ty) (operation : WordOperation) (after : Types) : Stepped C → Type 0 where
   going : (locals operands : List TaggedValue) → falls_of (OnWords operation) ≡ true
       → HaveTypes world heap locals after.locals → HoldTypes world heap operands after.operands
       → LeavesTyped world heap h returned operation after (goes_on h locals operands)

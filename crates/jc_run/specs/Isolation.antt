@@ -1,6 +1,6 @@
 -- Isolation. What the applets of a context keep in their own objects has no influence on a run as long as none of its
--- steps runs in that context: on no access, no answer and no other object. Meanwhile these objects stay as they are, but
--- for transient arrays (Java Card Runtime Environment Specification, Applet Isolation and Object Sharing). That a
+-- steps runs in that context: on no access, no answer and no other object. Meanwhile these objects stay as they are,
+-- but for transient arrays (Java Card Runtime Environment Specification, Applet Isolation and Object Sharing). That a
 -- context's code runs only by a call is said of each step (jc_machine Owning) and of each part of a command (jc_card
 -- Order).
 use Rattle.std.specs.Prelude.{◌≡◌, ℕ, true, List, None}
@@ -32,8 +32,8 @@ pub record RunsAlike (images certificates : List ℕ → List ℕ → Type 0) (c
 -- of each context, and of each run none of whose steps runs in it, from a card on which the runtime's name is its own:
 -- on each card that differs in components of the context's plain objects alone it runs alike; and behind it those of
 -- these objects that aren't transient arrays hold what they held. Native members change of what the runtime keeps, and
--- return of AIDs, what is theirs to. An answer holds what this command's call of process sent. Who is registered changes
--- by installs that succeed alone, and between commands none is being installed
+-- return of AIDs, what is theirs to. An answer holds what this command's call of process sent. Who is registered
+-- changes by installs that succeed alone, and between commands none is being installed
 pub record AreIsolated (images certificates : List ℕ → List ℕ → Type 0) : Type 0 where
   pub unseen : (context : ℕ) (commands : List ScriptCommand) (c : CardState) (answers : List Answered)
       (touches : List Touch) (ran : List ℕ) (after : CardState) → IsApartCard c

@@ -17,8 +17,8 @@ use jc_card::{
 };
 use jc_natives::members_keep_what_is_kept;
 
-/// Whatever is loaded, the accesses of each command on each card are guarded, what a context keeps is isolated, and each
-/// run leaves a card apart that was; a new card is one, and no list of commands is stuck there. It does nothing.
+/// Whatever is loaded, the accesses of each command on each card are guarded, what a context keeps is isolated, and
+/// each run leaves a card apart that was; a new card is one, and no list of commands is stuck there. It does nothing.
 pub(crate) fn commands_are_lawful()
     ensures guarded { AreGuarded anything anything }
     ensures isolated { AreIsolated anything anything }

@@ -5,4 +5,5 @@ mod Points
 mod Operands
 mod Turned
 mod Joining
+mod Ranging
 pub mod Knowing

@@ -7,3 +7,4 @@ pub mod PrivateJoin
 pub mod PrivateLeast
 pub mod PrivateHeight
 pub mod PrivateStates
+pub mod PrivateRanges

@@ -8,6 +8,7 @@ mod join;
 mod known;
 mod lattice;
 mod order;
+mod ranges;
 mod state;
 mod ty;
 
@@ -16,5 +17,6 @@ pub use classes::{ClassOrder, NoClasses};
 pub use known::known_laws;
 pub use lattice::{Lattice, order_laws};
 pub use order::is_below;
+pub use ranges::{LocalRange, are_below_within, differing};
 pub use state::State;
 pub use ty::Ty;

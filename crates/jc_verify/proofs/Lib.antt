@@ -25,5 +25,6 @@ mod Refusing
 mod Bearing
 mod Denying
 mod Taking
+mod Seeing
 mod Certified
 mod Certifying

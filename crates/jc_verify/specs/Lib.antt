@@ -8,6 +8,7 @@ pub mod PrivateCarrier
 pub mod PrivateStop
 pub mod PrivateTold
 pub mod PrivateWork
+pub mod PrivateSeen
 pub mod PrivateSettled
 pub mod PrivateStated
 pub mod PrivateNames

@@ -1,12 +1,15 @@
 //! Following control flow through a method.
 
-ghost use Rattle.std.specs.Prelude.{◌≡◌, ◌<◌, ℤ, Some, Ok, length, Contains, slice_get, IfOk, IfErr, IfNone, IfSome};
+ghost use Rattle.std.specs.Prelude.{◌≡◌, ◌<◌, ◌≤◌, ℤ, true, Some, Ok, length, Contains, slice_get};
+ghost use Rattle.std.specs.Prelude.{IfOk, IfErr, IfNone, IfSome};
 ghost use Rattle.std.specs.List.{AllByRecursion};
 ghost use Rattle.jc_code.specs.Targets.{targets_of};
 ghost use Rattle.jc_types.specs.Changes.{Became};
+ghost use Rattle.jc_types.specs.PrivateRanges.{AgreeOutside};
 ghost use Rattle.jc_check.specs.Method.{caught_types};
 ghost use Rattle.jc_check.specs.Package.{package_rules};
 ghost use Rattle.jc_verify.specs.PrivateFlow.{HasRoom, number_at, placed};
+ghost use Rattle.jc_verify.specs.PrivateSeen.{HasSeen, HaveSeen, StillHolds};
 ghost use Rattle.jc_verify.specs.PrivateStop.{fault_at, stop_of};
 ghost use Rattle.jc_verify.specs.PrivateTold.{IsUncaught, IsUncaughtAt, IsUnled};
 ghost use Rattle.jc_verify.specs.PrivateWork.{Bears, Branches, BranchesAll, ClosedFrom, Falls, FlowsIn, FlowsInto};
@@ -15,6 +18,7 @@ ghost use Rattle.jc_verify.specs.PrivateWork.{IsAtWork, IsBranchsWay, IsDecodedA
 ghost use Rattle.jc_verify.specs.PrivateWork.{LeadsInto, LeadsTo, MeetsHeld, MeetsHeldBy, Refuses, StandsAt};
 
 use crate::place::{NotTaken, Place, take_in};
+use crate::seen::Seen;
 use crate::stop::Stop;
 use jc_base::Reason;
 use jc_check::{Handler, Method, WordFault};
@@ -22,7 +26,7 @@ use jc_code::{Instr, Targets, decode, listing_laws};
 use jc_effects::{Setting, transfer_in};
 use jc_link::Linked;
 use jc_names::ClassName;
-use jc_types::{State, Ty};
+use jc_types::{LocalRange, State, Ty, are_below_within};
 use std::alloc::Global;
 
 /// What is told of an instruction.
@@ -128,12 +132,38 @@ fn catch_at(
     Ok(())
 }
 
+/// Whether the place where a handler goes on holds what lies above these locals, if it held what lies above others that
+/// agree with them outside of a range.
+fn still_holds(
+    flow: &Flow,
+    places: &[Place<State>],
+    goes_on: u16,
+    range: LocalRange,
+    locals: &[Ty],
+) -> bool
+    requires work { IsAtWork flow.now places.now }
+    requires ordered { range.first ≤ range.behind }
+    requires within { range.behind ≤ length locals.now }
+    ensures { result ≡ true → StillHolds flow.now places.now goes_on range locals.now }
+{
+    let Some(number) = number_at(flow.numbers, usize::from(goes_on)) else {
+        return false;
+    };
+    let linked = flow.linked;
+    match &places[usize::from(number)].held {
+        Some(held) => are_below_within(locals, held.locals(), range, linked.table()),
+        None => false,
+    }
+}
+
 /// A handler at an instruction: where it covers it, the state before it flows in where the handler goes on, with the
-/// class that it catches.
+/// class that it catches. Of locals that it has taken in before only those in the range are looked at.
 fn handle(
     flow: &Flow,
     places: &mut [Place<State>],
     caught: &mut State,
+    seen: &Seen,
+    range: LocalRange,
     state: &State,
     pc: u16,
     handler: &Handler,
@@ -141,6 +171,11 @@ fn handle(
     requires work { IsAtWork flow.now places.old }
     requires way { IsHandlersWay flow.now pc state.now.types handler.now }
     requires room { HaveRoom flow.now caught.old state.now }
+    requires seen { HasSeen flow.now places.old seen.now handler.now }
+    requires ordered { range.first ≤ range.behind }
+    requires within { range.behind ≤ length state.now.types.locals }
+    requires agree { length seen.now.locals.items ≡ length state.now.types.locals
+        → AgreeOutside range seen.now.locals.items state.now.types.locals }
     ensures caught { HasRoom flow.now.method.now caught.new }
     ensures taken { IfOk result (λ u.
         HasTakenIn flow.now (Handles flow.now pc state.now.types handler.now) places.old places.new) }
@@ -150,6 +185,11 @@ fn handle(
     if !handler.covers(pc) {
         return Ok(());
     }
+    if seen.was_covered(handler)
+        && still_holds(flow, places, handler.goes_on, range, state.locals())
+    {
+        return Ok(());
+    }
     match handler.caught {
         Some(class) => catch_at(flow, places, caught, state, handler.goes_on, class),
         None => Err(Stop::Refused(Reason::CertMismatch)),
@@ -157,16 +197,18 @@ fn handle(
 }
 
 /// Each handler in turn.
-fn handle_all(
+fn handle_each(
     flow: &Flow,
     places: &mut [Place<State>],
     caught: &mut State,
+    seen: &Seen,
     state: &State,
     pc: u16,
 ) -> Result<(), Stop>
     requires work { IsAtWork flow.now places.old }
     requires ways { AllByRecursion (IsHandlersWay flow.now pc state.now.types) flow.now.method.now.handlers }
     requires room { HaveRoom flow.now caught.old state.now }
+    requires seen { HaveSeen flow.now places.old seen.now }
     ensures caught { HasRoom flow.now.method.now caught.new }
     ensures taken { IfOk result (λ u.
         HasTakenIn flow.now (HandlesAll flow.now pc state.now.types) places.old places.new) }
@@ -175,9 +217,48 @@ fn handle_all(
         state.now.types) places.old) }
 {
     let handlers = flow.method.handlers();
+    let range = seen.changed(state.locals());
     for index in 0..handlers.len() {
-        handle(flow, places, caught, state, pc, &handlers[index])?;
+        handle(
+            flow,
+            places,
+            caught,
+            seen,
+            range,
+            state,
+            pc,
+            &handlers[index],
+        )?;
     }
+    Ok(())
+}
+
+/// All handlers, which have then seen these locals.
+fn handle_all(
+    flow: &Flow,
+    places: &mut [Place<State>],
+    caught: &mut State,
+    seen: &mut Seen,
+    state: &State,
+    pc: u16,
+) -> Result<(), Stop>
+    requires work { IsAtWork flow.now places.old }
+    requires ways { AllByRecursion (IsHandlersWay flow.now pc state.now.types) flow.now.method.now.handlers }
+    requires room { HaveRoom flow.now caught.old state.now }
+    requires seen { HaveSeen flow.now places.old seen.old }
+    ensures caught { HasRoom flow.now.method.now caught.new }
+    ensures taken { IfOk result (λ u.
+        HasTakenIn flow.now (HandlesAll flow.now pc state.now.types) places.old places.new) }
+    ensures seen { IfOk result (λ u. HaveSeen flow.now places.new seen.new) }
+    ensures refused { IfErr result (Refuses flow.now (HandlesAll flow.now pc state.now.types)
+        (IsUncaught flow.now.linked.now flow.now.method.now (Contains flow.now.method.now.handlers) pc
+        state.now.types) places.old) }
+{
+    if flow.method.handlers().is_empty() {
+        return Ok(());
+    }
+    handle_each(flow, places, caught, seen, state, pc)?;
+    seen.note(pc, state.locals())?;
     Ok(())
 }
 
@@ -251,6 +332,7 @@ fn visit(
     flow: &Flow,
     places: &mut [Place<State>],
     caught: &mut State,
+    seen: &mut Seen,
     state: &mut State,
     pc: u16,
     instr: &Instr,
@@ -258,13 +340,15 @@ fn visit(
     requires work { IsAtWork flow.now places.old }
     requires stands { StandsAt flow.now pc state.old.types instr.now }
     requires room { HaveRoom flow.now caught.old state.old }
+    requires seen { HaveSeen flow.now places.old seen.old }
     ensures visited { IfOk result (λ on.
         HasVisited flow.now on (placed pc instr.now) state.old.types state.new.types places.old places.new) }
     ensures room { IfOk result (λ on. HaveRoom flow.now caught.new state.new) }
+    ensures seen { IfOk result (λ on. HaveSeen flow.now places.new seen.new) }
     ensures refused { IfErr result
         (Refuses flow.now (Bears flow.now pc state.old.types) (IsToldAt flow.now pc) places.old) }
 {
-    handle_all(flow, places, caught, state, pc)?;
+    handle_all(flow, places, caught, seen, state, pc)?;
     take_effect(flow, state, instr)?;
     branch_all(flow, places, state, pc, instr)?;
     if instr.falls_through() {
@@ -304,13 +388,14 @@ pub(crate) fn follow(
     ensures refused { IfErr result (IsDenial flow.now (Bears flow.now start state.old.types) places.old) }
 {
     listing_laws();
+    let mut seen = Seen::nothing(flow.alloc);
     let mut pc = start;
     loop {
         let instr = match instr_at(flow, usize::from(pc)) {
             Some(instr) => instr,
             None => return Err(told_at(pc, Stop::Refused(Reason::NoTarget))),
         };
-        match visit(flow, places, caught, state, pc, &instr) {
+        match visit(flow, places, caught, &mut seen, state, pc, &instr) {
             Ok(true) => pc = instr.next_pc as u16,
             Ok(false) => return Ok(()),
             Err(stop) => return Err(told_at(pc, stop)),

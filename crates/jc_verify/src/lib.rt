@@ -10,6 +10,7 @@ mod numbering;
 mod package;
 mod pc_set;
 mod place;
+mod seen;
 mod settle;
 mod spelling;
 mod stop;

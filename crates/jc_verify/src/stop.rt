@@ -3,10 +3,11 @@
 ghost use Rattle.std.specs.Prelude.{◌≡◌};
 ghost use Rattle.jc_base.specs.declared.reason.Reason.TheVariants.{CertMismatch};
 ghost use Rattle.jc_verify.specs.PrivateStop.{stop_of};
-ghost use Rattle.jc_verify.specs.declared.stop.Stop.TheVariants.{Refused};
+ghost use Rattle.jc_verify.specs.declared.stop.Stop.TheVariants.{Memory, Refused};
 
 use crate::place::NotTaken;
 use jc_base::Reason;
+use std::alloc::AllocError;
 
 /// Why control flow isn't followed further.
 #[derive(Clone, Copy, Drop)]
@@ -33,5 +34,13 @@ impl From<NotTaken> for Stop {
             NotTaken::Unlike => Stop::Refused(Reason::CertMismatch),
             NotTaken::Memory => Stop::Memory,
         }
+    }
+}
+
+impl From<AllocError> for Stop {
+    ghost from_gives = { λ _ e. e ≡ Memory };
+
+    fn from(_e: AllocError) -> Stop {
+        Stop::Memory
     }
 }

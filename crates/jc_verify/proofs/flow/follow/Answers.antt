@@ -1,5 +1,6 @@
 use Rattle.jc_verify.proofs.Denying.{denial_of, denies_on}
 use Rattle.jc_verify.proofs.Reaching.{decoded_there, flows_within}
+use Rattle.jc_verify.proofs.Seeing.{nothing_seen}
 use Rattle.jc_verify.proofs.Taking.{follow_end, follow_on, taken_none}
 use Rattle.jc_verify.proofs.flow.follow.Goals as goal
 
@@ -9,6 +10,7 @@ loop-instr-init c = record {
   bears = λ typing bears. bears;
   next = record { flows = c.requires.flows; within = flows_within c.requires.work.sound c.args.start c.args.state.now.types c.requires.flows };
   room = c.requires.room;
+  seen = nothing_seen c.args.flow.now c.nothing-seen.result c.nothing-seen.ensures;
 }
 
 pub visit-requires-clause-stands : goal.visit-requires-clause-stands
@@ -27,6 +29,7 @@ loop-instr-preserved c =
       bears = λ typing bears. visited.bears on typing (c.loop-instr.invariant.bears typing bears);
       next = visited.next on;
       room = c.in-Ok-true.ensures.room;
+      seen = c.in-Ok-true.ensures.seen;
     }
 
 pub returns-in-Ok-false-clause-taken : goal.returns-in-Ok-false-clause-taken

@@ -1,5 +1,6 @@
 use Rattle.std.proofs.Common.{◌-◌, length}
 use Rattle.jc_check.specs.Typing.{Typing}
+use Rattle.jc_verify.specs.PrivateSeen.{HaveSeen}
 use Rattle.jc_verify.specs.PrivateWork.{Bears, ClosedFrom, GoesOn, HasTaken, HaveRoom}
 use Rattle.jc_verify.proofs.flow.follow.Given as goal
 
@@ -9,6 +10,7 @@ invariant-loop-instr l = record {
   bears : (typing : Typing) → Bears l.flow l.start l.fn.state.types typing → Bears l.flow l.pc l.state.types typing;
   next : GoesOn l.flow l.pc l.state.types;
   room : HaveRoom l.flow l.caught l.state;
+  seen : HaveSeen l.flow l.places l.seen;
 }
 
 abbrev pub decreases-loop-instr : goal.decreases-loop-instr

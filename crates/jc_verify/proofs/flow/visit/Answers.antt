@@ -3,6 +3,7 @@ use Rattle.std.proofs.lemmas.Result.{err_from_is_err_and}
 use Rattle.jc_verify.proofs.Denying.{refused_for, refuses_on}
 use Rattle.jc_verify.proofs.Lying.{goes_with, handled_there, has_effect}
 use Rattle.jc_verify.proofs.Reaching.{branches_ways, falls_reaches, handlers_ways, told_effect, told_fallen, told_uncaught, told_unled}
+use Rattle.jc_verify.proofs.Seeing.{seen_on}
 use Rattle.jc_verify.proofs.Taking.{under_visited, visited_ends, visited_on}
 use Rattle.jc_verify.proofs.Visiting.{if_err, if_ok}
 use Rattle.jc_verify.proofs.flow.visit.Goals as goal
@@ -26,6 +27,18 @@ returns-then-falls_through-clause-visited c =
 pub returns-else-falls_through-clause-visited : goal.returns-else-falls_through-clause-visited
 returns-else-falls_through-clause-visited c =
     visited_ends c.requires.stands c.in_ok-take_effect.ensures.became c.in_ok-handle_all.ensures.taken c.in_ok-branch_all.ensures.taken (sym c.falls_through.ensures ∙ c.if-falls_through.false)
+
+pub returns-then-falls_through-clause-seen : goal.returns-then-falls_through-clause-seen
+returns-then-falls_through-clause-seen c =
+    if_ok c.flow_to.result _ _ c.flow_to.ensures.taken (λ on fallen.
+    seen_on c.args.flow.now c.handle_all.new.seen c.in_ok-branch_all.ensures.taken.work fallen.grown.risen
+    (seen_on c.args.flow.now c.handle_all.new.seen c.in_ok-handle_all.ensures.taken.work c.in_ok-branch_all.ensures.taken.grown.risen
+    c.in_ok-handle_all.ensures.seen))
+
+pub returns-else-falls_through-clause-seen : goal.returns-else-falls_through-clause-seen
+returns-else-falls_through-clause-seen c =
+    seen_on c.args.flow.now c.handle_all.new.seen c.in_ok-handle_all.ensures.taken.work c.in_ok-branch_all.ensures.taken.grown.risen
+    c.in_ok-handle_all.ensures.seen
 
 -- ---- what is refused
 

@@ -2,7 +2,7 @@ use Rattle.jc_check.specs.Package.{package_rules}
 use Rattle.jc_check.specs.Typing.{HandlerLeads}
 use Rattle.jc_verify.specs.PrivateFlow.{HasRoom}
 use Rattle.jc_verify.specs.PrivateWork.{ArePassed}
-use Rattle.jc_verify.proofs.flow.handle_all.Given as goal
+use Rattle.jc_verify.proofs.flow.handle_each.Given as goal
 
 abbrev pub invariant-loop-index : goal.invariant-loop-index
 invariant-loop-index l = record {

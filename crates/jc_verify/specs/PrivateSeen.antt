@@ -1,0 +1,44 @@
+-- Private. What exception handlers took in last while control flow is followed, so that behind it only locals that
+-- differ have to be looked at.
+use Rattle.std.specs.Prelude.{◌≡◌, ℕ, [], List, Some, true}
+use Rattle.jc_classes.specs.Subtype.{is_class_below}
+use Rattle.jc_check.specs.Method.{Handler, covers}
+use Rattle.jc_check.specs.Package.{package_rules}
+use Rattle.jc_check.specs.Typing.{HandlerLeads}
+use Rattle.jc_types.specs.PrivateRanges.{AgreeOutside}
+use Rattle.jc_types.specs.State.{Types, all_below}
+use Rattle.jc_types.specs.declared.ranges.LocalRange.{LocalRange}
+use Rattle.jc_types.specs.declared.ty.Ty.{Ty}
+use Rattle.jc_verify.specs.PrivateFlow.{Places, Risen, held_at}
+use Rattle.jc_verify.specs.PrivateWork.{HandlesAll}
+use Rattle.jc_verify.specs.declared.flow.Flow.{Flow}
+use Rattle.jc_verify.specs.declared.seen.Seen.{Seen}
+
+-- the types of a state with these locals and no operands
+abbrev pub with_locals : List Ty → Types
+with_locals locals = record { locals = locals; operands = [] }
+
+-- a handler, and all handlers, took in the locals seen last, if they cover the instruction there: what places hold then
+-- or later lies above them
+abbrev pub HasSeen : Flow → Places → Seen → Handler → Type 0
+HasSeen f places seen h = (final : Places) (pc : ℕ) → Risen f.linked.now f.method.now f.numbers.now places final
+    → seen.at ≡ Some pc
+    → HandlerLeads (package_rules f.linked.now) (held_at f.numbers.now final) pc (with_locals seen.locals.items) h
+
+abbrev pub HaveSeen : Flow → Places → Seen → Type 0
+HaveSeen f places seen = (final : Places) (pc : ℕ) → Risen f.linked.now f.method.now f.numbers.now places final
+    → seen.at ≡ Some pc → HandlesAll f pc (with_locals seen.locals.items) (held_at f.numbers.now final)
+
+-- a handler covers the instruction seen last
+pub record WasCovered (seen : Seen) (h : Handler) : Type 0 where
+  pub pc : ℕ
+  pub at : seen.at ≡ Some pc
+  pub covered : covers h pc ≡ true
+
+-- the place at a pc holds locals above these, if it held some above others that agree with them outside of a range
+pub record StillHolds (f : Flow) (places : Places) (pc : ℕ) (range : LocalRange) (locals : List Ty) : Type 0 where
+  pub held : Types
+  pub at : held_at f.numbers.now places pc ≡ Some held
+  pub below : (old : List Ty) → AgreeOutside range old locals
+      → all_below (is_class_below f.linked.now.world) old held.locals ≡ true
+      → all_below (is_class_below f.linked.now.world) locals held.locals ≡ true

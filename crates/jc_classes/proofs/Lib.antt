@@ -17,3 +17,4 @@ mod Meeting
 mod Ways
 mod Extending
 mod Nearing
+mod Jumping

@@ -1,5 +1,5 @@
 -- How far above a class another one can stand, by where the superclasses of both come to an end.
-use Rattle.std.proofs.Common.{◌≡◌, ℕ, zero, suc, ◌+◌, ◌≤◌, ◌<◌, ◌⊎◌, inl, inr, Bool, true, false, List, Some}
+use Rattle.std.proofs.Common.{◌≡◌, ℕ, zero, suc, ◌+◌, ◌≤◌, ◌⊎◌, inl, inr, Bool, true, false, List, Some}
 use Rattle.std.proofs.Common.{refl, sym, ap, ◌∙◌, arith}
 use Rattle.jc_classes.proofs.Standing.{true_false}
 use Rattle.jc_cap_desc.specs.Shape.{Shape}
@@ -9,7 +9,6 @@ use Rattle.jc_classes.specs.Walk.{most_classes}
 use Rattle.jc_classes.specs.World.{superclass_of}
 use Rattle.jc_classes.proofs.Below.{name_itself}
 use Rattle.jc_classes.proofs.Superclasses.{above_it, above_more, ends_above, enough, found_by, met}
-use Rattle.jc_classes.proofs.Walking.{most_is}
 use Rattle.jc_names.specs.Names.{is_same_name}
 use Rattle.jc_names.specs.declared.name.ClassName.{ClassName}
 
@@ -63,6 +62,3 @@ module _ (world : List Shape) (c d : ClassName) (low high : Tabled) (of : IsTabl
       by_tests true b f g = sym (f refl)
       by_tests false true f g = g refl
       by_tests false false f g = refl
-
-pub few_above : (world : List Shape) (c : ClassName) (table : Tabled) → IsTabled world c table → table.depth < 17_086
-few_above world c table is = let few = is.depth in omega (arith, few, most_is)

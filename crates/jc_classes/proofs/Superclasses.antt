@@ -25,7 +25,7 @@ or_true : (a b : Bool) → b ≡ true → (a || b) ≡ true
 or_true a b h1 = grind arith
 
 module _ (world : List Shape) (d c : ClassName) (n : ℕ) where
-  one_more : (b : Bool) (o : Option ClassName) → is_same_name c d ≡ b → superclass_of world c ≡ o → is_at_or_above world (suc n) d c ≡ (b || option_map_or (is_at_or_above world n d) o false)
+  pub one_more : (b : Bool) (o : Option ClassName) → is_same_name c d ≡ b → superclass_of world c ≡ o → is_at_or_above world (suc n) d c ≡ (b || option_map_or (is_at_or_above world n d) o false)
   one_more b o e f = ap (λ x. x || option_map_or (is_at_or_above world n d) (superclass_of world c) false) e ∙ ap (λ x. b || option_map_or (is_at_or_above world n d) x false) f
 
   pub met : is_same_name c d ≡ true → is_at_or_above world (suc n) d c ≡ true

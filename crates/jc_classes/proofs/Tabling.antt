@@ -32,6 +32,7 @@ use Rattle.jc_classes.specs.PrivatePlaces.{place_at}
 use Rattle.jc_classes.specs.Listed.{ListNothing, Listed, class_behind, indexes_in}
 use Rattle.jc_classes.specs.PrivateTables.{Tabled, no_methods, row_at, row_entry, entry_in, depth_above}
 use Rattle.jc_classes.specs.PrivateTables.{listed_above, lists_above, lists_any, IsTabled, IsTabledAbove, entry_made}
+use Rattle.jc_classes.specs.PrivateTables.{LeadsUp, entry_above}
 use Rattle.jc_classes.specs.PrivateTables.{listed_row, index_at, table_in, table_of, AreTables, AreBefore, AreSameRows}
 use Rattle.jc_classes.specs.PrivateTables.{AreVisibleOver, IsRowOver, IsTableOver}
 use Rattle.jc_classes.specs.Subtype.{comes_to_end, has_whole_chain}
@@ -40,6 +41,7 @@ use Rattle.jc_names.specs.Names.{home_of}
 use Rattle.jc_classes.specs.World.{class_at, superclass_of}
 use Rattle.jc_names.specs.declared.name.ClassName.{ClassName}
 use Rattle.jc_names.specs.declared.name.MethodName.{MethodName}
+use Rattle.jc_classes.specs.declared.tables.Jump.{Jump}
 use Rattle.jc_classes.specs.declared.walk.Visit.{Visit}
 use Rattle.jc_classes.specs.declared.walk.Visit.TheVariants.{Above}
 
@@ -71,7 +73,7 @@ one_visit visit world n c k e h at =
 
 -- ---- tables of the class above
 
-one_at_least : (world : List Shape) (c : ClassName) (n : ℕ) → comes_to_end world n c ≡ true → 1 ≤ n
+pub one_at_least : (world : List Shape) (c : ClassName) (n : ℕ) → comes_to_end world n c ≡ true → 1 ≤ n
 one_at_least world c n h1 = grind (arith, true_false)
 
 one_more : (world : List Shape) (c d : ClassName) (depth : ℕ) → superclass_of world c ≡ Some d → ((n : ℕ)
@@ -80,13 +82,11 @@ one_more world c d depth s least zero e = absurd (true_false (sym e))
 one_more world c d depth s least (suc n) e = grind arith
 
 -- an interface's table has nothing
-no_entry : (token asker : ℕ) (b : Bool)
-    → cond b (place_at no_methods.public token) (place_at (row_at no_methods.visible asker) (token - package_visible))
-    ≡ None
-no_entry token asker b = grind arith
+no_entry : (c : ClassName) (token asker : ℕ) → entry_in (no_methods c) token asker ≡ None
+no_entry c token asker = grind arith
 
 pub none_above : (world : List Shape) (c : ClassName) → superclass_of world c ≡ None → IsTabledAbove world c None
-none_above world c e = grind (arith, one_at_least, no_entry, none_some)
+none_above world c e = grind (arith, one_at_least, none_some)
 
 pub some_above : (world : List Shape) (c d : ClassName) (table : Tabled) → superclass_of world c ≡ Some d
     → IsTabled world d table → IsTabledAbove world c (Some table)
@@ -96,6 +96,8 @@ some_above world c d table e t = record {
   methods = grind arith;
   interfaces = grind arith;
   nothing = λ none d2 up. subst (ListNothing world) (the_some d d2 (sym e ∙ up)) (t.nothing none);
+  tabled = λ d2 t2 up is. subst (IsTabled world d2) (the_some table t2 is)
+      (subst (λ x. IsTabled world x table) (the_some d d2 (sym e ∙ up)) t);
 }
 
 -- where neither the class nor one above it lists any
@@ -113,19 +115,20 @@ nothing_made world c k above at up none (suc n) d k2 here there =
 -- a table of what a class says, and of what the table above has
 pub made_right : (world : List Shape) (c : ClassName) (k : ClassShape) (above : Option Tabled) (table : Tabled)
     → class_at world c ≡ Some k → IsTabledAbove world c above → table.depth ≡ suc (depth_above above)
-    → table.depth ≤ most_classes
+    → table.depth ≤ most_classes → LeadsUp world c table.depth table.jump
     → ((token asker : ℕ) → token < 256
     → entry_in table token asker ≡ entry_made world above (home_of c) k.body token asker)
     → ((interface : ClassName)
     → indexes_in table.listed interface
     ≡ found_from (listing_visit world interface (home_of c) k.body) (indexes_in (listed_above above) interface))
     → table.lists ≡ lists_any (interface_rows k.body) (lists_above above) → IsTabled world c table
-made_right world c k above table at up one few methods interfaces lists =
+made_right world c k above table at up one few jump methods interfaces lists =
     let ends : comes_to_end world table.depth c ≡ true = ap (λ n. comes_to_end world n c) one ∙ up.ends in
     record {
       ends = ends;
       least = λ n e. let l = up.least n e in omega (arith, one, l);
       depth = few;
+      jump = jump;
       methods =
           λ token asker b. methods token asker b
           ∙ ap (found_from (record_visit world asker token (home_of c) k.body)) (up.methods token asker b)
@@ -162,12 +165,13 @@ module _ (world : List Shape) (c : ClassName) (k : ClassShape) (at : class_at wo
   no_rows_there zero d k2 here there = grind (arith, the_some, no_rows_in)
   no_rows_there (suc n) d k2 here there = grind (arith, none_some, nothing_above)
 
-  pub interface_tabled : IsTabled world c no_methods
+  pub interface_tabled : IsTabled world c (no_methods c)
   interface_tabled = record {
     ends = ends_there;
     least = one_at_least world c;
     depth = omega (arith, most_is);
-    methods = λ token asker b. no_entry token asker (nat_lt token package_visible)
+    jump = record { within = omega arith; there = refl };
+    methods = λ token asker b. no_entry c token asker
         ∙ sym
         (one_visit (virtual_visit world asker token) world 1 c k ends_there (omega (arith, most_is)) at
         ∙ no_method token asker _ k.body not_class);
@@ -220,7 +224,18 @@ nothing_keeps world more c w nothing n d k here there = grind (arith, behind_kee
 
 table_grows : (world : List Shape) (more : Shape) (c : ClassName) (table : Tabled) → IsWithin world c
     → IsTabled world c table → IsTabled (grown world more) c table
-table_grows world more c table w t = grind (arith, ends_keep, virtual_methods_keep, listings_found_keep, nothing_keeps)
+table_grows world more c table w t = record {
+  ends = ends_keep world more table.depth c w ∙ t.ends;
+  least = λ n e. t.least n (sym (ends_keep world more n c w) ∙ e);
+  depth = t.depth;
+  jump = record {
+    within = t.jump.within;
+    there = behind_keeps world more (table.depth - table.jump.depth) c w ∙ t.jump.there;
+  };
+  methods = grind (arith, virtual_methods_keep);
+  interfaces = grind (arith, listings_found_keep);
+  nothing = λ none. nothing_keeps world more c w (t.nothing none);
+}
 
 indexes_keep : (world : List Shape) (more : Shape) (c : ClassName) → IsWithin world c
     → index_at (grown world more) c ≡ index_at world c
@@ -270,11 +285,12 @@ one_class world c d i j small e f home same =
 -- ---- what a table is to have
 
 -- what a class's record says at a token, over the table above
-module _ (world : List Shape) (home : ℕ) (r : ClassRecord) (above : Option Tabled) (table : Tabled) (depth : ℕ)
-    (over : IsTableOver world home r.public_methods r.package_methods r.interfaces (unwrap_or above no_methods) depth
-    table) where
+module _ (world : List Shape) (home : ℕ) (r : ClassRecord) (c : ClassName) (above : Option Tabled) (table : Tabled)
+    (depth : ℕ) (jump : Jump)
+    (over : IsTableOver world home r.public_methods r.package_methods r.interfaces (unwrap_or above (no_methods c)) depth
+    jump table) where
   abbrev up : Tabled
-  up = unwrap_or above no_methods
+  up = unwrap_or above (no_methods c)
 
   abbrev says : ℕ → ℕ → Bool → Option MethodName
   says token asker b =
@@ -294,7 +310,19 @@ module _ (world : List Shape) (home : ℕ) (r : ClassRecord) (above : Option Tab
 
   pub entries_over : (token asker : ℕ) → token < 256
       → entry_in table token asker ≡ entry_made world above home (Class r) token asker
-  entries_over token asker less = by_token token asker less (nat_lt token package_visible) refl
+  entries_over token asker less =
+      by_token token asker less (nat_lt token package_visible) refl
+      ∙ ap (found_from (record_visit world asker token home (Class r))) (entry_up above)
+    where
+      entry_up : (o : Option Tabled) → entry_in (unwrap_or o (no_methods c)) token asker ≡ entry_above o token asker
+      entry_up None = no_entry c token asker
+      entry_up (Some table) = refl
+
+  pub listed_up : (o : Option Tabled) → (unwrap_or o (no_methods c)).listed ≡ listed_above o
+  listed_up o = grind arith
+
+  pub lists_up : (o : Option Tabled) → (unwrap_or o (no_methods c)).lists ≡ lists_above o
+  lists_up o = grind arith
 
 -- ---- interfaces
 
@@ -375,21 +403,30 @@ visible_right world home table above old made same over asker i less = grind (ar
 -- ---- a table that is made
 
 pub table_right : (world : List Shape) (c : ClassName) (k : ClassShape) (r : ClassRecord) (above : Option Tabled)
-    (table : Tabled) (home depth : ℕ) → home ≡ home_of c → k.body ≡ Class r → class_at world c ≡ Some k
+    (table : Tabled) (home depth : ℕ) (jump : Jump) → home ≡ home_of c → k.body ≡ Class r → class_at world c ≡ Some k
     → IsTabledAbove world c above → depth ≡ suc (depth_above above) → depth ≤ most_classes
-    → IsTableOver world home r.public_methods r.package_methods r.interfaces (unwrap_or above no_methods) depth table
+    → LeadsUp world c depth jump
+    → IsTableOver world home r.public_methods r.package_methods r.interfaces (unwrap_or above (no_methods c)) depth jump
+    table
     → IsTabled world c table
-table_right world c k r above table home depth e body at up one few over =
+table_right world c k r above table home depth jump e body at up one few leads over =
     made_right world c k above table at up (over.deep ∙ one) (omega (arith, over.deep, few))
-    (λ token asker less. entries_over world home r above table depth over token asker less
+    (subst (λ n. LeadsUp world c n table.jump) (sym over.deep)
+    (subst (LeadsUp world c depth) (sym over.jumps) leads))
+    (λ token asker less. entries_over world home r c above table depth jump over token asker less
     ∙ ap (λ home. entry_made world above home (Class r) token asker) e
     ∙ ap (λ body. entry_made world above (home_of c) body token asker) (sym body))
     (λ interface.
-    ap (λ (l : List Listed). indexes_in l interface) over.listing
+    ap (λ (l : List Listed). indexes_in l interface)
+    (over.listing
+    ∙ ap (λ (l : List Listed). filter_map (listed_row world home) r.interfaces ++ l)
+    (listed_up world home r c above table depth jump over above))
     ∙ listed_right world home r.interfaces (listed_above above) interface
     ∙ ap
     (λ home. found_from (listing_visit world interface home (Class r)) (indexes_in (listed_above above) interface)) e
     ∙ ap
     (λ body. found_from (listing_visit world interface (home_of c) body) (indexes_in (listed_above above) interface))
     (sym body))
-    (over.any ∙ ap (λ body. lists_any (interface_rows body) (lists_above above)) (sym body))
+    (over.any
+    ∙ ap (lists_any r.interfaces) (lists_up world home r c above table depth jump over above)
+    ∙ ap (λ body. lists_any (interface_rows body) (lists_above above)) (sym body))

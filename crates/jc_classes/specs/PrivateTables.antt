@@ -8,7 +8,7 @@ use Rattle.jc_cap.specs.declared.record.RecordBody.{RecordBody}
 use Rattle.jc_cap.specs.declared.record.VirtualTable.{VirtualTable}
 use Rattle.jc_cap_desc.specs.Shape.{Shape}
 use Rattle.jc_classes.specs.Limits.{IsSmall}
-use Rattle.jc_classes.specs.Listed.{AreListedBy, ListNothing, Listed, indexes_in}
+use Rattle.jc_classes.specs.Listed.{AreListedBy, ListNothing, Listed, class_behind, indexes_in}
 use Rattle.jc_classes.specs.Methods.{record_visit, package_visible, virtual_method_of, interface_visit, table_visit}
 use Rattle.jc_classes.specs.PrivatePlaces.{place_at}
 use Rattle.jc_classes.specs.PrivateSearch.{class_placed}
@@ -18,20 +18,29 @@ use Rattle.jc_names.specs.Names.{home_of, offset_of, name_in}
 use Rattle.jc_classes.specs.World.{package_at, class_named, superclass_of}
 use Rattle.jc_names.specs.declared.name.ClassName.{ClassName}
 use Rattle.jc_names.specs.declared.name.MethodName.{MethodName}
+use Rattle.jc_classes.specs.declared.tables.Jump.{Jump}
 
--- a table of a class: within how many classes its superclasses come to an end, its public methods by their tokens, the
--- package-visible ones for each package that may ask, by their tokens from 128 on, the interfaces, the nearest class's
--- first, and whether any class of the chain may list one
+-- a table of a class: within how many classes its superclasses come to an end, a superclass far above, its public
+-- methods by their tokens, the package-visible ones for each package that may ask, by their tokens from 128 on, the
+-- interfaces, the nearest class's first, and whether any class of the chain may list one
 pub record Tabled : Type 0 where
   pub depth : ℕ
+  pub jump : Jump
   pub public : List (Option MethodName)
   pub visible : List (List (Option MethodName))
   pub listed : List Listed
   pub lists : Bool
 
 -- the table of an interface
-abbrev pub no_methods : Tabled
-no_methods = record { depth = 1; public = []; visible = []; listed = []; lists = false }
+abbrev pub no_methods : ClassName → Tabled
+no_methods c = record {
+  depth = 1;
+  jump = record { to = c; depth = 1 };
+  public = [];
+  visible = [];
+  listed = [];
+  lists = false;
+}
 
 -- the methods for one package that asks
 abbrev pub row_at : List (List (Option MethodName)) → ℕ → List (Option MethodName)
@@ -49,23 +58,32 @@ depth_above None = 0
 depth_above (Some table) = table.depth
 
 abbrev pub entry_above : Option Tabled → ℕ → ℕ → Option MethodName
-entry_above above = entry_in (unwrap_or above no_methods)
+entry_above None token asker = None
+entry_above (Some table) token asker = entry_in table token asker
 
 abbrev pub listed_above : Option Tabled → List Listed
-listed_above above = (unwrap_or above no_methods).listed
+listed_above None = []
+listed_above (Some table) = table.listed
 
 abbrev pub lists_above : Option Tabled → Bool
-lists_above above = (unwrap_or above no_methods).lists
+lists_above None = false
+lists_above (Some table) = table.lists
 
 -- whether a class that lists these rows, or one above it, lists any
 abbrev pub lists_any : List Implemented → Bool → Bool
 lists_any rows above = not (length rows == 0) || above
+
+-- a class that stands above another one, or that class itself: as far above it as its own superclass chain is shorter
+pub record LeadsUp (world : List Shape) (c : ClassName) (depth : ℕ) (jump : Jump) : Type 0 where
+  pub within : jump.depth ≤ depth
+  pub there : class_behind world (depth - jump.depth) c ≡ Some jump.to
 
 -- a table has what the look-ups from its class find, and says within how many classes its superclass chain first ends
 pub record IsTabled (world : List Shape) (c : ClassName) (table : Tabled) : Type 0 where
   pub ends : comes_to_end world table.depth c ≡ true
   pub least : (n : ℕ) → comes_to_end world n c ≡ true → table.depth ≤ n
   pub depth : table.depth ≤ most_classes
+  pub jump : LeadsUp world c table.depth table.jump
   pub methods : (token asker : ℕ) → token < 256 → entry_in table token asker ≡ virtual_method_of world c token asker
   pub interfaces : AreListedBy world c table.listed
   pub nothing : table.lists ≡ false → ListNothing world c
@@ -79,6 +97,8 @@ pub record IsTabledAbove (world : List Shape) (c : ClassName) (above : Option Ta
   pub interfaces : (interface : ClassName) → indexes_in (listed_above above) interface
       ≡ option_and_then (found (interface_visit world interface) world) (superclass_of world c)
   pub nothing : lists_above above ≡ false → (d : ClassName) → superclass_of world c ≡ Some d → ListNothing world d
+  pub tabled : (d : ClassName) (table : Tabled) → superclass_of world c ≡ Some d → above ≡ Some table
+      → IsTabled world d table
 
 -- what a table is to have at a token: what the record says, or what the table above has
 abbrev pub entry_made : List Shape → Option Tabled → ℕ → RecordBody → ℕ → ℕ → Option MethodName
@@ -114,8 +134,9 @@ listed_row world home row =
 
 -- the table of a class's record, over that of the class above: the record's two tables of methods, and what it lists
 pub record IsTableOver (world : List Shape) (home : ℕ) (public visible : VirtualTable) (rows : List Implemented)
-    (above : Tabled) (depth : ℕ) (made : Tabled) : Type 0 where
+    (above : Tabled) (depth : ℕ) (jump : Jump) (made : Tabled) : Type 0 where
   pub deep : made.depth ≡ depth
+  pub jumps : made.jump ≡ jump
   pub methods : IsRowOver world home public above.public made.public
   pub package_methods : AreVisibleOver world home visible above.visible made.visible
   pub listing : made.listed ≡ filter_map (listed_row world home) rows ++ above.listed

@@ -1,17 +1,18 @@
 //! The tables of a package's classes, made when it is put in.
 
-ghost use Rattle.std.specs.Prelude.{◌≡◌, ◌+◌, ◌≤◌, ◌++◌, ◌∷◌, [], true, false, length, IfOk, IfErr, IfSome, IfNone};
+ghost use Rattle.std.specs.Prelude.{◌≡◌, ◌+◌, ◌≤◌, ◌++◌, ◌∷◌, [], true, false, length, suc, Some, IfOk, IfErr};
+ghost use Rattle.std.specs.Prelude.{IfSome, IfNone};
 ghost use Rattle.std.specs.Option.{option_map};
 ghost use Rattle.jc_classes.specs.PrivateTables.{depth_above, index_at, name_placed, table_of, table_so_far};
 ghost use Rattle.jc_classes.specs.PrivateTables.{AreBefore, AreInMaking, AreSettled, AreTables};
 ghost use Rattle.jc_classes.specs.PrivateTables.{IsFurther, IsSettled, IsTabled, IsTabledAbove, IsWaiting};
-ghost use Rattle.jc_classes.specs.PrivateTables.{LacksTableAbove};
+ghost use Rattle.jc_classes.specs.PrivateTables.{LacksTableAbove, LeadsUp};
 ghost use Rattle.jc_classes.specs.Subtype.{has_whole_chain};
 ghost use Rattle.jc_names.specs.Names.{home_of};
 
 use crate::shapes::Shapes;
 use crate::table::ClassTable;
-use crate::tables::{MethodTable, PackageTables};
+use crate::tables::{Jump, MethodTable, PackageTables};
 use crate::walk::MOST_CLASSES;
 use jc_base::Shared;
 use jc_names::{ClassName, PackagePlace, name_in};
@@ -85,6 +86,53 @@ impl Shapes {
         }
     }
 
+    /// Where the jump of a class leads, from what its superclass has: as far as the superclass's jump and the next one,
+    /// where both pass as many classes, and else to the superclass. So a walk of jumps passes any number of classes in
+    /// few steps.
+    fn jump_from(
+        &self,
+        tables: &[Shared<PackageTables>],
+        made: &PackageTables,
+        above: ClassName,
+        table: &MethodTable,
+    ) -> Jump
+        requires making { AreInMaking self.now tables.now made.now }
+        requires tabled { IsTabled self.now above table.now }
+        ensures { LeadsUp self.now above table.now.depth result }
+    {
+        match self.table_so_far(tables, made, table.jump().to) {
+            Some(far) if far.jump_length() == table.jump_length() => far.jump(),
+            Some(_) | None => Jump {
+                to: above,
+                depth: table.depth(),
+            },
+        }
+    }
+
+    /// The jump of a class that stands so deep; at the top it leads to the class itself.
+    fn jump_of(
+        &self,
+        tables: &[Shared<PackageTables>],
+        made: &PackageTables,
+        class: ClassName,
+        above: Option<&MethodTable>,
+        depth: u16,
+    ) -> Jump
+        requires making { AreInMaking self.now tables.now made.now }
+        requires above { IsTabledAbove self.now class (option_map (λ t. t.now) above) }
+        requires depth { depth ≡ suc (depth_above (option_map (λ t. t.now) above)) }
+        ensures { LeadsUp self.now class depth result }
+    {
+        let itself = Jump { to: class, depth };
+        let Some(superclass) = self.superclass_of(class) else {
+            return itself;
+        };
+        match above {
+            Some(table) => self.jump_from(tables, made, superclass, table),
+            None => itself,
+        }
+    }
+
     /// The table of a class or an interface. `None` where neither stands there, or where the class above has no table
     /// yet. A chain of as many classes as there can be has a cycle.
     fn table_made(
@@ -104,11 +152,12 @@ impl Shapes {
         let Some(above) = self.table_above(tables, made, class) else {
             return Ok(None);
         };
-        let depth = depth_of(above);
-        if depth >= MOST_CLASSES {
+        if depth_of(above) >= MOST_CLASSES {
             return Ok(None);
         }
-        let table = self.table_from(alloc, class, found, above, depth + 1)?;
+        let depth = depth_of(above) + 1;
+        let jump = self.jump_of(tables, made, class, above, depth);
+        let table = self.table_from(alloc, class, found, above, depth, jump)?;
         Ok(Some(table))
     }
 

@@ -1,6 +1,6 @@
 //! Which class is below which.
 
-ghost use Rattle.std.specs.Prelude.{◌≡◌, ◌↔◌, true, None, List};
+ghost use Rattle.std.specs.Prelude.{◌≡◌, ◌↔◌, true, None, IfSome, List};
 ghost use Rattle.jc_cap_desc.specs.Shape.{Shape};
 ghost use Rattle.jc_classes.specs.Limits.{IsSmall};
 ghost use Rattle.jc_classes.specs.Subtype.{IsSubtype, IsOrderly, IsOrder, IsClassLattice, is_at_or_above};
@@ -17,30 +17,36 @@ use jc_names::ClassName;
 const OBJECT: ClassName = ClassName::Api(ApiClass::Object);
 
 impl ClassTable {
-    /// How many classes from a class on have to be looked at to see whether another one is among it and its
-    /// superclasses: as many as lie between where the chains of both end, and one more.
-    fn steps_to(&self, above: ClassName, class: ClassName) -> u16
-        ensures { is_at_or_above self.now result above class ≡ is_at_or_above self.now most_classes above class }
+    /// Whether a class is another one or a superclass of it, by jumps: each leads as far up as it can without passing
+    /// the other one's depth, and there the two are one class or the other one isn't above. `None` where a class has no
+    /// table.
+    fn jumps_to(&self, above: ClassName, class: ClassName) -> Option<bool>
+        ensures { IfSome result (λ found. found ≡ is_at_or_above self.now most_classes above class) }
     {
-        let Some(low) = self.table_of(class) else {
-            return MOST_CLASSES;
-        };
-        let Some(high) = self.table_of(above) else {
-            return MOST_CLASSES;
-        };
-        (low.depth() + 1).saturating_sub(high.depth())
+        let depth = self.table_of(above)?.depth();
+        let mut at = class;
+        for _ in 0..MOST_CLASSES {
+            let table = self.table_of(at)?;
+            if table.depth() <= depth {
+                return Some(at.is(above));
+            }
+            at = if table.jump().depth >= depth {
+                table.jump().to
+            } else {
+                self.superclass_of(at)?
+            };
+        }
+        None
     }
 
-    /// Whether a class is another one or a superclass of it. The superclass chain may have a cycle: where the walk
-    /// comes again to a class that it remembers, the other one isn't above. Where both chains come to their ends no
-    /// more classes are passed than lie between the two.
-    pub fn is_at_or_above(&self, above: ClassName, class: ClassName) -> bool
+    /// The same by a walk along superclasses. The chain may have a cycle: where the walk comes again to a class that it
+    /// remembers, the other one isn't above.
+    fn walks_to(&self, above: ClassName, class: ClassName) -> bool
         ensures { result ≡ is_at_or_above self.now most_classes above class }
     {
         let mut at = class;
         let mut anchor = class;
-        let most = self.steps_to(above, class);
-        for steps in 0..most {
+        for steps in 0..MOST_CLASSES {
             if at.is(above) {
                 return true;
             }
@@ -54,6 +60,19 @@ impl ClassTable {
             anchor = anchor_behind(steps + 1, at, anchor);
         }
         false
+    }
+
+    /// Whether a class is another one or a superclass of it: by jumps, or by a walk where a class has no table.
+    pub fn is_at_or_above(&self, above: ClassName, class: ClassName) -> bool
+        ensures { result ≡ is_at_or_above self.now most_classes above class }
+    {
+        if class.is(above) {
+            return true;
+        }
+        match self.jumps_to(above, class) {
+            Some(found) => found,
+            None => self.walks_to(above, class),
+        }
     }
 
     /// Whether a class is another one or below it, along superclasses; Object is above all.

@@ -1,6 +1,7 @@
 //! Tables of the methods of classes, made from those of the classes above.
 
-ghost use Rattle.std.specs.Prelude.{◌≡◌, ℕ, suc, ◌+◌, ◌<◌, ◌≤◌, ◌++◌, List, Some, None, [], length, set, unwrap_or};
+ghost use Rattle.std.specs.Prelude.{◌≡◌, ℕ, suc, ◌+◌, ◌-◌, ◌<◌, ◌≤◌, ◌++◌, List, Some, None, [], length, set};
+ghost use Rattle.std.specs.Prelude.{unwrap_or};
 ghost use Rattle.std.specs.Prelude.{IfOk};
 ghost use Rattle.std.specs.List.{filter_map};
 ghost use Rattle.std.specs.Option.{option_map, option_to_list};
@@ -9,7 +10,7 @@ ghost use Rattle.jc_classes.specs.PrivatePlaces.{place_at};
 ghost use Rattle.jc_classes.specs.Listed.{indexes_in};
 ghost use Rattle.jc_classes.specs.PrivateTables.{no_methods, row_at, row_entry, entry_in, depth_above, listed_row};
 ghost use Rattle.jc_classes.specs.PrivateTables.{AreSameRows, AreVisibleOver, IsRowOver, IsTableOver, IsTabled};
-ghost use Rattle.jc_classes.specs.PrivateTables.{IsTabledAbove};
+ghost use Rattle.jc_classes.specs.PrivateTables.{IsTabledAbove, LeadsUp};
 ghost use Rattle.jc_classes.specs.Walk.{most_classes};
 ghost use Rattle.jc_classes.specs.World.{class_at};
 
@@ -103,11 +104,22 @@ impl Model for ListedRows {
     ghost view = { λ r. r.rows.items };
 }
 
+/// A class far above another one, or that class itself.
+#[derive(Clone, Copy)]
+pub(crate) struct Jump {
+    /// The class.
+    pub(crate) to: ClassName,
+    /// Within how many classes its superclasses come to an end.
+    pub(crate) depth: u16,
+}
+
 /// What the look-ups from a class find. Rows that are those of the class above are shared with it.
 #[derive(Drop)]
 pub(crate) struct MethodTable {
     /// Within how many classes its superclasses come to an end.
     depth: u16,
+    /// A class far above.
+    jump: Jump,
     /// The public methods.
     public: Shared<MethodRow>,
     /// The package-visible methods.
@@ -125,6 +137,7 @@ impl Model for MethodTable {
 
     ghost view = { λ t. record {
       depth = t.depth;
+      jump = t.jump;
       public = t.public;
       visible = t.visible;
       listed = t.listed;
@@ -179,8 +192,8 @@ impl MethodRow {
 
 impl MethodTable {
     /// The table of an interface, which has no methods.
-    fn of_interface(alloc: Global) -> Result<MethodTable, AllocError>
-        ensures { IfOk result (λ made. made ≡ no_methods) }
+    fn of_interface(alloc: Global, interface: ClassName) -> Result<MethodTable, AllocError>
+        ensures { IfOk result (λ made. made ≡ no_methods interface) }
     {
         let visible = VisibleRows {
             rows: Vec::new(alloc),
@@ -190,6 +203,10 @@ impl MethodTable {
         };
         Ok(MethodTable {
             depth: 1,
+            jump: Jump {
+                to: interface,
+                depth: 1,
+            },
             public: MethodRow::empty(alloc)?,
             visible: Shared::new(alloc, visible)?,
             listed: Shared::new(alloc, listed)?,
@@ -202,6 +219,20 @@ impl MethodTable {
         ensures { result ≡ self.now.depth }
     {
         self.depth
+    }
+
+    /// A class far above.
+    pub(crate) fn jump(&self) -> Jump
+        ensures { result ≡ self.now.jump }
+    {
+        self.jump
+    }
+
+    /// How many classes up its jump leads.
+    pub(crate) fn jump_length(&self) -> u16
+        ensures { result ≡ self.now.depth - self.now.jump.depth }
+    {
+        self.depth.saturating_sub(self.jump.depth)
     }
 
     /// The virtual method at a token, asked for the package that stands there.
@@ -301,8 +332,7 @@ impl PackageTables {
 
 /// The table of the class above; where there is no class above, one without methods.
 fn above_or<'t>(above: Option<&'t MethodTable>, none: &'t MethodTable) -> &'t MethodTable
-    requires none { none.now ≡ no_methods }
-    ensures { result.now ≡ unwrap_or (option_map (λ t. t.now) above.entry) no_methods }
+    ensures { result.now ≡ unwrap_or (option_map (λ t. t.now) above.entry) none.now }
 {
     match above {
         Some(table) => table,
@@ -502,12 +532,14 @@ impl Shapes {
         body: &ClassBody,
         above: &MethodTable,
         depth: u16,
+        jump: Jump,
     ) -> Result<MethodTable, AllocError>
         ensures { IfOk result (IsTableOver self.now home body.now.public_methods body.now.package_methods
-            body.now.interfaces.items above.now depth) }
+            body.now.interfaces.items above.now depth jump) }
     {
         Ok(MethodTable {
             depth,
+            jump,
             public: self.row_over(alloc, home, &body.public_methods, &above.public)?,
             visible: self.visible_over(alloc, home, &body.package_methods, &above.visible)?,
             listed: self.listed_over(alloc, home, &body.interfaces, &above.listed)?,
@@ -523,19 +555,21 @@ impl Shapes {
         found: &Class,
         above: Option<&MethodTable>,
         depth: u16,
+        jump: Jump,
     ) -> Result<MethodTable, AllocError>
         requires there { class_at self.now class ≡ Some found.now }
         requires above { IsTabledAbove self.now class (option_map (λ t. t.now) above) }
         requires depth { depth ≡ suc (depth_above (option_map (λ t. t.now) above)) }
         requires few { depth ≤ most_classes }
+        requires jump { LeadsUp self.now class depth jump }
         ensures { IfOk result (λ made. IsTabled self.now class made) }
     {
-        let none = MethodTable::of_interface(alloc)?;
+        let none = MethodTable::of_interface(alloc, class)?;
         match &found.body {
             Body::Interface(_) => Ok(none),
             Body::Class(body) => {
                 let above = above_or(above, &none);
-                self.table_over(alloc, class.home(), body, above, depth)
+                self.table_over(alloc, class.home(), body, above, depth, jump)
             }
         }
     }

@@ -1,4 +1,5 @@
-use Rattle.std.proofs.Common.{ap, sym, subst, ◌∙◌}
+use Rattle.std.proofs.Common.{ap, sym, subst, unwrap_or, ◌∙◌}
+use Rattle.std.specs.Option.{option_map}
 use Rattle.jc_cap.specs.ClassComponent.{is_class}
 use Rattle.jc_cap_desc.specs.Shape.{ClassShape}
 use Rattle.jc_classes.proofs.Filling.{map_ok}
@@ -19,10 +20,11 @@ returns-in-Class c =
     let r = c.in-Class.body in
     map_ok
     (λ made. IsTableOver c.args.self.now c.home.result r.public_methods r.package_methods r.interfaces.items
-    c.above_or-above.result.now c.args.depth made)
+    c.above_or-above.result.now c.args.depth c.args.jump made)
     (IsTabled c.args.self.now c.args.class) c.table_over.result
     (λ (made : Tabled) over. table_right c.args.self.now c.args.class c.args.found.now _ _ made c.home.result c.args.depth
-    c.home.ensures body c.requires.there c.requires.above c.requires.depth c.requires.few
+    c.args.jump c.home.ensures body c.requires.there c.requires.above c.requires.depth c.requires.few c.requires.jump
     (subst (λ above. IsTableOver c.args.self.now c.home.result r.public_methods r.package_methods
-    r.interfaces.items above c.args.depth made) c.above_or-above.ensures over))
+    r.interfaces.items above c.args.depth c.args.jump made)
+    (c.above_or-above.ensures ∙ ap (unwrap_or (option_map (λ t. t.now) c.args.above)) c.in_ok-none.ensures) over))
     c.table_over.ensures

@@ -80,7 +80,8 @@ leads_on world c low high of far =
     let beyond = far.jump.within in
     let rest : low.depth ≡ low.depth - low.jump.depth + low.jump.depth = omega (arith, near) in
     let most = far.least low.jump.depth
-    (ends_behind world low.depth (low.depth - low.jump.depth) low.jump.depth c low.jump.to rest of.jump.there of.ends) in
+    (ends_behind world low.depth (low.depth - low.jump.depth) low.jump.depth c low.jump.to rest of.jump.there
+    of.ends) in
     let least = least_behind world (low.depth - low.jump.depth) low.jump.depth c low.jump.to of.jump.there
     (λ n e. let l = of.least n e in omega (arith, l, near)) high.depth far.ends in
     record {

@@ -1,14 +1,11 @@
 -- Tables of the methods of classes.
 use Rattle.std.proofs.Common.{◌≡◌, ℕ, zero, suc, ◌+◌, ◌-◌, ◌*◌, ◌<◌, ◌≤◌, ◌==◌, ◌||◌, not, Bool, true, false, cond}
-use Rattle.std.proofs.Common.{List, [], ◌∷◌, ◌++◌, length, set, take, get_or, Option, Some, None, refl, sym, ap, subst}
-use Rattle.std.proofs.Common.{◌∙◌, arith, nat_lt, unwrap_or, length-append, add-one}
+use Rattle.std.proofs.Common.{List, [], ◌∷◌, ◌++◌, length, set, Option, Some, None, refl, sym, ap, subst}
+use Rattle.std.proofs.Common.{◌∙◌, arith, nat_lt, unwrap_or, length-append}
 use Rattle.std.proofs.lemmas.Bool.{cases_lt, eqb-false, eqb-true, ltb-true, ltb-false, ne_eqb}
-use Rattle.std.proofs.lemmas.List.Elements.{filter_map-append}
-use Rattle.std.proofs.Math.Seq.{take-suc}
 use Rattle.std.proofs.lemmas.List.{get_or-set_other, get_or-set_same}
 use Rattle.std.proofs.lemmas.Option.{slice_get_past, slice_get_within, unwrap_or-slice_get}
-use Rattle.std.specs.List.{filter_map, cons_option}
-use Rattle.std.specs.Option.{option_and_then, option_map_or, option_to_list}
+use Rattle.std.specs.Option.{option_and_then, option_map_or}
 use Rattle.jc_base.proofs.Binding.{none_some, the_some}
 use Rattle.jc_cap.specs.Interfaces.{Implemented}
 use Rattle.jc_cap.specs.declared.record.ClassRecord.{ClassRecord}
@@ -17,7 +14,7 @@ use Rattle.jc_cap.specs.declared.record.VirtualTable.{VirtualTable}
 use Rattle.jc_cap.specs.declared.record.RecordBody.TheVariants.{Class}
 use Rattle.jc_cap_desc.specs.Shape.{ClassShape, Shape}
 use Rattle.jc_classes.proofs.Growing.{get_before, packages_keep, classes_keep, superclasses_keep, superclass_within}
-use Rattle.jc_classes.proofs.Growing.{virtual_methods_keep, listings_found_keep}
+use Rattle.jc_classes.proofs.Growing.{virtual_methods_keep}
 use Rattle.jc_classes.proofs.Below.{one_place}
 use Rattle.jc_classes.proofs.Standing.{some_of, package_there, true_false}
 use Rattle.jc_classes.proofs.Walking.{most_is}
@@ -27,13 +24,13 @@ use Rattle.jc_classes.specs.PrivateSearch.{place}
 use Rattle.jc_classes.specs.Record.{interface_rows}
 use Rattle.jc_cap.specs.ClassComponent.{is_class}
 use Rattle.jc_classes.specs.Methods.{table_visit, record_visit, virtual_visit}
-use Rattle.jc_classes.specs.Methods.{package_visible, interface_visit, listing_visit, indexes_visit, row_for}
+use Rattle.jc_classes.specs.Methods.{package_visible}
 use Rattle.jc_classes.specs.PrivatePlaces.{place_at}
-use Rattle.jc_classes.specs.Listed.{ListNothing, Listed, class_behind, indexes_in}
+use Rattle.jc_classes.specs.Listed.{ListNothing, class_behind}
 use Rattle.jc_classes.specs.PrivateTables.{Tabled, no_methods, row_at, row_entry, entry_in, depth_above}
-use Rattle.jc_classes.specs.PrivateTables.{listed_above, lists_above, lists_any, IsTabled, IsTabledAbove, entry_made}
+use Rattle.jc_classes.specs.PrivateTables.{lists_above, lists_any, IsTabled, IsTabledAbove, entry_made}
 use Rattle.jc_classes.specs.PrivateTables.{LeadsUp, entry_above}
-use Rattle.jc_classes.specs.PrivateTables.{listed_row, index_at, table_in, table_of, AreTables, AreBefore, AreSameRows}
+use Rattle.jc_classes.specs.PrivateTables.{index_at, table_in, table_of, AreTables, AreBefore, AreSameRows}
 use Rattle.jc_classes.specs.PrivateTables.{AreVisibleOver, IsRowOver, IsTableOver}
 use Rattle.jc_classes.specs.Subtype.{comes_to_end, has_whole_chain}
 use Rattle.jc_classes.specs.Walk.{most_classes, found_from, walk, found}
@@ -94,7 +91,6 @@ some_above world c d table e t = record {
   ends = ap (λ (o : Option ClassName). option_map_or (comes_to_end world table.depth) o true) e ∙ t.ends;
   least = one_more world c d table.depth e t.least;
   methods = grind arith;
-  interfaces = grind arith;
   nothing = λ none d2 up. subst (ListNothing world) (the_some d d2 (sym e ∙ up)) (t.nothing none);
   tabled = λ d2 t2 up is. subst (IsTabled world d2) (the_some table t2 is)
       (subst (λ x. IsTabled world x table) (the_some d d2 (sym e ∙ up)) t);
@@ -118,11 +114,8 @@ pub made_right : (world : List Shape) (c : ClassName) (k : ClassShape) (above : 
     → table.depth ≤ most_classes → LeadsUp world c table.depth table.jump
     → ((token asker : ℕ) → token < 256
     → entry_in table token asker ≡ entry_made world above (home_of c) k.body token asker)
-    → ((interface : ClassName)
-    → indexes_in table.listed interface
-    ≡ found_from (listing_visit world interface (home_of c) k.body) (indexes_in (listed_above above) interface))
     → table.lists ≡ lists_any (interface_rows k.body) (lists_above above) → IsTabled world c table
-made_right world c k above table at up one few jump methods interfaces lists =
+made_right world c k above table at up one few jump methods lists =
     let ends : comes_to_end world table.depth c ≡ true = ap (λ n. comes_to_end world n c) one ∙ up.ends in
     record {
       ends = ends;
@@ -133,10 +126,6 @@ made_right world c k above table at up one few jump methods interfaces lists =
           λ token asker b. methods token asker b
           ∙ ap (found_from (record_visit world asker token (home_of c) k.body)) (up.methods token asker b)
           ∙ sym (one_visit (virtual_visit world asker token) world table.depth c k ends few at);
-      interfaces =
-          λ interface. interfaces interface
-          ∙ ap (found_from (listing_visit world interface (home_of c) k.body)) (up.interfaces interface)
-          ∙ sym (one_visit (interface_visit world interface) world table.depth c k ends few at);
       nothing = λ none. nothing_made world c k above at up (sym lists ∙ none);
     }
 
@@ -153,10 +142,6 @@ module _ (world : List Shape) (c : ClassName) (k : ClassShape) (at : class_at wo
   no_method : (token asker : ℕ) (rest : Option MethodName) (body : RecordBody) → is_class body ≡ false
       → found_from (record_visit world asker token (home_of c) body) rest ≡ None
   no_method token asker rest body h1 = grind (arith, true_false)
-
-  no_row : (interface : ClassName) (rest : Option (List ℕ)) (body : RecordBody) → is_class body ≡ false
-      → found_from (listing_visit world interface (home_of c) body) rest ≡ None
-  no_row interface rest body h1 = grind (arith, true_false)
 
   no_rows_in : (body : RecordBody) → is_class body ≡ false → interface_rows body ≡ []
   no_rows_in body h1 = grind (arith, true_false)
@@ -175,10 +160,6 @@ module _ (world : List Shape) (c : ClassName) (k : ClassShape) (at : class_at wo
         ∙ sym
         (one_visit (virtual_visit world asker token) world 1 c k ends_there (omega (arith, most_is)) at
         ∙ no_method token asker _ k.body not_class);
-    interfaces =
-        λ interface. sym
-        (one_visit (interface_visit world interface) world 1 c k ends_there (omega (arith, most_is)) at
-        ∙ no_row interface _ k.body not_class);
     nothing = λ none. no_rows_there;
   }
 
@@ -233,7 +214,6 @@ table_grows world more c table w t = record {
     there = behind_keeps world more (table.depth - table.jump.depth) c w ∙ t.jump.there;
   };
   methods = grind (arith, virtual_methods_keep);
-  interfaces = grind (arith, listings_found_keep);
   nothing = λ none. nothing_keeps world more c w (t.nothing none);
 }
 
@@ -287,8 +267,8 @@ one_class world c d i j small e f home same =
 -- what a class's record says at a token, over the table above
 module _ (world : List Shape) (home : ℕ) (r : ClassRecord) (c : ClassName) (above : Option Tabled) (table : Tabled)
     (depth : ℕ) (jump : Jump)
-    (over : IsTableOver world home r.public_methods r.package_methods r.interfaces (unwrap_or above (no_methods c)) depth
-    jump table) where
+    (over : IsTableOver world home r.public_methods r.package_methods r.interfaces (unwrap_or above (no_methods c))
+    depth jump table) where
   abbrev up : Tabled
   up = unwrap_or above (no_methods c)
 
@@ -318,37 +298,8 @@ module _ (world : List Shape) (home : ℕ) (r : ClassRecord) (c : ClassName) (ab
       entry_up None = no_entry c token asker
       entry_up (Some table) = refl
 
-  pub listed_up : (o : Option Tabled) → (unwrap_or o (no_methods c)).listed ≡ listed_above o
-  listed_up o = grind arith
-
   pub lists_up : (o : Option Tabled) → (unwrap_or o (no_methods c)).lists ≡ lists_above o
   lists_up o = grind arith
-
--- ---- interfaces
-
-pub one_listed : (world : List Shape) (home : ℕ) (rows : List Implemented) (listed : List Listed) (i : ℕ)
-    (row : Implemented) → listed ≡ filter_map (listed_row world home) (take i rows) → i < length rows
-    → row ≡ get_or rows i row
-    → listed ++ option_to_list (listed_row world home row) ≡ filter_map (listed_row world home) (take (i + 1) rows)
-one_listed world home rows listed i row so_far less at =
-    ap (λ xs. xs ++ option_to_list (listed_row world home row)) so_far
-    ∙ ap (λ (xs : List Listed). filter_map (listed_row world home) (take i rows) ++ xs)
-    (one_mapped (listed_row world home row))
-    ∙ sym (filter_map-append (listed_row world home) (take i rows) (row ∷ []))
-    ∙ ap (λ x. filter_map (listed_row world home) (take i rows ++ x ∷ [])) at
-    ∙ sym (ap (filter_map (listed_row world home)) (take-suc rows i row less))
-    ∙ ap (λ n. filter_map (listed_row world home) (take n rows)) (sym (add-one i))
-  where
-    one_mapped : (o : Option Listed) → option_to_list o ≡ cons_option o []
-    one_mapped o = grind arith
-
--- the rows of a class, and then those above
-pub listed_right : (world : List Shape) (home : ℕ) (rows : List Implemented) (rest : List Listed)
-    (interface : ClassName)
-    → indexes_in (filter_map (listed_row world home) rows ++ rest) interface
-    ≡ found_from (indexes_visit (row_for world interface home rows)) (indexes_in rest interface)
-listed_right world home [] rest interface = refl
-listed_right world home (row ∷ rows) rest interface = grind (arith, listed_right world home rows rest interface)
 
 -- ---- rows that are made
 
@@ -416,17 +367,6 @@ table_right world c k r above table home depth jump e body at up one few leads o
     (λ token asker less. entries_over world home r c above table depth jump over token asker less
     ∙ ap (λ home. entry_made world above home (Class r) token asker) e
     ∙ ap (λ body. entry_made world above (home_of c) body token asker) (sym body))
-    (λ interface.
-    ap (λ (l : List Listed). indexes_in l interface)
-    (over.listing
-    ∙ ap (λ (l : List Listed). filter_map (listed_row world home) r.interfaces ++ l)
-    (listed_up world home r c above table depth jump over above))
-    ∙ listed_right world home r.interfaces (listed_above above) interface
-    ∙ ap
-    (λ home. found_from (listing_visit world interface home (Class r)) (indexes_in (listed_above above) interface)) e
-    ∙ ap
-    (λ body. found_from (listing_visit world interface (home_of c) body) (indexes_in (listed_above above) interface))
-    (sym body))
     (over.any
     ∙ ap (lists_any r.interfaces) (lists_up world home r c above table depth jump over above)
     ∙ ap (λ body. lists_any (interface_rows body) (lists_above above)) (sym body))

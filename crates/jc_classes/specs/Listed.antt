@@ -1,29 +1,11 @@
 -- The interfaces that a class and its superclasses list, as the look-up of an interface's method goes through them
 -- (Java Card Virtual Machine Specification, invokeinterface; CAP file format: Class component).
 use Rattle.std.specs.Prelude.{◌≡◌, ℕ, zero, suc, List, [], Option, Some}
-use Rattle.std.specs.List.{find}
-use Rattle.std.specs.Option.{option_and_then, option_map}
+use Rattle.std.specs.Option.{option_and_then}
 use Rattle.jc_cap_desc.specs.Shape.{ClassShape, Shape}
-use Rattle.jc_classes.specs.Methods.{interface_visit}
 use Rattle.jc_classes.specs.Record.{interface_rows}
-use Rattle.jc_classes.specs.Walk.{found}
 use Rattle.jc_classes.specs.World.{class_at, superclass_of}
-use Rattle.jc_names.specs.Names.{is_same_name}
 use Rattle.jc_names.specs.declared.name.ClassName.{ClassName}
-
--- an interface, and under which virtual tokens a class has its methods
-pub record Listed : Type 0 where
-  pub interface : ClassName
-  pub indexes : List ℕ
-
--- under which virtual tokens an interface's methods stand: the first row of it says so
-abbrev pub indexes_in : List Listed → ClassName → Option (List ℕ)
-indexes_in rows interface = option_map (λ l. l.indexes) (find (λ l. is_same_name l.interface interface) rows)
-
--- these rows say of each interface what the look-up from a class finds: the nearest class's row of it, if one has any
-abbrev pub AreListedBy : List Shape → ClassName → List Listed → Type 0
-AreListedBy world c rows = (interface : ClassName)
-    → indexes_in rows interface ≡ found (interface_visit world interface) world c
 
 -- the class so many superclasses above a class
 abbrev pub class_behind : List Shape → ℕ → ClassName → Option ClassName

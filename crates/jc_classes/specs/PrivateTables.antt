@@ -1,34 +1,33 @@
 -- Private. Tables of the methods of classes, made from those of the classes above.
 use Rattle.std.specs.Prelude.{◌≡◌, ℕ, suc, ◌-◌, ◌<◌, ◌≤◌, ◌==◌, Bool, true, false, List, [], ◌∷◌, Option, Some, None}
-use Rattle.std.specs.Prelude.{◌++◌, ◌||◌, length, nat_lt, not, slice_get, unwrap_or, if◌then◌else◌}
-use Rattle.std.specs.List.{filter_map, position}
-use Rattle.std.specs.Option.{option_map, option_and_then}
+use Rattle.std.specs.Prelude.{◌||◌, length, nat_lt, not, slice_get, unwrap_or, if◌then◌else◌}
+use Rattle.std.specs.List.{position}
+use Rattle.std.specs.Option.{option_and_then}
 use Rattle.jc_cap.specs.Interfaces.{Implemented}
 use Rattle.jc_cap.specs.declared.record.RecordBody.{RecordBody}
 use Rattle.jc_cap.specs.declared.record.VirtualTable.{VirtualTable}
 use Rattle.jc_cap_desc.specs.Shape.{Shape}
 use Rattle.jc_classes.specs.Limits.{IsSmall}
-use Rattle.jc_classes.specs.Listed.{AreListedBy, ListNothing, Listed, class_behind, indexes_in}
-use Rattle.jc_classes.specs.Methods.{record_visit, package_visible, virtual_method_of, interface_visit, table_visit}
+use Rattle.jc_classes.specs.Listed.{ListNothing, class_behind}
+use Rattle.jc_classes.specs.Methods.{record_visit, package_visible, virtual_method_of, table_visit}
 use Rattle.jc_classes.specs.PrivatePlaces.{place_at}
 use Rattle.jc_classes.specs.PrivateSearch.{class_placed}
 use Rattle.jc_classes.specs.Subtype.{comes_to_end, has_whole_chain}
-use Rattle.jc_classes.specs.Walk.{found, found_from, most_classes}
+use Rattle.jc_classes.specs.Walk.{found_from, most_classes}
 use Rattle.jc_names.specs.Names.{home_of, offset_of, name_in}
-use Rattle.jc_classes.specs.World.{package_at, class_named, superclass_of}
+use Rattle.jc_classes.specs.World.{package_at, superclass_of}
 use Rattle.jc_names.specs.declared.name.ClassName.{ClassName}
 use Rattle.jc_names.specs.declared.name.MethodName.{MethodName}
 use Rattle.jc_classes.specs.declared.tables.Jump.{Jump}
 
 -- a table of a class: within how many classes its superclasses come to an end, a superclass far above, its public
--- methods by their tokens, the package-visible ones for each package that may ask, by their tokens from 128 on, the
--- interfaces, the nearest class's first, and whether any class of the chain may list one
+-- methods by their tokens, the package-visible ones for each package that may ask, by their tokens from 128 on, and
+-- whether any class of the chain may list an interface
 pub record Tabled : Type 0 where
   pub depth : ℕ
   pub jump : Jump
   pub public : List (Option MethodName)
   pub visible : List (List (Option MethodName))
-  pub listed : List Listed
   pub lists : Bool
 
 -- the table of an interface
@@ -38,7 +37,6 @@ no_methods c = record {
   jump = record { to = c; depth = 1 };
   public = [];
   visible = [];
-  listed = [];
   lists = false;
 }
 
@@ -61,10 +59,6 @@ abbrev pub entry_above : Option Tabled → ℕ → ℕ → Option MethodName
 entry_above None token asker = None
 entry_above (Some table) token asker = entry_in table token asker
 
-abbrev pub listed_above : Option Tabled → List Listed
-listed_above None = []
-listed_above (Some table) = table.listed
-
 abbrev pub lists_above : Option Tabled → Bool
 lists_above None = false
 lists_above (Some table) = table.lists
@@ -85,7 +79,6 @@ pub record IsTabled (world : List Shape) (c : ClassName) (table : Tabled) : Type
   pub depth : table.depth ≤ most_classes
   pub jump : LeadsUp world c table.depth table.jump
   pub methods : (token asker : ℕ) → token < 256 → entry_in table token asker ≡ virtual_method_of world c token asker
-  pub interfaces : AreListedBy world c table.listed
   pub nothing : table.lists ≡ false → ListNothing world c
 
 -- a table has what the look-ups from the class above find
@@ -94,8 +87,6 @@ pub record IsTabledAbove (world : List Shape) (c : ClassName) (above : Option Ta
   pub least : (n : ℕ) → comes_to_end world n c ≡ true → suc (depth_above above) ≤ n
   pub methods : (token asker : ℕ) → token < 256 → entry_above above token asker
       ≡ option_and_then (λ d. virtual_method_of world d token asker) (superclass_of world c)
-  pub interfaces : (interface : ClassName) → indexes_in (listed_above above) interface
-      ≡ option_and_then (found (interface_visit world interface) world) (superclass_of world c)
   pub nothing : lists_above above ≡ false → (d : ClassName) → superclass_of world c ≡ Some d → ListNothing world d
   pub tabled : (d : ClassName) (table : Tabled) → superclass_of world c ≡ Some d → above ≡ Some table
       → IsTabled world d table
@@ -127,19 +118,14 @@ AreVisibleOver world home table above made =
 abbrev pub AreSameRows : List (List (Option MethodName)) → List (List (Option MethodName)) → Type 0
 AreSameRows old new = (asker : ℕ) → row_at new asker ≡ row_at old asker
 
--- a row of a class's record, by the interface that it names
-abbrev pub listed_row : List Shape → ℕ → Implemented → Option Listed
-listed_row world home row =
-    option_map (λ c. record { interface = c; indexes = row.indexes }) (class_named world home row.interface)
-
--- the table of a class's record, over that of the class above: the record's two tables of methods, and what it lists
+-- the table of a class's record, over that of the class above: the record's two tables of methods, and whether it lists
+-- any interface
 pub record IsTableOver (world : List Shape) (home : ℕ) (public visible : VirtualTable) (rows : List Implemented)
     (above : Tabled) (depth : ℕ) (jump : Jump) (made : Tabled) : Type 0 where
   pub deep : made.depth ≡ depth
   pub jumps : made.jump ≡ jump
   pub methods : IsRowOver world home public above.public made.public
   pub package_methods : AreVisibleOver world home visible above.visible made.visible
-  pub listing : made.listed ≡ filter_map (listed_row world home) rows ++ above.listed
   pub any : made.lists ≡ lists_any rows above.lists
 
 -- which of its package's classes a class is

@@ -1,14 +1,12 @@
-//! How far the tables of classes go, and what they list: for those who make tables of their own from them.
+//! How far the tables of classes go, and whether they may list interfaces: for those who make tables of their own from
+//! them.
 
-ghost use Rattle.std.specs.Prelude.{◌≡◌, ◌+◌, ◌≤◌, ◌<◌, ℕ, None, false, true, IfSome, IfNone};
-ghost use Rattle.jc_classes.specs.Listed.{AreListedBy, ListNothing};
+ghost use Rattle.std.specs.Prelude.{◌≡◌, ◌+◌, ◌≤◌, ◌<◌, ℕ, None, false, true};
+ghost use Rattle.jc_classes.specs.Listed.{ListNothing};
 ghost use Rattle.jc_classes.specs.Methods.{FindsNothingElse, is_among, virtual_method_of};
-ghost use Rattle.jc_classes.specs.Subtype.{has_whole_chain};
 
 use crate::table::ClassTable;
-use crate::tables::ListedInterface;
 use crate::walk::{MOST_CLASSES, anchor_behind};
-use jc_base::Shared;
 use jc_names::{ClassName, PackagePlace};
 
 /// Places of packages, from the first to in front of the end.
@@ -103,18 +101,6 @@ impl ClassTable {
         match self.table_of(class) {
             Some(table) => table.visible_tokens(place),
             None => 128,
-        }
-    }
-
-    /// What a class and its superclasses list, the nearest class's first. There is no answer only where neither a class
-    /// nor an interface stands there, or where the superclass chain doesn't come to its end.
-    pub fn listed_interfaces(&self, class: ClassName) -> Option<&[Shared<ListedInterface>]>
-        ensures rows { IfSome result (λ rows. AreListedBy self.now class rows.now) }
-        ensures none { IfNone result (has_whole_chain self.now class ≡ false) }
-    {
-        match self.table_of(class) {
-            Some(table) => Some(table.listed()),
-            None => None,
         }
     }
 

@@ -76,21 +76,6 @@ impl ClassTable {
         }
     }
 
-    /// The virtual tokens of an interface's methods, as the nearest class that lists it has them: what the class's
-    /// table has, or what a walk finds where it has none.
-    fn listing(&self, class: ClassName, interface: ClassName) -> Option<&[u8]>
-        ensures { option_map (λ indexes. indexes.now) result
-            ≡ found (interface_visit self.now interface) self.now class }
-    {
-        match self.table_of(class) {
-            Some(table) => table.indexes(interface),
-            None => {
-                let row = self.walked_row(class, interface)?;
-                Some(&row.indexes)
-            }
-        }
-    }
-
     /// The row for an interface of the nearest class that lists it, by a walk along the superclasses. Where it comes
     /// again to a class that it remembers, there is none.
     fn walked_row(&self, class: ClassName, interface: ClassName) -> Option<&ImplementedInterface>
@@ -134,8 +119,8 @@ impl ClassTable {
     ) -> Option<MethodName>
         ensures { result ≡ interface_method_of self.now class interface token }
     {
-        let indexes = self.listing(class, interface)?;
-        let index = indexes.get(usize::from(token)).copied()?;
+        let row = self.walked_row(class, interface)?;
+        let index = row.indexes.get(usize::from(token)).copied()?;
         if index >= PACKAGE_VISIBLE {
             return None;
         }

@@ -29,5 +29,4 @@ pub use methods::method_name;
 pub use shape::{Class, Export, Field, ImplementedInterface, Method, PackageShape};
 pub use subtypes::{found_subtypes_are_subtypes, superclass_laws};
 pub use table::ClassTable;
-pub use tables::ListedInterface;
 pub use walk::anchor_behind;

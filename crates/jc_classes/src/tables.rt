@@ -1,23 +1,20 @@
 //! Tables of the methods of classes, made from those of the classes above.
 
-ghost use Rattle.std.specs.Prelude.{◌≡◌, ℕ, suc, ◌+◌, ◌-◌, ◌<◌, ◌≤◌, ◌++◌, List, Some, None, [], length, set};
-ghost use Rattle.std.specs.Prelude.{unwrap_or};
+ghost use Rattle.std.specs.Prelude.{◌≡◌, ℕ, suc, ◌-◌, ◌<◌, ◌≤◌, List, Some, None, [], length, set, unwrap_or};
 ghost use Rattle.std.specs.Prelude.{IfOk};
-ghost use Rattle.std.specs.List.{filter_map};
-ghost use Rattle.std.specs.Option.{option_map, option_to_list};
+ghost use Rattle.std.specs.Option.{option_map};
 ghost use Rattle.jc_cap_desc.specs.Shape.{Shape};
 ghost use Rattle.jc_classes.specs.PrivatePlaces.{place_at};
-ghost use Rattle.jc_classes.specs.Listed.{indexes_in};
-ghost use Rattle.jc_classes.specs.PrivateTables.{no_methods, row_at, row_entry, entry_in, depth_above, listed_row};
+ghost use Rattle.jc_classes.specs.PrivateTables.{no_methods, row_at, row_entry, entry_in, depth_above};
 ghost use Rattle.jc_classes.specs.PrivateTables.{AreSameRows, AreVisibleOver, IsRowOver, IsTableOver, IsTabled};
 ghost use Rattle.jc_classes.specs.PrivateTables.{IsTabledAbove, LeadsUp};
 ghost use Rattle.jc_classes.specs.Walk.{most_classes};
 ghost use Rattle.jc_classes.specs.World.{class_at};
 
-use crate::copies::{all_shared, put_shared};
+use crate::copies::all_shared;
 use crate::methods::PACKAGE_VISIBLE;
 use crate::places::{make_room, place_at};
-use crate::shape::{Body, Class, ClassBody, ImplementedInterface, Table};
+use crate::shape::{Body, Class, ClassBody, Table};
 use crate::shapes::Shapes;
 use crate::walk::Visit;
 use jc_base::Shared;
@@ -43,37 +40,6 @@ impl Model for MethodRow {
     ghost view = { λ r. r.methods.items };
 }
 
-/// An interface, and under which virtual tokens a class has its methods.
-#[derive(Drop)]
-pub struct ListedInterface {
-    interface: ClassName,
-    indexes: Vec<u8>,
-}
-
-impl Model for ListedInterface {
-    ghost use Rattle.jc_classes.specs.Listed.{Listed};
-
-    ghost Value = { Listed };
-
-    ghost view = { λ l. record { interface = l.interface; indexes = l.indexes.items } };
-}
-
-impl ListedInterface {
-    /// The interface.
-    pub fn interface(&self) -> ClassName
-        ensures { result ≡ self.now.interface }
-    {
-        self.interface
-    }
-
-    /// By the interface's tokens: under which virtual tokens the class has its methods.
-    pub fn indexes(&self) -> &[u8]
-        ensures { result.now ≡ self.now.indexes }
-    {
-        &self.indexes
-    }
-}
-
 /// The package-visible methods of a class, for each package that may ask.
 #[derive(Drop)]
 pub(crate) struct VisibleRows {
@@ -85,21 +51,6 @@ impl Model for VisibleRows {
     ghost use Rattle.jc_names.specs.declared.name.MethodName.{MethodName};
 
     ghost Value = { List (List (Option MethodName)) };
-
-    ghost view = { λ r. r.rows.items };
-}
-
-/// What a class and its superclasses list. Each row is shared with the classes below.
-#[derive(Drop)]
-pub(crate) struct ListedRows {
-    rows: Vec<Shared<ListedInterface>>,
-}
-
-impl Model for ListedRows {
-    ghost use Rattle.std.specs.Prelude.{List};
-    ghost use Rattle.jc_classes.specs.Listed.{Listed};
-
-    ghost Value = { List Listed };
 
     ghost view = { λ r. r.rows.items };
 }
@@ -124,8 +75,6 @@ pub(crate) struct MethodTable {
     public: Shared<MethodRow>,
     /// The package-visible methods.
     visible: Shared<VisibleRows>,
-    /// The interfaces, those of the nearest class first.
-    listed: Shared<ListedRows>,
     /// Whether the class or one above it may list any.
     lists: bool,
 }
@@ -140,7 +89,6 @@ impl Model for MethodTable {
       jump = t.jump;
       public = t.public;
       visible = t.visible;
-      listed = t.listed;
       lists = t.lists;
     } };
 }
@@ -198,9 +146,6 @@ impl MethodTable {
         let visible = VisibleRows {
             rows: Vec::new(alloc),
         };
-        let listed = ListedRows {
-            rows: Vec::new(alloc),
-        };
         Ok(MethodTable {
             depth: 1,
             jump: Jump {
@@ -209,7 +154,6 @@ impl MethodTable {
             },
             public: MethodRow::empty(alloc)?,
             visible: Shared::new(alloc, visible)?,
-            listed: Shared::new(alloc, listed)?,
             lists: false,
         })
     }
@@ -274,29 +218,11 @@ impl MethodTable {
         }
     }
 
-    /// What the class and its superclasses list.
-    pub(crate) fn listed(&self) -> &[Shared<ListedInterface>]
-        ensures { result.now ≡ self.now.listed }
-    {
-        &self.listed.get().rows
-    }
-
     /// Whether the class or a superclass may list an interface.
     pub(crate) fn lists(&self) -> bool
         ensures { result ≡ self.now.lists }
     {
         self.lists
-    }
-
-    /// The virtual tokens of an interface's methods.
-    pub(crate) fn indexes(&self, interface: ClassName) -> Option<&[u8]>
-        ensures { option_map (λ i. i.now) result ≡ indexes_in self.now.listed interface }
-    {
-        let found = self
-            .listed()
-            .iter()
-            .find(|l| l.get().interface.is(interface))?;
-        Some(&found.get().indexes)
     }
 }
 
@@ -469,61 +395,6 @@ impl Shapes {
         Shared::new(alloc, self.visible_made(alloc, home, table, above.get())?)
     }
 
-    /// Puts a row of a class's record, if the interface is there.
-    fn put_listed(
-        &self,
-        alloc: Global,
-        home: PackagePlace,
-        row: &ImplementedInterface,
-        listed: &mut Vec<Shared<ListedInterface>>,
-    ) -> Result<(), AllocError>
-        ensures { IfOk result (λ u.
-            listed.new.items ≡ listed.old.items ++ option_to_list (listed_row self.now home row.now)) }
-    {
-        if let Some(interface) = self.class_named(home, row.interface) {
-            let indexes = Vec::from_slice(alloc, &row.indexes)?;
-            let shared = Shared::new(alloc, ListedInterface { interface, indexes })?;
-            listed.push(shared)?;
-        }
-        Ok(())
-    }
-
-    /// The interfaces that a class's record lists.
-    #[tactic(auto, using(crate::proofs::Tabling::one_listed))]
-    fn own_listed(
-        &self,
-        alloc: Global,
-        home: PackagePlace,
-        rows: &[ImplementedInterface],
-    ) -> Result<Vec<Shared<ListedInterface>>, AllocError>
-        ensures { IfOk result (λ made. made.items ≡ filter_map (listed_row self.now home) rows.now) }
-    {
-        let mut listed = Vec::new(alloc);
-        for row in rows {
-            self.put_listed(alloc, home, row, &mut listed)?;
-        }
-        Ok(listed)
-    }
-
-    /// The interfaces of a class: those that its record lists, and then those of the class above, whose rows are shared
-    /// one by one, and all at once where the record lists none.
-    fn listed_over(
-        &self,
-        alloc: Global,
-        home: PackagePlace,
-        rows: &[ImplementedInterface],
-        above: &Shared<ListedRows>,
-    ) -> Result<Shared<ListedRows>, AllocError>
-        ensures { IfOk result (λ made. made ≡ filter_map (listed_row self.now home) rows.now ++ above.now) }
-    {
-        if rows.len() == 0 {
-            return above.share();
-        }
-        let mut listed = self.own_listed(alloc, home, rows)?;
-        put_shared(&mut listed, &above.get().rows)?;
-        Shared::new(alloc, ListedRows { rows: listed })
-    }
-
     /// The table of a class's record, over that of the class above.
     fn table_over(
         &self,
@@ -542,7 +413,6 @@ impl Shapes {
             jump,
             public: self.row_over(alloc, home, &body.public_methods, &above.public)?,
             visible: self.visible_over(alloc, home, &body.package_methods, &above.visible)?,
-            listed: self.listed_over(alloc, home, &body.interfaces, &above.listed)?,
             lists: body.interfaces.len() != 0 || above.lists,
         })
     }

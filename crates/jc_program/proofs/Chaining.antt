@@ -1,40 +1,37 @@
 -- Classes and their superclasses.
-use Rattle.std.proofs.Common.{◌≡◌, ℕ, false, true, List, Option, Some, None, is_some, arith, refl, ap}
-use Rattle.std.specs.Option.{option_and_then}
+use Rattle.std.proofs.Common.{◌≡◌, true, List, Option, Some, None, is_some, refl, sym, ap, subst, ◌∙◌}
+use Rattle.std.proofs.lemmas.Option.{cond_some, option_and_then_some}
 use Rattle.jc_cap_desc.specs.Shape.{ClassShape, Shape}
-use Rattle.jc_classes.specs.Methods.{interface_visit}
-use Rattle.jc_classes.specs.Subtype.{has_whole_chain}
-use Rattle.jc_classes.specs.Walk.{found, most_classes, walk}
-use Rattle.jc_classes.specs.World.{class_at}
-use Rattle.jc_link.specs.Sound.{IsSound}
+use Rattle.jc_classes.specs.Walk.{most_classes}
+use Rattle.jc_classes.specs.World.{class_at, class_named, class_spelled, if_there, superclass_of}
+use Rattle.jc_names.specs.Names.{home_of}
 use Rattle.jc_names.specs.declared.name.ClassName.{ClassName}
-use Rattle.jc_program.proofs.Same.{true_false}
+use Rattle.jc_program.specs.Classes.{HasNumber, HaveWordOffsets, class_names}
+use Rattle.jc_program.proofs.Counting.{numbered}
+use Rattle.jc_program.proofs.Wording.{word_offset}
 
 pub most_is : most_classes ≡ 17_085
 unfolding most_classes
 most_is = refl
 
--- ---- a class that isn't there
+-- a superclass is there
+above_there : (world : List Shape) (c d : ClassName) → superclass_of world c ≡ Some d
+    → (k : ClassShape) × (class_at world d ≡ Some k)
+above_there world c d e =
+    option_and_then_some (class_named world (home_of c)) _ d e (λ ref at named.
+    option_and_then_some (if_there world) (class_spelled world (home_of c) ref) d named (λ b spelled there.
+    let r = cond_some (is_some (class_at world b)) b d there in
+    by_class (class_at world d) refl (sym (ap (λ x. is_some (class_at world x)) r.1) ∙ r.0)))
+  where
+    by_class : (o : Option ClassShape) → class_at world d ≡ o → is_some o ≡ true
+        → (k : ClassShape) × (class_at world d ≡ Some k)
+    by_class None at t = absurd cc
+    by_class (Some k) at t = (k, at)
 
-nothing : {A B : Type 0} (f : A → Option B) (o : Option A) → o ≡ None → option_and_then f o ≡ None
-nothing f o none = ap (option_and_then f) none
-
-module _ (world : List Shape) (c : ClassName) (none : class_at world c ≡ None) where
-  pub not_listed : (interface : ClassName) → found (interface_visit world interface) world c ≡ None
-  not_listed interface = within most_classes
-    where
-      within : (n : ℕ) → walk (interface_visit world interface) world n c ≡ None
-      within n = grind (arith, nothing)
-
--- ---- a class that is
-
-module _ (world : List Shape) (c : ClassName) (sound : IsSound world) where
-  -- in a sound world the chain of each class that is there comes to its end
-  whole_chain : (k : ClassShape) → class_at world c ≡ Some k → has_whole_chain world c ≡ true
-  whole_chain k there = grind (arith, Option, is_some)
-
-  pub not_there : has_whole_chain world c ≡ false → class_at world c ≡ None
-  not_there e = by_class (class_at world c) refl
-    where
-      by_class : (o : Option ClassShape) → class_at world c ≡ o → class_at world c ≡ None
-      by_class o h1 = grind (arith, None, Some, true_false, whole_chain)
+-- and has a number
+pub above_number : (world : List Shape) (names : List ClassName) → names ≡ class_names world → HaveWordOffsets world
+    → (c d : ClassName) → superclass_of world c ≡ Some d → HasNumber names d
+above_number world names are words c d e =
+    let k = above_there world c d e in
+    subst (λ (ns : List ClassName). HasNumber ns d) (sym are)
+    ((numbered world).numbers d k.0 (word_offset world d k.0 words k.1) k.1)

@@ -11,13 +11,14 @@ use Rattle.jc_link.specs.Linked.{IsKnown, IsWorld, LinkedBody, World}
 use Rattle.jc_link.specs.Sound.{IsSound}
 use Rattle.jc_names.specs.Names.{home_at}
 use Rattle.jc_names.specs.declared.name.ClassName.{ClassName}
-use Rattle.jc_program.specs.Called.{AreCalled, AreInterfaceCalls, AreVisible, keyed_at}
+use Rattle.jc_program.specs.Called.{AreCalled, AreVisible}
 use Rattle.jc_program.specs.ClassRows.{AreClassRows}
 use Rattle.jc_program.specs.Classes.{HaveWordOffsets, class_names}
 use Rattle.jc_program.specs.Entries.{AreEntries}
+use Rattle.jc_program.specs.InterfaceRows.{AreInterfaceRows, class_interfaces}
 use Rattle.jc_program.specs.MemberTokens.{AreMemberTokens}
 use Rattle.jc_program.specs.Methods.{AreLoaded, LoadedMethod, methods_of}
-use Rattle.jc_program.specs.PrivateCalled.{AreListed, HasCalled, HasListed, HasVisible}
+use Rattle.jc_program.specs.PrivateCalled.{AreListed, HasCalled, HasVisible}
 use Rattle.jc_program.specs.PrivateClassRows.{HaveRows}
 use Rattle.jc_program.specs.PrivateClasses.{HaveLastWordOffsets}
 use Rattle.jc_program.specs.PrivateEntries.{pool_of}
@@ -26,8 +27,8 @@ use Rattle.jc_program.specs.declared.program.Program.{Program}
 use Rattle.jc_program.proofs.Calling.{get_last}
 use Rattle.jc_program.proofs.Enlarging.{lies_behind}
 use Rattle.jc_program.proofs.Extending.{entries_grown, loaded_grown, number_behind, words_grown}
-use Rattle.jc_program.proofs.Growing.{interface_lists, rows_stay, tokens_stay}
-use Rattle.jc_program.proofs.Growing.{entry_stays, virtual_lists, visible_lists}
+use Rattle.jc_program.proofs.Growing.{entry_stays, interface_rows_stay, rows_stay, tokens_stay, virtual_lists}
+use Rattle.jc_program.proofs.Growing.{visible_lists}
 
 -- the last of bodies with one more
 last_of : (bodies all : List LinkedBody) (body d : LinkedBody) → all ≡ bodies ++ body ∷ []
@@ -48,7 +49,8 @@ pub record Composed (p : Program) (world : World) (shapes : List Shape) (body : 
   pub words : HaveLastWordOffsets shapes → HaveWordOffsets world.shapes
   pub virtual : AreListed (HasCalled shapes ms 0 0 128) names (length p.virtual_methods) p.virtual_methods
   pub visible : AreListed (HasVisible shapes ms) names (length p.visible_methods) p.visible_methods
-  pub interfaces : AreListed (HasListed shapes ms names) names (length p.interface_methods) p.interface_methods
+  pub interfaces : p.interface_methods
+      ≡ map (class_interfaces shapes names) (take (length p.interface_methods) names)
   pub rows : HaveRows shapes names (length p.rows) p.rows
   pub tokens : AreMemberTokens world.shapes p.member_tokens
 
@@ -182,18 +184,13 @@ module _ (all_lookups : (before after : List Shape) → LiesWithin before after 
             (subst (λ ns. AreVisible before p.methods ns p.visible_methods) is.tables.classes
             is.tables.visible_methods))
 
-        known_before : (number other token : ℕ) → length (class_names before) ≤ other
-            → keyed_at p.interface_methods number other token ≡ None
-        known_before number other token past = grind (arith, length)
-
-        interfaces_here : AreListed (HasListed shapes ms names) names (length p.interface_methods) p.interface_methods
+        interfaces_here : p.interface_methods
+            ≡ map (class_interfaces shapes names) (take (length p.interface_methods) names)
         interfaces_here =
-            moved (λ s ns. AreListed (HasListed s ms ns) ns (length p.interface_methods) p.interface_methods)
-            (interface_lists before is.bound.0 keeps (stands before) sound_before two p.methods ms k home begins
-            behind p.interface_methods
-            (subst (λ ns. AreInterfaceCalls before p.methods ns p.interface_methods) is.tables.classes
-            is.tables.interface_methods)
-            known_before (is.tables.counts.interface_methods ∙ ap length is.tables.classes))
+            moved (λ s ns. p.interface_methods ≡ map (class_interfaces s ns) (take (length p.interface_methods) ns))
+            (interface_rows_stay before is.bound.0 keeps (stands before) sound_before two p.interface_methods
+            (subst (λ ns. AreInterfaceRows before ns p.interface_methods) is.tables.classes is.tables.interfaces)
+            (is.tables.counts.interface_methods ∙ ap length is.tables.classes))
 
         rows_here : HaveRows shapes names (length p.rows) p.rows
         rows_here =

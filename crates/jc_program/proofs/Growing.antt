@@ -1,24 +1,23 @@
 -- What tables of a world hold stays right in the world with one package more.
 use Rattle.std.proofs.Common.{◌≡◌, ◌⊎◌, inl, inr, ℕ, zero, suc, ◌+◌, ◌-◌, ◌<◌, ◌≤◌, Bool, true, false, cond}
-use Rattle.std.proofs.Common.{List, [], ◌∷◌, length, take, Option, Some, None, is_some, slice_get}
+use Rattle.std.proofs.Common.{List, [], ◌∷◌, length, map, take, Option, Some, None, is_some, slice_get}
 use Rattle.std.proofs.Common.{unwrap_or, nat_lt, refl, sym, ap, subst, ◌∙◌, arith, length-append}
 use Rattle.std.proofs.lemmas.Bool.{cases_lt, ne_eqb}
 use Rattle.std.proofs.lemmas.Iterator.Adapters.{position_from-zero}
+use Rattle.std.proofs.lemmas.List.{take-append-le, take_all}
 use Rattle.std.proofs.lemmas.Option.{cond_some, option_and_then_some}
-use Rattle.std.specs.List.{position, position_from}
-use Rattle.std.specs.Option.{option_and_then, option_map_or}
+use Rattle.std.proofs.Math.Path.{fun_ext}
+use Rattle.std.specs.List.{filter_map, position, position_from}
+use Rattle.std.specs.Option.{option_and_then, option_map, option_map_or}
 use Rattle.jc_api.specs.declared.class.ApiClass.{ApiClass}
 use Rattle.jc_base.specs.Signature.{Signature}
 use Rattle.jc_base.specs.declared.class_ref.ClassRef.{ClassRef}
 use Rattle.jc_cap.specs.Interfaces.{Implemented}
-use Rattle.jc_cap.specs.declared.record.RecordBody.{RecordBody}
-use Rattle.jc_cap.specs.declared.record.RecordBody.TheVariants.{Interface, Class}
 use Rattle.jc_cap_desc.specs.Shape.{ClassShape, Shape}
 use Rattle.jc_classes.specs.Growth.{IsMethodWithin, IsWithin, KeepsAllLookups, StandWithin, grown}
-use Rattle.jc_classes.specs.Methods.{indexes_visit, interface_method_of, interface_visit, is_this, listing_visit}
-use Rattle.jc_classes.specs.Methods.{package_visible, public_method_of, row_for, virtual_method_of}
+use Rattle.jc_classes.specs.Methods.{package_visible, virtual_method_of}
+use Rattle.jc_classes.specs.Record.{interface_rows}
 use Rattle.jc_classes.specs.Subtype.{by_superclass, same}
-use Rattle.jc_classes.specs.Walk.{found, found_from, walk}
 use Rattle.jc_classes.specs.World.{class_at, class_named, class_spelled, if_there, superclass_of}
 use Rattle.jc_link.specs.Growth.{KeepsAllLinking}
 use Rattle.jc_link.specs.Sound.{IsSound}
@@ -27,19 +26,19 @@ use Rattle.jc_names.specs.declared.name.ClassName.{ClassName}
 use Rattle.jc_names.specs.declared.name.ClassName.TheVariants.{Api}
 use Rattle.jc_names.specs.declared.name.MethodName.{MethodName}
 use Rattle.jc_names.specs.declared.name.MethodName.TheVariants as Named
-use Rattle.jc_program.specs.Called.{AreCalled, AreInterfaceCalls, AreVisible, KeyedTable, called_of, interface_call_of}
-use Rattle.jc_program.specs.Called.{keyed_at}
-use Rattle.jc_program.specs.Classes.{class_names, class_number}
+use Rattle.jc_program.specs.Called.{AreCalled, AreVisible, KeyedTable, called_of, keyed_at}
+use Rattle.jc_program.specs.Classes.{class_names, class_number, names_in}
 use Rattle.jc_program.specs.ClassRows.{AreClassRows, class_row_of}
 use Rattle.jc_program.specs.Entries.{method_entry}
+use Rattle.jc_program.specs.InterfaceRows.{AreInterfaceRows, ClassInterfaces, IndexRow, class_interfaces, index_row}
+use Rattle.jc_program.specs.InterfaceRows.{own_rows}
 use Rattle.jc_program.specs.MemberTokens.{AreMemberTokens}
 use Rattle.jc_program.specs.Methods.{LoadedMethod, is_named}
-use Rattle.jc_program.specs.PrivateCalled.{AreListed, HasCalled, HasListed, HasVisible}
+use Rattle.jc_program.specs.PrivateCalled.{AreListed, HasCalled, HasVisible}
 use Rattle.jc_program.specs.PrivateClassRows.{HaveRows}
 use Rattle.jc_entries.specs.declared.called.Called.{Called}
 use Rattle.jc_entries.specs.declared.called.Called.TheVariants.{Nothing}
 use Rattle.jc_program.specs.declared.class_rows.ClassRow.{ClassRow}
-use Rattle.jc_program.specs.declared.interfaces.InterfaceCall.TheVariants.{NotListed, Listed}
 use Rattle.jc_program.proofs.Counting.{get_front, is_there, keeps_numbers, new_at_home}
 use Rattle.jc_program.proofs.Same.{is_placed, name_itself, named, same_name}
 
@@ -72,6 +71,12 @@ then_same_at f g o alike = grind arith
 then_none : {A B : Type 0} (f : A → Option B) (o : Option A) → ((a : A) → o ≡ Some a → f a ≡ None)
     → option_and_then f o ≡ None
 then_none f o none = grind arith
+
+same_mapped : {A B : Type 0} (f g : A → B) (xs : List A) → ((n : ℕ) (x : A) → slice_get xs n ≡ Some x → f x ≡ g x)
+    → map f xs ≡ map g xs
+same_mapped f g [] alike = refl
+same_mapped f g (x ∷ xs) alike =
+    ap (λ y. y ∷ map f xs) (alike zero x refl) ∙ ap (λ ys. g x ∷ ys) (same_mapped f g xs (λ n. alike (suc n)))
 
 -- ---- classes
 
@@ -133,33 +138,7 @@ module _ (before : List Shape) (more : Shape) (keeps : KeepsAllLookups before (g
       → length rows ≡ length names → HaveRows after later (length rows) rows
   rows_stay linking rows are count = grind (arith, names_before, row_stays, named_within)
 
-  -- ---- what lists an interface
-
-  listed_stays : (interface : ClassName) (home : ℕ) (body : RecordBody) → home < length before
-      → listing_visit after interface home body ≡ listing_visit before interface home body
-  listed_stays interface home (Interface r) less = refl
-  listed_stays interface home (Class r) less = ap indexes_visit (rows_for r.interfaces)
-    where
-      rows_for : (rows : List Implemented) → row_for after interface home rows ≡ row_for before interface home rows
-      rows_for rows = grind (arith, keeps.references)
-
-  walk_stays : (interface : ClassName) (steps : ℕ) (c : ClassName) → IsWithin before c
-      → walk (interface_visit after interface) after steps c ≡ walk (interface_visit before interface) before steps c
-  walk_stays interface zero c w = refl
-  walk_stays interface (suc steps) c w =
-      let now = walk (interface_visit after interface) after steps in
-      let old = walk (interface_visit before interface) before steps in
-      ap (λ (o : Option ClassShape). option_and_then
-      (λ k. found_from (interface_visit after interface c k) (option_and_then now (superclass_of after c))) o)
-      (keeps.classes c w)
-      ∙ ap (λ (o : Option ClassName). option_and_then
-      (λ k. found_from (interface_visit after interface c k) (option_and_then now o)) (class_at before c))
-      (keeps.superclasses c w)
-      ∙ ap (λ (o : Option (List ℕ)). option_and_then
-      (λ k. found_from (interface_visit after interface c k) o) (class_at before c))
-      (then_same_at now old (superclass_of before c) (λ d e. walk_stays interface steps d (above_within c d w e)))
-      ∙ then_same _ _ (λ (k : ClassShape). ap (λ v. found_from v (option_and_then old (superclass_of before c)))
-      (listed_stays interface (home_of c) k.body w)) (class_at before c)
+  -- ---- rows of interfaces
 
   -- what a reference finds is there
   reference_within : (home : ℕ) (ref : ClassRef) (d : ClassName) → class_named before home ref ≡ Some d
@@ -169,32 +148,43 @@ module _ (before : List Shape) (more : Shape) (keeps : KeepsAllLookups before (g
       let r = cond_some (is_some (class_at before c)) c d there in
       subst (IsWithin before) r.1 (there_within c r.0))
 
-  -- so no class that was there lists an interface of the new package
-  not_this : (interface : ClassName) → home_of interface ≡ length before → (o : Option ClassName)
-      → ((d : ClassName) → o ≡ Some d → IsWithin before d) → is_this interface o ≡ false
-  not_this interface new o within = grind (arith, same_name)
+  number_named_stays : (o : Option ClassName) → ((d : ClassName) → o ≡ Some d → IsWithin before d)
+      → option_and_then (class_number later) o ≡ option_and_then (class_number names) o
+  number_named_stays o within = then_same_at _ _ o (λ d e. number_stays d (within d e))
 
-  no_row_for : (interface : ClassName) → home_of interface ≡ length before → (home : ℕ) (rows : List Implemented)
-      → row_for before interface home rows ≡ None
-  no_row_for interface new home [] = refl
-  no_row_for interface new home (row ∷ rows) =
-      ap (λ b. cond b (Some row) (row_for before interface home rows))
-      (not_this interface new (class_named before home row.interface) (reference_within home row.interface))
-      ∙ no_row_for interface new home rows
+  index_row_stays : (home : ℕ) → home < length before → (row : Implemented)
+      → index_row before names home row ≡ index_row after later home row
+  index_row_stays home less row =
+      sym (ap (λ (o : Option ClassName). option_map with_number (option_and_then (class_number later) o))
+      (keeps.references home row.interface less)
+      ∙ ap (option_map with_number) (number_named_stays (class_named before home row.interface)
+      (reference_within home row.interface)))
+    where
+      with_number : ℕ → IndexRow
+      with_number n = record { interface = n; indexes = row.indexes }
 
-  nothing_from : (interface : ClassName) → home_of interface ≡ length before → (home : ℕ) (body : RecordBody)
-      → found_from (listing_visit before interface home body) None ≡ None
-  nothing_from interface new home body = grind (arith, no_row_for)
+  interfaces_stay : (c : ClassName) → IsWithin before c
+      → class_interfaces before names c ≡ class_interfaces after later c
+  interfaces_stay c w =
+      ap (λ rows. with_rows rows (option_and_then (class_number names) (superclass_of before c)))
+      (ap (λ row. filter_map row (own_rows before c)) (fun_ext (index_row_stays (home_of c) w))
+      ∙ ap (λ (o : Option ClassShape). filter_map (index_row after later (home_of c))
+      (option_map_or (λ k. interface_rows k.body) o [])) (sym (keeps.classes c w)))
+      ∙ ap (with_rows (filter_map (index_row after later (home_of c)) (own_rows after c)))
+      (sym (ap (option_and_then (class_number later)) (keeps.superclasses c w)
+      ∙ number_named_stays (superclass_of before c) (λ d e. above_within c d w e)))
+    where
+      with_rows : List IndexRow → Option ℕ → ClassInterfaces
+      with_rows rows superclass = record { rows = rows; superclass = superclass }
 
-  none_listed : (interface : ClassName) → home_of interface ≡ length before → (steps : ℕ) (c : ClassName)
-      → walk (interface_visit before interface) before steps c ≡ None
-  none_listed interface new zero c = refl
-  none_listed interface new (suc steps) c =
-      then_none _ (class_at before c) (λ (k : ClassShape) e.
-      ap (found_from (interface_visit before interface c k))
-      (then_none (walk (interface_visit before interface) before steps) (superclass_of before c)
-      (λ d s. none_listed interface new steps d))
-      ∙ nothing_from interface new (home_of c) k.body)
+  pub interface_rows_stay : (classes : List ClassInterfaces) → AreInterfaceRows before names classes
+      → length classes ≡ length names → classes ≡ map (class_interfaces after later) (take (length classes) later)
+  interface_rows_stay classes are count =
+      are ∙ same_mapped _ _ names (λ n c at. interfaces_stay c (named_within n c at))
+      ∙ ap (map (class_interfaces after later)) (sym (ap (λ n. take n later) count
+      ∙ ap (take (length names)) (keeps_numbers before more).names
+      ∙ take-append-le (length names) names (names_in (length before) more) (omega arith)
+      ∙ take_all (length names) names (omega arith)))
 
   -- ---- methods
 
@@ -250,51 +240,3 @@ module _ (before : List Shape) (more : Shape) (keeps : KeepsAllLookups before (g
           ∙ are n (package_visible + token) asker c at_n (omega arith) (omega (arith, low))
           ∙ virtual_stays c (package_visible + token) (home_at asker) (named_within n c at_n);
     }
-
-    -- ---- methods of interfaces
-
-    public_within : (c : ClassName) (index : ℕ) (m : MethodName) → public_method_of before c index ≡ Some m
-        → IsMethodWithin before m
-    public_within c index m e = by_token (nat_lt index package_visible) e
-      where
-        by_token : (b : Bool) → cond b (virtual_method_of before c index 0) None ≡ Some m → IsMethodWithin before m
-        by_token true e = virtual_within c index 0 m e
-        by_token false e = absurd cc
-
-    method_within : (c interface : ClassName) (token : ℕ) (m : MethodName)
-        → interface_method_of before c interface token ≡ Some m → IsMethodWithin before m
-    method_within c interface token m e =
-        option_and_then_some _ (found (interface_visit before interface) before c) m e (λ indexes listed at.
-        option_and_then_some (public_method_of before c) (slice_get indexes token) m at
-        (λ index there. public_within c index m))
-
-    call_stays : (c interface : ClassName) (token : ℕ) → IsWithin before c
-        → interface_call_of before ms c interface token ≡ interface_call_of after grown_ms c interface token
-    call_stays c interface token w = grind (arith, is_some, walk_stays, all_called, method_within)
-
-    new_call : (c interface : ClassName) (token : ℕ) → IsWithin before c → home_of interface ≡ length before
-        → interface_call_of after grown_ms c interface token ≡ NotListed
-    new_call c interface token w new = grind (arith, is_some, walk_stays, none_listed)
-
-    pub interface_lists : (lists : List (List KeyedTable)) → AreInterfaceCalls before ms names lists
-        → ((number other token : ℕ) → length names ≤ other → keyed_at lists number other token ≡ None)
-        → length lists ≡ length names
-        → AreListed (HasListed after grown_ms later) later (length lists) lists
-    interface_lists lists are known count = record { count = refl; there = listed }
-      where
-        by_order : (n : ℕ) (c : ClassName) → slice_get names n ≡ Some c → (interface : ClassName) (other token : ℕ)
-            → class_number later interface ≡ Some other → (other < length names) ⊎ (length names ≤ other)
-            → option_map_or Listed (keyed_at lists n other token) NotListed
-            ≡ interface_call_of after grown_ms c interface token
-        by_order n c at interface other token e (inl old) =
-            let there = sym (names_before other old) ∙ named later interface other e in
-            are n other token c interface at (sym (number_stays interface (named_within other interface there)) ∙ e)
-            ∙ call_stays c interface token (named_within n c at)
-        by_order n c at interface other token e (inr new) =
-            ap (λ o. option_map_or Listed o NotListed) (known n other token new)
-            ∙ sym (new_call c interface token (named_within n c at)
-            (new_at_home before more other interface new (named later interface other e)))
-
-        listed : (n : ℕ) (c : ClassName) → n < length lists → slice_get later n ≡ Some c
-            → HasListed after grown_ms later c (unwrap_or (slice_get lists n) [])
-        listed n c less at = grind (arith, names_before, by_order, cases_lt, length, as_many)

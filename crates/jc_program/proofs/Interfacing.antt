@@ -1,37 +1,33 @@
--- Tables of the interfaces that classes list.
-use Rattle.std.proofs.Common.{◌≡◌, ℕ, zero, suc, ◌+◌, ◌<◌, ◌≤◌, ◌==◌, Bool, false, cond, List, [], ◌∷◌, ◌++◌, length}
-use Rattle.std.proofs.Common.{drop, Option, Some, None, is_some, slice_get, unwrap_or, refl, sym, ap, ◌∙◌, arith}
-use Rattle.std.proofs.lemmas.Bool.{eqb-true, ne_eqb}
-use Rattle.std.proofs.lemmas.Option.{slice_get-map, slice_get_past, slice_get_within}
+-- Rows of interfaces: the nearest class that lists an interface, by numbers and by names.
+use Rattle.std.proofs.Common.{◌≡◌, ℕ, zero, suc, ◌+◌, ◌<◌, ◌≤◌, ◌==◌, Bool, true, false, cond, List, [], ◌∷◌, ◌++◌}
+use Rattle.std.proofs.Common.{drop, length, map, Option, Some, None, is_some, nat_lt, slice_get, refl, sym, ap, ◌∙◌}
+use Rattle.std.proofs.Common.{arith}
+use Rattle.std.proofs.lemmas.Bool.{ltb-true}
+use Rattle.std.proofs.lemmas.Option.{slice_get-map}
 use Rattle.std.specs.List.{cons_option, filter_map, find}
-use Rattle.std.specs.Option.{option_and_then, option_map, option_map_or, option_to_list}
-use Rattle.jc_cap_desc.specs.Shape.{Shape}
-use Rattle.jc_classes.specs.Listed.{AreListedBy, Listed as Row, indexes_in}
-use Rattle.jc_classes.specs.Methods.{interface_visit, public_method_of}
-use Rattle.jc_classes.specs.Subtype.{has_whole_chain}
-use Rattle.jc_classes.specs.Walk.{found}
-use Rattle.jc_link.specs.Sound.{IsSound}
-use Rattle.jc_names.specs.Names.{is_same_name}
+use Rattle.std.specs.Option.{option_and_then, option_map, option_map_or, option_or, option_to_list}
+use Rattle.jc_cap.specs.Interfaces.{Implemented}
+use Rattle.jc_cap.specs.declared.record.RecordBody.{RecordBody}
+use Rattle.jc_cap.specs.declared.record.RecordBody.TheVariants.{Class, Interface}
+use Rattle.jc_cap_desc.specs.Shape.{ClassShape, Shape}
+use Rattle.jc_classes.specs.Methods.{indexes_visit, interface_method_of, interface_visit, is_this, listing_visit}
+use Rattle.jc_classes.specs.Methods.{package_visible, public_method_of, row_for, virtual_method_of}
+use Rattle.jc_classes.specs.Record.{interface_rows}
+use Rattle.jc_classes.specs.Walk.{found, found_from, most_classes, walk}
+use Rattle.jc_classes.specs.World.{class_at, class_named, superclass_of, superclass_ref}
+use Rattle.jc_names.specs.Names.{home_of}
 use Rattle.jc_names.specs.declared.name.ClassName.{ClassName}
-use Rattle.jc_program.specs.Called.{AreInterfaceCalls, KeyedTable, called_in, called_of, keyed_at}
-use Rattle.jc_program.specs.Classes.{class_number}
-use Rattle.jc_program.specs.Methods.{LoadedMethod}
-use Rattle.jc_program.specs.PrivateCalled.{AreListed, HasInterfaces, HasListed, index_called, table_for, table_with}
+use Rattle.jc_entries.specs.declared.called.Called.{Called}
 use Rattle.jc_entries.specs.declared.called.Called.TheVariants.{Nothing}
+use Rattle.jc_program.specs.Called.{AreCalled, AreInterfaceCalls, called_of, called_under}
+use Rattle.jc_program.specs.Classes.{HaveWordOffsets, class_names, class_number}
+use Rattle.jc_program.specs.InterfaceRows.{AreInterfaceRows, ClassInterfaces, IndexRow, class_interfaces, index_row}
+use Rattle.jc_program.specs.InterfaceRows.{indexes_at, indexes_from, indexes_in}
+use Rattle.jc_program.specs.Methods.{LoadedMethod}
 use Rattle.jc_program.specs.declared.interfaces.InterfaceCall.TheVariants.{NotListed, Listed}
-use Rattle.jc_program.proofs.Chaining.{not_listed, not_there}
-use Rattle.jc_program.proofs.Naming.{first_option, position_below}
+use Rattle.jc_program.proofs.Chaining.{above_number}
+use Rattle.jc_program.proofs.Naming.{first_option}
 use Rattle.jc_program.proofs.Same.{number_told}
-
--- a class that isn't there lists nothing
-pub none_listed : (world : List Shape) (c : ClassName) → IsSound world → has_whole_chain world c ≡ false
-    → AreListedBy world c []
-none_listed world c sound e interface = sym (not_listed world c (not_there world c sound e) interface)
-
-slice_get_behind : {A : Type 0} (xs : List A) (n : ℕ) → slice_get xs n ≡ None → length xs ≤ n
-slice_get_behind [] n none = omega arith
-slice_get_behind (x ∷ xs) zero none = absurd cc
-slice_get_behind (x ∷ xs) (suc n) none = let k = slice_get_behind xs n none in omega (arith, k)
 
 -- ---- what is left of a list
 
@@ -49,100 +45,132 @@ none_left h [] (suc i) past = refl
 none_left h (x ∷ xs) zero past = absurd (omega (arith, past))
 none_left h (x ∷ xs) (suc i) past = none_left h xs i (omega (arith, past))
 
--- ---- the table of an interface
+-- ---- the nearest class that lists an interface
 
-module _ (world : List Shape) (methods : List LoadedMethod) (names : List ClassName) (c interface : ClassName)
-    (number : ℕ) (is : class_number names interface ≡ Some number) where
-  abbrev table_of : List ℕ → KeyedTable
-  table_of indexes = table_with world methods c indexes number
+module _ (world : List Shape) (names : List ClassName) (interface : ClassName) (other : ℕ)
+    (is : class_number names interface ≡ Some other) where
+  abbrev with_number : Implemented → ℕ → IndexRow
+  with_number row n = record { interface = n; indexes = row.indexes }
 
-  abbrev is_key : KeyedTable → Bool
-  is_key t = t.key == number
-
-  of_rows : (rows : List Row) → find is_key (filter_map (table_for world methods names c) rows)
-      ≡ option_map table_of (indexes_in rows interface)
-  of_rows [] = refl
-  of_rows (row ∷ rows) =
-      by_number (class_number names row.interface)
-      ∙ ap (λ b. cond b (Some (table_of row.indexes)) (find is_key (filter_map (table_for world methods names c) rows)))
-      (number_told names interface number is row.interface)
-      ∙ by_name (is_same_name row.interface interface) (of_rows rows)
+  -- the first row for it in a class's record
+  own_row : (home : ℕ) (rows : List Implemented) → indexes_in (filter_map (index_row world names home) rows) other
+      ≡ option_map (λ (r : Implemented). r.indexes) (row_for world interface home rows)
+  own_row home [] = refl
+  own_row home (row ∷ rows) = by_name (class_named world home row.interface)
     where
-      by_key : (n : ℕ) (b : Bool) (rest : Option KeyedTable) → (n == number) ≡ b
-          → cond b (Some (table_with world methods c row.indexes n)) rest ≡ cond b (Some (table_of row.indexes)) rest
-      by_key n b rest h1 = grind (arith, Some, eqb-true)
+      abbrev rest : List IndexRow
+      rest = filter_map (index_row world names home) rows
 
-      by_number : (o : Option ℕ)
-          → find is_key (cons_option (option_map (table_with world methods c row.indexes) o)
-          (filter_map (table_for world methods names c) rows))
-          ≡ cond (option_map_or (λ n. n == number) o false) (Some (table_of row.indexes))
-          (find is_key (filter_map (table_for world methods names c) rows))
-      by_number o = grind (arith, None, Some, by_key)
+      by_test : (n : ℕ) (b : Bool) → (n == other) ≡ b → indexes_in (with_number row n ∷ rest) other
+          ≡ option_map (λ (r : Implemented). r.indexes) (cond b (Some row) (row_for world interface home rows))
+      by_test n true e = ap (λ b. option_map (λ (r : IndexRow). r.indexes) (cond b (Some (with_number row n))
+          (find (λ (r : IndexRow). r.interface == other) rest))) e
+      by_test n false e = ap (λ b. option_map (λ (r : IndexRow). r.indexes) (cond b (Some (with_number row n))
+          (find (λ (r : IndexRow). r.interface == other) rest))) e ∙ own_row home rows
 
-      by_name : (b : Bool) → find is_key (filter_map (table_for world methods names c) rows)
-          ≡ option_map table_of (indexes_in rows interface)
-          → cond b (Some (table_of row.indexes)) (find is_key (filter_map (table_for world methods names c) rows))
-          ≡ option_map table_of (option_map (λ (l : Row). l.indexes)
-          (cond b (Some row) (find (λ (l : Row). is_same_name l.interface interface) rows)))
-      by_name b h1 = grind arith
+      by_number : (o : Option ℕ) (b : Bool) → option_map_or (λ n. n == other) o false ≡ b
+          → indexes_in (cons_option (option_map (with_number row) o) rest) other
+          ≡ option_map (λ (r : Implemented). r.indexes) (cond b (Some row) (row_for world interface home rows))
+      by_number None true e = absurd cc
+      by_number None false e = own_row home rows
+      by_number (Some n) b e = by_test n b e
 
-  -- ---- what a call leads to
+      by_name : (o : Option ClassName)
+          → indexes_in (cons_option (option_map (with_number row) (option_and_then (class_number names) o)) rest) other
+          ≡ option_map (λ (r : Implemented). r.indexes)
+          (cond (is_this interface o) (Some row) (row_for world interface home rows))
+      by_name None = own_row home rows
+      by_name (Some d) = by_number (class_number names d) _ (number_told names interface other is d)
 
-  call_is : (token : ℕ) (o : Option (List ℕ))
-      → option_map_or Listed (option_map (λ (t : KeyedTable). called_in t.called token) (option_map table_of o))
-      NotListed
-      ≡ cond (is_some o) (Listed (called_of methods (option_and_then (λ indexes.
-      option_and_then (public_method_of world c) (slice_get indexes token)) o))) NotListed
-  call_is token None = refl
-  call_is token (Some indexes) =
-      ap (λ o. Listed (unwrap_or o Nothing)) (slice_get-map (index_called world methods c) indexes token)
-      ∙ ap Listed (by_index (slice_get indexes token))
-    where
-      by_index : (o : Option ℕ) → unwrap_or (option_map (index_called world methods c) o) Nothing
-          ≡ called_of methods (option_and_then (public_method_of world c) o)
-      by_index o = grind (arith, None, Some)
+  module _ (are : names ≡ class_names world) (words : HaveWordOffsets world) where
+    abbrev classes : List ClassInterfaces
+    classes = map (class_interfaces world names) names
 
-all_listed : (world : List Shape) (methods : List LoadedMethod) (names : List ClassName) (c : ClassName)
-    (rows : List Row) → AreListedBy world c rows
-    → HasInterfaces world methods names c (filter_map (table_for world methods names c) rows)
-all_listed world methods names c rows are interface number token is =
-    ap (λ (o : Option KeyedTable). option_map_or Listed (option_map (λ (t : KeyedTable). called_in t.called token) o)
-    NotListed)
-    (of_rows world methods names c interface number is rows
-    ∙ ap (option_map (λ indexes. table_with world methods c indexes number)) (are interface))
-    ∙ call_is world methods names c interface number is token (found (interface_visit world interface) world c)
+    -- the same is found by numbers and by names, in as many steps
+    walk_is : (steps number : ℕ) (c : ClassName) → slice_get names number ≡ Some c
+        → indexes_from classes other steps number ≡ walk (interface_visit world interface) world steps c
+    walk_is zero number c at = refl
+    walk_is (suc steps) number c at =
+        ap (option_and_then says) (slice_get-map (class_interfaces world names) names number
+        ∙ ap (option_map (class_interfaces world names)) at)
+        ∙ by_class (class_at world c) refl
+      where
+        abbrev says : ClassInterfaces → Option (List ℕ)
+        says k = option_or (indexes_in k.rows other)
+            (option_and_then (indexes_from classes other steps) k.superclass)
 
--- no table is for a number that no class has
-known_rows : (world : List Shape) (methods : List LoadedMethod) (names : List ClassName) (c : ClassName)
-    (rows : List Row) (number : ℕ) → length names ≤ number
-    → find (λ (t : KeyedTable). t.key == number) (filter_map (table_for world methods names c) rows) ≡ None
-known_rows world methods names c [] number past = refl
-known_rows world methods names c (row ∷ rows) number past =
-    by_number (class_number names row.interface) refl (known_rows world methods names c rows number past)
-  where
-    by_number : (o : Option ℕ) → class_number names row.interface ≡ o
-        → find (λ (t : KeyedTable). t.key == number) (filter_map (table_for world methods names c) rows) ≡ None
-        → find (λ (t : KeyedTable). t.key == number)
-        (cons_option (option_map (table_with world methods c row.indexes) o)
-        (filter_map (table_for world methods names c) rows)) ≡ None
-    by_number o h1 h2 = grind (arith, None, Some, position_below, ne_eqb)
+        abbrev by_names : ClassName → Option (List ℕ)
+        by_names = walk (interface_visit world interface) world steps
 
-pub rows_listed : (world : List Shape) (methods : List LoadedMethod) (names : List ClassName) (c : ClassName)
-    (rows : List Row) → AreListedBy world c rows
-    → HasListed world methods names c (filter_map (table_for world methods names c) rows)
-rows_listed world methods names c rows are = grind (arith, all_listed, known_rows)
+        above : (o : Option ClassName) → superclass_of world c ≡ o
+            → option_and_then (indexes_from classes other steps) (option_and_then (class_number names) o)
+            ≡ option_and_then by_names o
+        above None e = refl
+        above (Some d) e =
+            let has = above_number world names are words c d e in
+            ap (option_and_then (indexes_from classes other steps)) has.found
+            ∙ walk_is steps has.number d has.there
+
+        own : (body : RecordBody) (rest : Option (List ℕ)) → (superclass_ref body ≡ None → rest ≡ None)
+            → option_or (indexes_in (filter_map (index_row world names (home_of c)) (interface_rows body)) other) rest
+            ≡ found_from (listing_visit world interface (home_of c) body) rest
+        own (Interface r) rest none = none refl
+        own (Class r) rest none =
+            ap (λ (o : Option (List ℕ)). option_or o rest) (own_row (home_of c) r.interfaces)
+            ∙ by_row (row_for world interface (home_of c) r.interfaces)
+          where
+            by_row : (o : Option Implemented) → option_or (option_map (λ (r : Implemented). r.indexes) o) rest
+                ≡ found_from (indexes_visit o) rest
+            by_row None = refl
+            by_row (Some row) = refl
+
+        by_class : (o : Option ClassShape) → class_at world c ≡ o → says (class_interfaces world names c)
+            ≡ option_and_then (λ (k : ClassShape). found_from (interface_visit world interface c k)
+            (option_and_then by_names (superclass_of world c))) o
+        by_class None e = none_there
+          where
+            none_there : says (class_interfaces world names c) ≡ None
+            none_there = rw e refl
+        by_class (Some k) e =
+            ap (λ (l : Option ClassShape). option_or (indexes_in (filter_map (index_row world names (home_of c))
+            (option_map_or (λ (k : ClassShape). interface_rows k.body) l [])) other)
+            (option_and_then (indexes_from classes other steps)
+            (option_and_then (class_number names) (superclass_of world c)))) e
+            ∙ ap (option_or (indexes_in (filter_map (index_row world names (home_of c)) (interface_rows k.body)) other))
+            (above (superclass_of world c) refl)
+            ∙ own k.body (option_and_then by_names (superclass_of world c)) (λ none.
+            ap (λ (l : Option ClassShape). option_and_then by_names (option_and_then (class_named world (home_of c))
+            (option_and_then (λ (k : ClassShape). superclass_ref k.body) l))) e
+            ∙ ap (λ r. option_and_then by_names (option_and_then (class_named world (home_of c)) r)) none)
+
+-- ---- what a call leads to
 
 pub are_interface_calls : (world : List Shape) (methods : List LoadedMethod) (names : List ClassName)
-    (lists : List (List KeyedTable)) → AreListed (HasListed world methods names) names (length names) lists
-    → AreInterfaceCalls world methods names lists
-are_interface_calls world methods names lists made number other token c interface here there =
-    (made.there number c (slice_get_within names number c here) here).calls interface other token there
-
--- no class has a table for a number that no class has
-pub all_known : (world : List Shape) (methods : List LoadedMethod) (names : List ClassName)
-    (lists : List (List KeyedTable)) → AreListed (HasListed world methods names) names (length names) lists
-    → (number other token : ℕ) → length names ≤ other → keyed_at lists number other token ≡ None
-all_known world methods names lists made number other token past = by_name (slice_get names number) refl
+    (classes : List ClassInterfaces) (virtuals : List (List Called)) → names ≡ class_names world
+    → HaveWordOffsets world → AreInterfaceRows world names classes → AreCalled world methods names virtuals
+    → AreInterfaceCalls world methods names classes virtuals
+are_interface_calls world methods names classes virtuals are words rows called number other token c interface at is =
+    ap (λ (o : Option (List ℕ)). leads o)
+    (ap (λ cs. indexes_at cs other number) rows ∙ walk_is world names interface other is are words most_classes number c at)
+    ∙ by_found (found (interface_visit world interface) world c)
   where
-    by_name : (o : Option ClassName) → slice_get names number ≡ o → keyed_at lists number other token ≡ None
-    by_name o h1 = grind (arith, Some, slice_get_within, None, slice_get_behind, unwrap_or, slice_get_past)
+    abbrev leads : Option (List ℕ) → InterfaceCall
+    leads o = option_map_or (λ indexes.
+        Listed (option_map_or (called_under virtuals number) (slice_get indexes token) Nothing)) o NotListed
+
+    by_test : (index : ℕ) (b : Bool) → nat_lt index package_visible ≡ b
+        → cond b (called_at virtuals number index) Nothing
+        ≡ called_of methods (cond b (virtual_method_of world c index 0) None)
+    by_test index true e = called number index 0 c at (ltb-true index package_visible e)
+    by_test index false e = refl
+
+    by_index : (o : Option ℕ) → option_map_or (called_under virtuals number) o Nothing
+        ≡ called_of methods (option_and_then (public_method_of world c) o)
+    by_index None = refl
+    by_index (Some index) = by_test index (nat_lt index package_visible) refl
+
+    by_found : (o : Option (List ℕ)) → leads o
+        ≡ cond (is_some o) (Listed (called_of methods (option_and_then (λ indexes.
+        option_and_then (public_method_of world c) (slice_get indexes token)) o))) NotListed
+    by_found None = refl
+    by_found (Some indexes) = ap Listed (by_index (slice_get indexes token))

@@ -5,7 +5,7 @@ use Rattle.std.proofs.lemmas.List.{drop_all, drop-append-le, length-take, take-m
 use Rattle.jc_program.specs.Called.{KeyedTable}
 use Rattle.jc_program.specs.PrivateCalled.{AreShown, Lists, window_in, windows_in, with_tables}
 use Rattle.jc_program.specs.declared.keyed.Window.{Window}
-use Rattle.jc_program.proofs.Calling.{part_first, take_get_at}
+use Rattle.jc_program.proofs.Parting.{parts_within, take_get_at}
 use Rattle.jc_program.proofs.Laying.{part_before}
 
 abbrev lists : List (List KeyedTable) → List KeyedTable → Lists
@@ -34,11 +34,8 @@ module _ (shown : ℕ) (tables : List KeyedTable) (windows : List Window) (are :
 windows_within : (end : ℕ) (tables : List KeyedTable) (ws : List Window)
     → ((n : ℕ) (w : Window) → slice_get ws n ≡ Some w → w.start + w.count ≤ end)
     → windows_in (take end tables) ws ≡ windows_in tables ws
-windows_within end tables [] within = refl
-windows_within end tables (w ∷ ws) within =
-    ap (λ k. k ∷ windows_in (take end tables) ws)
-    (part_first tables w.start w.count end (within zero w refl))
-    ∙ ap (λ ks. window_in tables w ∷ ks) (windows_within end tables ws (λ n. within (suc n)))
+windows_within end tables =
+    parts_within (λ (w : Window). w.start) (λ (w : Window). w.count) (λ w shown. shown) tables end
 
 pub windows_kept : (end count : ℕ) (tables : List KeyedTable) (windows : List Window)
     → ((n : ℕ) (w : Window) → slice_get (take count windows) n ≡ Some w → w.start + w.count ≤ end)

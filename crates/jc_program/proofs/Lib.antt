@@ -1,6 +1,7 @@
 mod Catching
 mod Known
 mod Laying
+mod Parting
 mod Numbering
 mod Entering
 mod Finding

@@ -4,6 +4,8 @@ pub mod Entries
 pub mod PrivateEntries
 pub mod Classes
 pub mod PrivateClasses
+pub mod InterfaceRows
+pub mod PrivateInterfaceRows
 pub mod Called
 pub mod PrivateCalled
 pub mod BitRow

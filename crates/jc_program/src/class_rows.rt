@@ -23,7 +23,7 @@ use std::alloc::{AllocError, Global};
 use std::marker::Model;
 
 /// How many classes and interfaces there are at most.
-const MOST_CLASSES: u16 = 17_085;
+pub(crate) const MOST_CLASSES: u16 = 17_085;
 
 /// The interface whose objects other applets may call.
 const SHAREABLE: ClassName = ClassName::Api(ApiClass::Shareable);

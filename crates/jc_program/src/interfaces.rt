@@ -1,21 +1,28 @@
 //! The methods of interfaces that a world's classes have, by numbers and token.
 
-ghost use Rattle.std.specs.Prelude.{◌≡◌, ℕ, ◌≤◌, ◌==◌, ◌++◌, [], None, length, take, IfOk};
-ghost use Rattle.std.specs.Option.{option_to_list};
-ghost use Rattle.jc_classes.specs.Listed.{AreListedBy};
-ghost use Rattle.jc_link.specs.Sound.{IsSound};
-ghost use Rattle.jc_program.specs.Called.{AreInterfaceCalls, interface_call_at, keyed_at};
-ghost use Rattle.jc_program.specs.PrivateCalled.{AreListed, HasListed, table_for};
+ghost use Rattle.std.specs.Prelude.{◌≡◌, ℕ, ◌+◌, ◌≤◌, ◌==◌, ◌++◌, ◌∷◌, [], Some, length, map, slice_get, take};
+ghost use Rattle.std.specs.Prelude.{IfErr, IfOk};
+ghost use Rattle.std.specs.List.{filter_map};
+ghost use Rattle.std.specs.Option.{option_and_then, option_map, option_map_or, option_to_list};
+ghost use Rattle.jc_classes.specs.World.{class_named, superclass_of};
+ghost use Rattle.jc_entries.specs.declared.called.Called.TheVariants.{Nothing};
+ghost use Rattle.jc_program.specs.Called.{called_under, interface_call_at};
+ghost use Rattle.jc_program.specs.Classes.{class_number};
+ghost use Rattle.jc_program.specs.InterfaceRows.{AreInterfaceRows, class_interfaces, index_row, indexes_at, own_rows};
+ghost use Rattle.jc_program.specs.declared.interfaces.ListingClass.{ListingClass as TheClass};
 
-use crate::called::indexes_called;
+use crate::called::PACKAGE_VISIBLE;
+use crate::class_rows::MOST_CLASSES;
 use crate::classes::{ClassNumber, Classes};
-use crate::keyed::KeyedLists;
-use crate::methods::Methods;
-use jc_base::Shared;
-use jc_classes::{ClassTable, ListedInterface};
+use crate::index_rows::IndexRows;
+use crate::laid::start_of;
+use crate::tables::short_of;
+use crate::virtuals::VirtualMethods;
+use jc_base::ClassRef;
+use jc_classes::{ClassTable, ImplementedInterface};
 use jc_entries::Called;
-use jc_link::{World, built_worlds_are_sound};
-use jc_names::ClassName;
+use jc_link::World;
+use jc_names::{ClassName, PackagePlace};
 use std::alloc::{AllocError, Global};
 use std::marker::Model;
 
@@ -28,151 +35,201 @@ pub enum InterfaceCall {
     Listed(Called),
 }
 
-/// What a class and its superclasses list; nothing where no class stands there.
-#[tactic(auto, using(crate::proofs::Interfacing::none_listed))]
-fn listed_by(table: &ClassTable, class: ClassName) -> &[Shared<ListedInterface>]
-    requires sound { IsSound table.now }
-    ensures { AreListedBy table.now class result.now }
+/// Where the rows of a class begin among those of all, how many there are, and the number of its superclass: 12 bytes.
+#[derive(Clone, Copy)]
+pub(crate) struct ListingClass {
+    pub(crate) start: u32,
+    pub(crate) count: u16,
+    pub(crate) superclass: Option<u16>,
+}
+
+/// The class with a number.
+#[inline]
+fn class_at(classes: &[ListingClass], number: u16) -> Option<ListingClass>
+    ensures { result ≡ slice_get classes.now number }
 {
-    match table.listed_interfaces(class) {
-        Some(rows) => rows,
+    classes.get(usize::from(number)).copied()
+}
+
+/// Where the rows of a class end.
+fn row_end(class: ListingClass) -> usize
+    ensures { result ≡ class.start + class.count }
+{
+    class.start as usize + usize::from(class.count)
+}
+
+/// Where the rows of these classes end.
+fn rows_end(classes: &[ListingClass]) -> usize
+    ensures { (n : ℕ) (c : TheClass) → slice_get classes.now n ≡ Some c → c.start + c.count ≤ result }
+{
+    let mut end = 0;
+    for class in classes {
+        end = end.max(row_end(*class));
+    }
+    end
+}
+
+/// The rows of a class's own record; none where no class stands there.
+fn own_rows(table: &ClassTable, class: ClassName) -> &[ImplementedInterface]
+    ensures { result.now ≡ own_rows table.now class }
+{
+    match table.class_at(class) {
+        Some(found) => found.interface_rows(),
         None => &[],
     }
 }
 
-/// Makes a class's table for an interface, if that has a number.
+/// The number of the class that a reference finds in the package that stands there.
+fn number_named(
+    table: &ClassTable,
+    classes: &Classes,
+    home: PackagePlace,
+    reference: ClassRef,
+) -> Option<ClassNumber>
+    ensures { result ≡ option_and_then (class_number classes.now) (class_named table.now home reference) }
+{
+    classes.number_of(table.class_named(home, reference)?)
+}
+
+/// The number of the superclass of a class.
+fn superclass_number(table: &ClassTable, classes: &Classes, class: ClassName) -> Option<u16>
+    ensures { result ≡ option_and_then (class_number classes.now) (superclass_of table.now class) }
+{
+    let number = classes.number_of(table.superclass_of(class)?)?;
+    Some(number.index())
+}
+
+/// Puts the row for an interface behind others, if the interface has a number.
 fn put_row(
-    alloc: Global,
-    lists: &mut KeyedLists,
+    rows: &mut IndexRows,
     table: &ClassTable,
-    methods: &Methods,
     classes: &Classes,
-    class: ClassName,
-    row: &ListedInterface,
+    home: PackagePlace,
+    row: &ImplementedInterface,
 ) -> Result<(), AllocError>
-    ensures whole { lists.new.whole ≡ lists.old.whole }
-    ensures last { IfOk result (λ u. lists.new.last ≡ lists.old.last
-        ++ option_to_list (table_for table.now methods.now classes.now class row.now)) }
+    ensures done { IfOk result (λ u. rows.new
+        ≡ rows.old ++ option_to_list (index_row table.now classes.now home row.now)) }
+    ensures kept { IfErr result (λ e. rows.new ≡ rows.old) }
 {
-    let Some(number) = classes.number_of(row.interface()) else {
-        return Ok(());
-    };
-    let called = indexes_called(alloc, table, methods, class, row.indexes())?;
-    lists.put(number.index(), &called)?;
-    Ok(())
+    match number_named(table, classes, home, row.interface()) {
+        Some(number) => rows.put(number.index(), row.indexes()),
+        None => Ok(()),
+    }
 }
 
-/// Makes the tables of a class.
-fn put_tables(
-    alloc: Global,
-    lists: &mut KeyedLists,
+/// Puts the rows of a class of the package that stands there behind others.
+fn put_rows(
+    rows: &mut IndexRows,
     table: &ClassTable,
-    methods: &Methods,
     classes: &Classes,
-    class: ClassName,
+    home: PackagePlace,
+    listed: &[ImplementedInterface],
 ) -> Result<(), AllocError>
-    requires sound { IsSound table.now }
-    requires first { lists.old.last ≡ [] }
-    ensures whole { lists.new.whole ≡ lists.old.whole }
-    ensures last { IfOk result (λ u. HasListed table.now methods.now classes.now class lists.new.last) }
+    ensures done { IfOk result (λ u. rows.new
+        ≡ rows.old ++ filter_map (index_row table.now classes.now home) listed.now) }
+    ensures begins { take (length rows.old) rows.new ≡ rows.old }
 {
-    let rows = listed_by(table, class);
-    for row in rows {
-        put_row(alloc, lists, table, methods, classes, class, row.get())?;
+    for row in listed {
+        put_row(rows, table, classes, home, row)?;
     }
     Ok(())
 }
 
-/// Puts the tables of the other classes behind those of the first ones.
-fn put_lists(
-    alloc: Global,
-    lists: &mut KeyedLists,
-    table: &ClassTable,
-    methods: &Methods,
-    classes: &Classes,
-    names: &[ClassName],
-) -> Result<(), AllocError>
-    requires sound { IsSound table.now }
-    requires first { AreListed (HasListed table.now methods.now classes.now)
-        names.now (length lists.old.whole) lists.old.whole }
-    requires few { length lists.old.whole ≤ length names.now }
-    ensures done { IfOk result (λ u. AreListed (HasListed table.now methods.now classes.now)
-        names.now (length names.now) lists.new.whole) }
-    ensures begins { take (length lists.old.whole) lists.new.whole ≡ lists.old.whole }
+/// What a class has under the virtual token at an index; nothing where it is package-visible, or none stands there.
+#[inline]
+fn called_under(
+    virtual_methods: &VirtualMethods,
+    class: ClassNumber,
+    indexes: &[u8],
+    token: u8,
+) -> Called
+    ensures { result ≡ option_map_or (called_under virtual_methods.now class) (slice_get indexes.now token) Nothing }
 {
-    for at in lists.len()..names.len() {
-        lists.begin();
-        put_tables(alloc, lists, table, methods, classes, names[at])?;
-        lists.close()?;
+    match indexes.get(usize::from(token)).copied() {
+        Some(index) => {
+            if index < PACKAGE_VISIBLE {
+                virtual_methods.virtual_method(class, index)
+            } else {
+                Called::Nothing
+            }
+        }
+        None => Called::Nothing,
     }
-    Ok(())
 }
 
-/// For each class of a world the methods of the interfaces that it or a superclass lists, by the interfaces' tokens.
+/// For each class of a world the interfaces that its own record lists, and its superclass.
 #[derive(Drop)]
 pub struct InterfaceMethods {
-    lists: KeyedLists,
+    rows: IndexRows,
+    classes: Vec<ListingClass>,
 }
 
 impl Model for InterfaceMethods {
-    ghost use Rattle.std.specs.Prelude.{List};
-    ghost use Rattle.jc_program.specs.Called.{KeyedTable};
+    ghost use Rattle.std.specs.Prelude.{List, length};
+    ghost use Rattle.jc_program.specs.InterfaceRows.{ClassInterfaces};
+    ghost use Rattle.jc_program.specs.PrivateInterfaceRows.{LieWithinRows, classes_in};
 
-    ghost Value = { List (List KeyedTable) };
+    ghost Value = { List ClassInterfaces };
 
-    ghost view = { λ m. m.lists.whole };
+    ghost view = { λ m. classes_in m.rows m.classes.items };
+
+    ghost invariant = { λ m. LieWithinRows (length m.rows) m.classes.items };
 }
 
 impl InterfaceMethods {
-    /// The methods of interfaces that these classes have in a world, with these methods with code.
-    #[tactic(auto, using(crate::proofs::Interfacing::are_interface_calls, crate::proofs::Calling::none_listed_yet))]
+    /// The interfaces that these classes of a world list.
     pub fn new(
         alloc: Global,
         world: &World,
-        methods: &Methods,
         classes: &Classes,
     ) -> Result<InterfaceMethods, AllocError>
-        ensures calls { IfOk result (λ made. AreInterfaceCalls world.now.shapes methods.now classes.now made) }
-        ensures known { IfOk result (λ made. (number other token : ℕ) → length classes.now ≤ other
-            → keyed_at made number other token ≡ None) }
+        ensures rows { IfOk result (AreInterfaceRows world.now.shapes classes.now) }
         ensures count { IfOk result (λ made. length made ≡ length classes.now) }
     {
-        let table = world.table();
-        // Only its contract counts: what always holds of a table.
-        let _count = table.len();
-        built_worlds_are_sound();
-        let mut lists = KeyedLists::new(alloc);
-        put_lists(alloc, &mut lists, table, methods, classes, classes.names())?;
-        Ok(InterfaceMethods { lists })
+        let mut made = InterfaceMethods {
+            rows: IndexRows::new(alloc),
+            classes: Vec::new(alloc),
+        };
+        made.grow(world.table(), classes)?;
+        Ok(made)
     }
 
-    /// Puts the methods of interfaces that the other classes of a world have behind those of the first ones.
-    #[tactic(auto, using(crate::proofs::Interfacing::are_interface_calls))]
-    pub(crate) fn grow(
+    /// Puts a class behind the others. Where no memory is left they are as they were.
+    fn put(
         &mut self,
-        alloc: Global,
         table: &ClassTable,
-        methods: &Methods,
         classes: &Classes,
+        class: ClassName,
     ) -> Result<(), AllocError>
-        requires sound { IsSound table.now }
-        requires first { AreListed (HasListed table.now methods.now classes.now)
-            classes.now (length self.old) self.old }
+        ensures done { IfOk result (λ u. self.new ≡ self.old ++ class_interfaces table.now classes.now class ∷ []) }
+        ensures kept { IfErr result (λ e. self.new ≡ self.old) }
+    {
+        let first = self.rows.len();
+        let start = start_of(first)?;
+        let listed = own_rows(table, class);
+        put_rows(&mut self.rows, table, classes, class.home(), listed)?;
+        let count = short_of(self.rows.len() - first)?;
+        let superclass = superclass_number(table, classes, class);
+        self.classes.push(ListingClass {
+            start,
+            count,
+            superclass,
+        })?;
+        Ok(())
+    }
+
+    /// Puts the interfaces that the other classes of a world list behind those of the first ones.
+    pub(crate) fn grow(&mut self, table: &ClassTable, classes: &Classes) -> Result<(), AllocError>
+        requires first { self.old ≡ map (class_interfaces table.now classes.now) (take (length self.old) classes.now) }
         requires few { length self.old ≤ length classes.now }
-        ensures calls { IfOk result (λ u. AreInterfaceCalls table.now methods.now classes.now self.new) }
-        ensures known { IfOk result (λ u. (number other token : ℕ) → length classes.now ≤ other
-            → keyed_at self.new number other token ≡ None) }
+        ensures rows { IfOk result (λ u. AreInterfaceRows table.now classes.now self.new) }
         ensures count { IfOk result (λ u. length self.new ≡ length classes.now) }
         ensures begins { take (length self.old) self.new ≡ self.old }
     {
-        put_lists(
-            alloc,
-            &mut self.lists,
-            table,
-            methods,
-            classes,
-            classes.names(),
-        )?;
+        let names = classes.names();
+        for at in self.classes.len()..names.len() {
+            self.put(table, classes, names[at])?;
+        }
         Ok(())
     }
 
@@ -180,21 +237,42 @@ impl InterfaceMethods {
     pub(crate) fn keep(&mut self, count: usize)
         ensures { self.new ≡ take count self.old }
     {
-        self.lists.keep(count);
+        self.classes.truncate(count);
+        self.rows.keep(rows_end(&self.classes));
     }
 
     /// For how many classes.
     pub fn len(&self) -> usize
         ensures { result ≡ length self.now }
     {
-        self.lists.len()
+        self.classes.len()
     }
 
     /// Whether for none.
     pub fn is_empty(&self) -> bool
         ensures { result ≡ (length self.now == 0) }
     {
-        self.lists.len() == 0
+        self.classes.len() == 0
+    }
+
+    /// The virtual tokens of an interface's methods, as the nearest class on the way up from a class lists them.
+    #[inline]
+    fn indexes(&self, class: ClassNumber, interface: ClassNumber) -> Option<&[u8]>
+        ensures { option_map (λ indexes. indexes.now) result ≡ indexes_at self.now interface class }
+    {
+        let mut number = class.index();
+        for _ in 0..MOST_CLASSES {
+            let at = class_at(&self.classes, number)?;
+            let first = at.start as usize;
+            let found = self
+                .rows
+                .find(first, usize::from(at.count), interface.index());
+            if found.is_some() {
+                return found;
+            }
+            number = at.superclass?;
+        }
+        None
     }
 
     /// What a call of the method with a token of the interface with a number leads to, for an object of the class with
@@ -202,17 +280,17 @@ impl InterfaceMethods {
     #[inline]
     pub fn interface_method(
         &self,
+        virtual_methods: &VirtualMethods,
         class: ClassNumber,
         interface: ClassNumber,
         token: u8,
     ) -> InterfaceCall
-        ensures { result ≡ interface_call_at self.now class interface token }
+        ensures { result ≡ interface_call_at self.now virtual_methods.now class interface token }
     {
-        match self
-            .lists
-            .find(usize::from(class.index()), interface.index(), token)
-        {
-            Some(called) => InterfaceCall::Listed(called),
+        match self.indexes(class, interface) {
+            Some(indexes) => {
+                InterfaceCall::Listed(called_under(virtual_methods, class, indexes, token))
+            }
             None => InterfaceCall::NotListed,
         }
     }

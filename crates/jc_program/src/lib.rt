@@ -9,6 +9,7 @@ mod classes;
 mod entries;
 mod entry;
 mod handler;
+mod index_rows;
 mod interfaces;
 mod keyed;
 mod laid;

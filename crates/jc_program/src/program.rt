@@ -49,7 +49,7 @@ impl Program {
         let classes = Classes::new(alloc, world)?;
         let virtual_methods = VirtualMethods::new(alloc, world, &methods, &classes)?;
         let visible_methods = VisibleMethods::new(alloc, world, &methods, &classes)?;
-        let interface_methods = InterfaceMethods::new(alloc, world, &methods, &classes)?;
+        let interface_methods = InterfaceMethods::new(alloc, world, &classes)?;
         let supertypes = Supertypes::new(alloc, world, &classes)?;
         let rows = ClassRows::new(alloc, world, &classes, &supertypes)?;
         let member_tokens = MemberTokens::new(alloc, world)?;
@@ -99,8 +99,7 @@ impl Program {
             .grow(alloc, table, &self.methods, &self.classes)?;
         self.visible_methods
             .grow(alloc, table, &self.methods, &self.classes)?;
-        self.interface_methods
-            .grow(alloc, table, &self.methods, &self.classes)?;
+        self.interface_methods.grow(table, &self.classes)?;
         self.supertypes.grow(alloc, table, &self.classes)?;
         self.rows.grow(table, &self.classes, &self.supertypes)?;
         Ok(())

@@ -1,10 +1,12 @@
 use Rattle.std.proofs.Common.{length, sym, arith, ap, subst, ◌∙◌}
-use Rattle.jc_program.specs.Called.{AreCalled, AreInterfaceCalls, AreVisible}
+use Rattle.jc_program.specs.Called.{AreCalled, AreVisible}
 use Rattle.jc_program.specs.ClassRows.{AreClassRows}
 use Rattle.jc_program.specs.Entries.{AreEntries}
+use Rattle.jc_program.specs.InterfaceRows.{AreInterfaceRows}
 use Rattle.jc_program.specs.Supertypes.{AreSupertypes}
 use Rattle.jc_program.proofs.Composing.{body_known, composed}
 use Rattle.jc_program.proofs.Enlarging.{rows_before}
+use Rattle.jc_program.proofs.Interfacing.{are_interface_calls}
 use Rattle.jc_program.proofs.program.Program.grow.Goals as goal
 
 pub put_package-requires-clause-known : goal.put_package-requires-clause-known
@@ -69,16 +71,21 @@ returns-clause-done c =
     c.grow-2.new.self c.in_ok-grow-2.ensures.names in
     let same = c.table-table.ensures.table in
     let names = c.grow-2.new.self in
-    let methods = c.put_package.new.loaded in record {
+    let methods = c.put_package.new.loaded in
+    let words = all.words c.in_ok-grow-2.ensures.offsets in
+    let virtual_methods = subst (λ s. AreCalled s methods names c.grow-3.new.self) same c.in_ok-grow-3.ensures.called in
+    let interfaces = subst (λ s. AreInterfaceRows s names c.grow-5.new.self) same c.in_ok-grow-5.ensures.rows in
+    record {
       methods = all.loaded;
       entries = subst (AreEntries c.args.world.now methods) (sym c.in_ok-grow.ensures.done) all.entries;
       pools = ap length c.in_ok-grow.ensures.done ∙ all.pools;
       classes = all.names_now;
-      offsets = all.words c.in_ok-grow-2.ensures.offsets;
-      virtual_methods = subst (λ s. AreCalled s methods names c.grow-3.new.self) same c.in_ok-grow-3.ensures.called;
+      offsets = words;
+      virtual_methods = virtual_methods;
       visible_methods = subst (λ s. AreVisible s methods names c.grow-4.new.self) same c.in_ok-grow-4.ensures.visible;
-      interface_methods = subst (λ s. AreInterfaceCalls s methods names c.grow-5.new.self) same
-          c.in_ok-grow-5.ensures.calls;
+      interfaces = interfaces;
+      interface_methods = are_interface_calls c.args.world.now.shapes methods names c.grow-5.new.self c.grow-3.new.self
+          all.names_now words interfaces virtual_methods;
       supertypes = subst (λ s. AreSupertypes s names c.grow-6.new.self) same c.in_ok-grow-6.ensures.above;
       rows = subst (λ s. AreClassRows s names c.grow-7.new.self) same c.in_ok-grow-7.ensures.rows;
       member_tokens = all.tokens;
@@ -89,8 +96,5 @@ returns-clause-done c =
         supertypes = c.in_ok-grow-6.ensures.count;
         rows = c.in_ok-grow-7.ensures.count;
       };
-      known = record {
-        supertypes = c.in_ok-grow-6.ensures.known;
-        interface_methods = c.in_ok-grow-5.ensures.known;
-      };
+      known = record { supertypes = c.in_ok-grow-6.ensures.known };
     }

@@ -1,0 +1,90 @@
+//! Rows of interfaces: under which virtual tokens classes have their methods.
+
+ghost use Rattle.std.specs.Prelude.{◌≡◌, ◌+◌, ◌≤◌, ◌++◌, ◌∷◌, [], length, take, IfOk, IfErr};
+ghost use Rattle.std.specs.Option.{option_map};
+ghost use Rattle.jc_program.specs.InterfaceRows.{indexes_in};
+ghost use Rattle.jc_program.specs.PrivateLaid.{part};
+
+use crate::laid::{part_of, start_of};
+use crate::tables::{TableRow, entries_end, row_with, short_of};
+use std::alloc::{AllocError, Global};
+use std::marker::Model;
+
+/// Rows of interfaces one behind the other, each with the interface's number; the virtual tokens of all in one array.
+#[derive(Drop)]
+pub(crate) struct IndexRows {
+    rows: Vec<TableRow>,
+    tokens: Vec<u8>,
+}
+
+impl Model for IndexRows {
+    ghost use Rattle.std.specs.Prelude.{List, length};
+    ghost use Rattle.jc_program.specs.InterfaceRows.{IndexRow};
+    ghost use Rattle.jc_program.specs.PrivateCalled.{LieWithin};
+    ghost use Rattle.jc_program.specs.PrivateInterfaceRows.{index_rows_in};
+
+    ghost Value = { List IndexRow };
+
+    ghost view = { λ r. index_rows_in r.tokens.items r.rows.items };
+
+    ghost invariant = { λ r. LieWithin (length r.tokens.items) r.rows.items };
+}
+
+impl IndexRows {
+    /// No row.
+    pub(crate) fn new(alloc: Global) -> IndexRows
+        ensures { result ≡ [] }
+    {
+        IndexRows {
+            rows: Vec::new(alloc),
+            tokens: Vec::new(alloc),
+        }
+    }
+
+    /// How many there are.
+    pub(crate) fn len(&self) -> usize
+        ensures { result ≡ length self.now }
+    {
+        self.rows.len()
+    }
+
+    /// Puts a row behind the others. Where no memory is left they are as they were.
+    pub(crate) fn put(&mut self, interface: u16, indexes: &[u8]) -> Result<(), AllocError>
+        ensures done { IfOk result (λ u. self.new
+            ≡ self.old ++ record { interface = interface; indexes = indexes.now } ∷ []) }
+        ensures kept { IfErr result (λ e. self.new ≡ self.old) }
+    {
+        let start = start_of(self.tokens.len())?;
+        let length = short_of(indexes.len())?;
+        self.rows.reserve(1)?;
+        self.tokens.extend_from_slice(indexes)?;
+        self.rows.push_reserved(TableRow {
+            start,
+            length,
+            key: interface,
+        });
+        Ok(())
+    }
+
+    /// Keeps the first rows alone.
+    pub(crate) fn keep(&mut self, count: usize)
+        ensures { self.new ≡ take count self.old }
+    {
+        self.rows.truncate(count);
+        self.tokens.truncate(entries_end(&self.rows));
+    }
+
+    /// The virtual tokens of the first row for an interface, of so many rows from one on.
+    #[inline]
+    pub(crate) fn find(&self, first: usize, count: usize, interface: u16) -> Option<&[u8]>
+        requires within { first + count ≤ length self.now }
+        ensures { option_map (λ indexes. indexes.now) result ≡ indexes_in (part self.now first count) interface }
+    {
+        let row = row_with(part_of(&self.rows, first, count), interface)?;
+        Some(part_of(
+            &self.tokens,
+            row.start as usize,
+            usize::from(row.length),
+        ))
+    }
+}

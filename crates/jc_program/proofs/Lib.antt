@@ -14,6 +14,7 @@ mod Same
 mod Wording
 mod Unknown
 mod Counting
+mod Indexing
 mod Interfacing
 mod Showing
 mod Rowing

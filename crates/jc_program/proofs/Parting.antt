@@ -23,10 +23,10 @@ part_first items start len end fits =
 
 -- rows tell where their parts begin, how many items these have, and what is made of them
 module _ {R A B : Type 0} (start len : R → ℕ) (make : R → List A → B) where
-  pub abbrev parts_in : List A → List R → List B
+  abbrev pub parts_in : List A → List R → List B
   parts_in items rows = map (λ r. make r (part items (start r) (len r))) rows
 
-  pub abbrev LieIn : ℕ → List R → Type 0
+  abbrev pub LieIn : ℕ → List R → Type 0
   LieIn count rows = (n : ℕ) (r : R) → slice_get rows n ≡ Some r → start r + len r ≤ count
 
   -- one more

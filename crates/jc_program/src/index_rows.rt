@@ -80,11 +80,13 @@ impl IndexRows {
         requires within { first + count ≤ length self.now }
         ensures { option_map (λ indexes. indexes.now) result ≡ indexes_in (part self.now first count) interface }
     {
-        let row = row_with(part_of(&self.rows, first, count), interface)?;
-        Some(part_of(
-            &self.tokens,
-            row.start as usize,
-            usize::from(row.length),
-        ))
+        match row_with(part_of(&self.rows, first, count), interface) {
+            Some(row) => Some(part_of(
+                &self.tokens,
+                row.start as usize,
+                usize::from(row.length),
+            )),
+            None => None,
+        }
     }
 }

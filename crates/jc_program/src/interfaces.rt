@@ -8,7 +8,10 @@ ghost use Rattle.jc_classes.specs.World.{class_named, superclass_of};
 ghost use Rattle.jc_entries.specs.declared.called.Called.TheVariants.{Nothing};
 ghost use Rattle.jc_program.specs.Called.{called_under, interface_call_at};
 ghost use Rattle.jc_program.specs.Classes.{class_number};
-ghost use Rattle.jc_program.specs.InterfaceRows.{AreInterfaceRows, class_interfaces, index_row, indexes_at, own_rows};
+ghost use Rattle.jc_program.specs.InterfaceRows.{AreInterfaceRows, class_interfaces, index_row, indexes_at};
+ghost use Rattle.jc_program.specs.InterfaceRows.{indexes_in, own_rows};
+ghost use Rattle.jc_program.specs.PrivateInterfaceRows.{LieWithinRows, classes_in};
+ghost use Rattle.jc_program.specs.PrivateLaid.{part};
 ghost use Rattle.jc_program.specs.declared.interfaces.ListingClass.{ListingClass as TheClass};
 
 use crate::called::PACKAGE_VISIBLE;
@@ -135,6 +138,39 @@ fn put_rows(
     Ok(())
 }
 
+/// The virtual tokens of an interface's methods, as a class's own rows have them.
+#[inline]
+fn own_indexes(rows: &IndexRows, class: ListingClass, interface: u16) -> Option<&[u8]>
+    requires within { class.start + class.count ≤ length rows.now }
+    ensures { option_map (λ indexes. indexes.now) result
+        ≡ indexes_in (part rows.now class.start class.count) interface }
+{
+    rows.find(class.start as usize, usize::from(class.count), interface)
+}
+
+/// The same, as the nearest class has them on the way up from the class with a number.
+#[inline]
+fn indexes_at<'a>(
+    rows: &'a IndexRows,
+    classes: &[ListingClass],
+    class: u16,
+    interface: u16,
+) -> Option<&'a [u8]>
+    requires within { LieWithinRows (length rows.now) classes.now }
+    ensures { option_map (λ indexes. indexes.now) result
+        ≡ indexes_at (classes_in rows.now classes.now) interface class }
+{
+    let mut number = class;
+    for _ in 0..MOST_CLASSES {
+        let at = class_at(classes, number)?;
+        if let Some(indexes) = own_indexes(rows, at, interface) {
+            return Some(indexes);
+        }
+        number = at.superclass?;
+    }
+    None
+}
+
 /// What a class has under the virtual token at an index; nothing where it is package-visible, or none stands there.
 #[inline]
 fn called_under(
@@ -255,26 +291,6 @@ impl InterfaceMethods {
         self.classes.len() == 0
     }
 
-    /// The virtual tokens of an interface's methods, as the nearest class on the way up from a class lists them.
-    #[inline]
-    fn indexes(&self, class: ClassNumber, interface: ClassNumber) -> Option<&[u8]>
-        ensures { option_map (λ indexes. indexes.now) result ≡ indexes_at self.now interface class }
-    {
-        let mut number = class.index();
-        for _ in 0..MOST_CLASSES {
-            let at = class_at(&self.classes, number)?;
-            let first = at.start as usize;
-            let found = self
-                .rows
-                .find(first, usize::from(at.count), interface.index());
-            if found.is_some() {
-                return found;
-            }
-            number = at.superclass?;
-        }
-        None
-    }
-
     /// What a call of the method with a token of the interface with a number leads to, for an object of the class with
     /// a number. A number of no class lists nothing.
     #[inline]
@@ -287,7 +303,7 @@ impl InterfaceMethods {
     ) -> InterfaceCall
         ensures { result ≡ interface_call_at self.now virtual_methods.now class interface token }
     {
-        match self.indexes(class, interface) {
+        match indexes_at(&self.rows, &self.classes, class.index(), interface.index()) {
             Some(indexes) => {
                 InterfaceCall::Listed(called_under(virtual_methods, class, indexes, token))
             }

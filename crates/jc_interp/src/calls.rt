@@ -106,13 +106,15 @@ pub(crate) fn interface_called(
     token: u8,
 ) -> InterfaceCall
     requires named { class_number here.now.program.now.classes _interface ≡ Some number }
-    ensures is { result ≡ interface_call_at here.now.program.now.interface_methods class number token }
+    ensures is { result ≡ interface_call_at here.now.program.now.interface_methods
+        here.now.program.now.virtual_methods class number token }
     ensures by_name { (w : LinkedWorld) → IsProgramOf w here.now.program.now
         → IsListedByName here.now.program.now result }
 {
+    let virtual_methods = &here.program.virtual_methods;
     here.program
         .interface_methods
-        .interface_method(class, number, token)
+        .interface_method(virtual_methods, class, number, token)
 }
 
 impl WordMachine {

@@ -176,8 +176,9 @@ impl WordMachine {
     ) -> Option<EntryCall> {
         let number = here.program.classes.number_of(interface)?;
         let class = ClassNumber::new(self.receiver(words)?.class);
+        let virtual_methods = &here.program.virtual_methods;
         let methods = &here.program.interface_methods;
-        match methods.interface_method(class, number, token) {
+        match methods.interface_method(virtual_methods, class, number, token) {
             InterfaceCall::Listed(called) => Some(EntryCall { called, words }),
             InterfaceCall::NotListed => None,
         }

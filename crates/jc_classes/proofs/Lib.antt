@@ -18,3 +18,4 @@ mod Ways
 mod Extending
 mod Nearing
 mod Jumping
+mod Nearest

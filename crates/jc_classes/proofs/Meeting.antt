@@ -18,7 +18,7 @@ use Rattle.jc_names.specs.declared.name.ClassName.TheVariants.{Api}
 -- ---- one class more
 
 module _ (world : List Shape) (c d : ClassName) (n : ℕ) where
-  common_step : (b : Bool) (o : Option ClassName) → is_class_below world d c ≡ b → superclass_of world c ≡ o
+  pub common_step : (b : Bool) (o : Option ClassName) → is_class_below world d c ≡ b → superclass_of world c ≡ o
       → common_within world (suc n) c d ≡ cond b c (option_map_or (λ e. common_within world n e d) o (Api Object))
   common_step b o e f = grind arith
 

@@ -80,7 +80,7 @@ has_ended world above anchor at n total none on = ap (λ i. is_at_or_above world
 -- ---- the order
 
 -- one walk behind another one
-beyond : (world : List Shape) (n m : ℕ) (e d c : ClassName) → is_at_or_above world n d c ≡ true → is_at_or_above world m e d ≡ true → is_at_or_above world (n + m) e c ≡ true
+pub beyond : (world : List Shape) (n m : ℕ) (e d c : ClassName) → is_at_or_above world n d c ≡ true → is_at_or_above world m e d ≡ true → is_at_or_above world (n + m) e c ≡ true
 beyond world zero m e d c h k = absurd (true_false (sym h))
 beyond world (suc n) m e d c h k = by_way (found_by world d c n h) (λ s r. beyond world n m e d s r k)
   where

@@ -82,9 +82,35 @@ impl ClassTable {
         OBJECT.is(above) || self.is_at_or_above(above, class)
     }
 
-    /// The nearest class above both of two, along superclasses: the first on the way up from the one that the other is
-    /// below too, or Object.
-    pub fn common_class(&self, one: ClassName, other: ClassName) -> ClassName
+    /// The nearest class above both of two, by jumps: where a class isn't above the other one, none that a jump to it
+    /// passes is. `None` where a class has no table, or Object a superclass.
+    fn common_by_jumps(&self, one: ClassName, other: ClassName) -> Option<ClassName>
+        ensures { IfSome result (λ found. found ≡ common_class self.now one other) }
+    {
+        if self.superclass_of(OBJECT).is_some() {
+            return None;
+        }
+        self.table_of(other)?;
+        let mut at = one;
+        for _ in 0..MOST_CLASSES {
+            if self.is_class_below(other, at) {
+                return Some(at);
+            }
+            let Some(superclass) = self.superclass_of(at) else {
+                return Some(OBJECT);
+            };
+            let jump = self.table_of(at)?.jump().to;
+            at = if self.is_class_below(other, jump) {
+                superclass
+            } else {
+                jump
+            };
+        }
+        None
+    }
+
+    /// The same by a walk along superclasses.
+    fn common_by_walk(&self, one: ClassName, other: ClassName) -> ClassName
         ensures { result ≡ common_class self.now one other }
     {
         let mut at = one;
@@ -98,6 +124,17 @@ impl ClassTable {
             }
         }
         OBJECT
+    }
+
+    /// The nearest class above both of two, along superclasses: the first on the way up from the one that the other is
+    /// below too, or Object. It is found by jumps, or by a walk where a class has no table.
+    pub fn common_class(&self, one: ClassName, other: ClassName) -> ClassName
+        ensures { result ≡ common_class self.now one other }
+    {
+        match self.common_by_jumps(one, other) {
+            Some(found) => found,
+            None => self.common_by_walk(one, other),
+        }
     }
 
     /// How many classes are above a class, along its superclasses up to Object.

@@ -49,6 +49,3 @@ handle_on rules claims pc t handlers k h total at ok so_far =
 pub handle_told : (rules : Rules) (claims : List Claim) (pc : ℕ) (t : Types) (handlers : List Handler) (k : ℕ) (h : Handler) (reason : Reason) (total : Result ⊤ Reason) → slice_get handlers k ≡ Some h → Err reason ≡ handles rules claims pc t h → all_handle rules claims pc t (drop k handlers) ≡ total
     → Err reason ≡ total
 handle_told rules claims pc t handlers k h reason total at err so_far = grind (arith, drop_get, Result, drop)
-
-pub all_handled : (rules : Rules) (claims : List Claim) (pc : ℕ) (t : Types) (handlers : List Handler) (k : ℕ) (total : Result ⊤ Reason) → length handlers ≤ k → all_handle rules claims pc t (drop k handlers) ≡ total → Ok tt ≡ total
-all_handled rules claims pc t handlers k total le so_far = sym (ap (λ hs. all_handle rules claims pc t hs) (drop_all handlers k le)) ∙ so_far

@@ -4,6 +4,7 @@ mod Listings
 mod Marking
 mod Standing
 mod Handlers
+mod Unchanged
 mod Branches
 mod Walking
 mod Sound

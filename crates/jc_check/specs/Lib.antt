@@ -10,5 +10,6 @@ pub mod Checked
 pub mod PrivateFirst
 pub mod PrivateMarks
 pub mod PrivateInput
+pub mod PrivateSeen
 pub mod PrivateNames
 pub mod PrivateKnown

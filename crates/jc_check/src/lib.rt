@@ -16,6 +16,7 @@ mod package_method;
 mod package_rules;
 mod pass;
 mod rules;
+mod seen;
 mod states;
 mod table;
 mod words;

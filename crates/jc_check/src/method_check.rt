@@ -8,6 +8,7 @@ ghost use Rattle.jc_check.specs.Carried.{Carries};
 ghost use Rattle.jc_check.specs.FirstFault.{IsFirstFault, flow_findings_of};
 ghost use Rattle.jc_check.specs.PrivateMarks.{HasRoom};
 ghost use Rattle.jc_check.specs.PrivateInput.{ForListing, IsListed, IsSafeInput};
+ghost use Rattle.jc_check.specs.PrivateSeen.{HasSeen, HasSeenNothing};
 ghost use Rattle.jc_check.specs.declared.mark.ByteMark.TheVariants.{Inside};
 
 use crate::fault::{Fault, WordFault};
@@ -16,6 +17,7 @@ use crate::mark::ByteMark;
 use crate::method::Method;
 use crate::pass::{fall_to, walk_code};
 use crate::rules::CheckRules;
+use crate::seen::SeenLocals;
 use crate::table::{mark_starts, mark_states, no_marks, stand_handlers};
 use jc_base::Reason;
 use jc_cert::StateRow;
@@ -23,17 +25,23 @@ use jc_types::State;
 use std::alloc::Global;
 
 // What goes on from the entry, and the pass from there.
-fn check_flow<R: CheckRules>(rules: &R, input: &PassInput, state: &mut State) -> Result<(), Fault>
+fn check_flow<R: CheckRules>(
+    rules: &R,
+    input: &PassInput,
+    state: &mut State,
+    seen: &mut SeenLocals,
+) -> Result<(), Fault>
     requires listed { IsListed (R.rules rules.now) input.now }
     requires table { IsSafeInput input.now }
     requires short { length input.now.method.now.code < 2 ^ 16 }
     requires entry { state.old.types ≡ entry_of input.now.method.now }
     requires room { HasRoom input.now.method.now state.old }
+    requires seen { HasSeen (R.rules rules.now) input.now seen.old }
     ensures { ForListing (R.rules rules.now) input.now (λ listing.
         result ≡ flow_findings_of (R.rules rules.now) input.now.method.now listing input.now.claims.now) }
 {
     match fall_to(rules, input, state, 0) {
-        Ok(live) => walk_code(rules, input, state, live),
+        Ok(live) => walk_code(rules, input, state, seen, live),
         Err(reason) => Err(Fault { pc: 0, reason }),
     }
 }
@@ -45,6 +53,7 @@ fn check_code<R: CheckRules>(
     method: &Method,
     marks: &mut [ByteMark],
     state: &mut State,
+    seen: &mut SeenLocals,
     states: &[StateRow],
 ) -> Result<(), WordFault>
     requires some { method.now.code ≢ [] }
@@ -53,6 +62,7 @@ fn check_code<R: CheckRules>(
     requires none { marks.old ≡ replicate (length method.now.code) Inside }
     requires entry { state.old.types ≡ entry_of method.now }
     requires room { HasRoom method.now state.old }
+    requires seen { HasSeenNothing method.now seen.old }
     ensures accepted { OnOk result (Carries (R.rules rules.now) method.now (map stated states.now)) }
     ensures refused { IfErr result (λ fault.
         IfRefused fault (IsFirstFault (R.rules rules.now) method.now (map stated states.now))) }
@@ -66,7 +76,7 @@ fn check_code<R: CheckRules>(
         marks,
         claims: &claims,
     };
-    check_flow(rules, &input, state)?;
+    check_flow(rules, &input, state, seen)?;
     Ok(())
 }
 
@@ -97,5 +107,8 @@ pub(crate) fn check_method<R: CheckRules>(
         method.max_locals,
         method.max_stack,
     )?;
-    check_code(alloc, rules, method, &mut marks, &mut state, states)
+    let mut seen = SeenLocals::none(alloc, state.locals(), method.handlers())?;
+    check_code(
+        alloc, rules, method, &mut marks, &mut state, &mut seen, states,
+    )
 }

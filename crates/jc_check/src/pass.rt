@@ -1,14 +1,18 @@
 //! The pass over the instructions by ascending pc, with one state that is changed in place.
 
-ghost use Rattle.std.specs.Prelude.{◌≡◌, ◌<◌, ◌^◌, ℤ, Some, length, pos, slice_get};
+ghost use Rattle.std.specs.Prelude.{◌≡◌, ◌<◌, ◌≤◌, ◌^◌, ℤ, List, Option, Some, Ok, length, pos, slice_get};
 ghost use Rattle.jc_code.specs.Targets.{targets_of};
+ghost use Rattle.jc_names.specs.declared.name.ClassName.{ClassName};
+ghost use Rattle.jc_types.specs.PrivateRanges.{AgreeOutside};
 ghost use Rattle.jc_types.specs.State.{types_below};
+ghost use Rattle.jc_types.specs.declared.ty.Ty.{Ty};
 ghost use Rattle.jc_check.specs.Method.{caught_types};
 ghost use Rattle.jc_check.specs.Carried.{types_of};
 ghost use Rattle.jc_check.specs.FirstFault.{arrives, all_arrive, catches_at, handles, all_handle, falls_to, visit_live};
 ghost use Rattle.jc_check.specs.FirstFault.{visit, walk};
 ghost use Rattle.jc_check.specs.PrivateMarks.{Flowed, flowing, HasRoom, placed};
 ghost use Rattle.jc_check.specs.PrivateInput.{ForListing, IsListed, IsSafeInput};
+ghost use Rattle.jc_check.specs.PrivateSeen.{HasSeen, WasCaught, WereCaught, locals_alone};
 
 use crate::claim::Claim;
 use crate::fault::Fault;
@@ -16,11 +20,12 @@ use crate::handler::Handler;
 use crate::input::PassInput;
 use crate::mark::ByteMark;
 use crate::rules::CheckRules;
+use crate::seen::SeenLocals;
 use crate::table::mark_at;
 use jc_base::Reason;
 use jc_code::{Instr, Targets};
 use jc_names::ClassName;
-use jc_types::{State, Ty};
+use jc_types::{LocalRange, State, Ty, are_below_within};
 
 fn is_met<R: CheckRules>(rules: &R, state: &State, claim: &Claim) -> bool
     ensures { result ≡ types_below (R.rules rules.now).below state.now.types (types_of claim.now) }
@@ -63,21 +68,58 @@ fn catch_at<R: CheckRules>(
     }
 }
 
-/// A handler at an instruction: where it covers it, the state before it is caught.
+/// A class that was caught where a handler goes on, with locals that differ within a range alone.
+fn catch_changed<R: CheckRules>(
+    rules: &R,
+    input: &PassInput,
+    state: &State,
+    changed: LocalRange,
+    pc: u16,
+) -> Result<(), Reason>
+    requires table { IsSafeInput input.now }
+    requires ordered { changed.first ≤ changed.behind }
+    requires within { changed.behind ≤ length state.now.types.locals }
+    ensures { ForListing (R.rules rules.now) input.now (λ listing. (seen : List Ty) (caught : Option ClassName)
+        → AgreeOutside changed seen state.now.types.locals
+        → catches_at (R.rules rules.now) input.now.claims.now (locals_alone seen) pc caught ≡ Ok tt
+        → result ≡ catches_at (R.rules rules.now) input.now.claims.now state.now.types pc caught) }
+{
+    match mark_at(input.marks, usize::from(pc)) {
+        ByteMark::Start | ByteMark::Inside => Err(Reason::CertMismatch),
+        ByteMark::Holds(number) => {
+            let claim = &input.claims[usize::from(number)];
+            if are_below_within(state.locals(), &claim.locals, changed, rules.order()) {
+                Ok(())
+            } else {
+                Err(Reason::CertMismatch)
+            }
+        }
+    }
+}
+
+/// A handler at an instruction: where it covers it, the state before it is caught. A handler that caught the locals
+/// that were seen last looks at no more than those that changed.
 #[tactic(auto, unfolding(crate::specs::FirstFault::handles))]
 fn handle<R: CheckRules>(
     rules: &R,
     input: &PassInput,
     state: &State,
     pc: u16,
+    seen: &SeenLocals,
+    changed: LocalRange,
     handler: &Handler,
 ) -> Result<(), Reason>
-    requires { IsSafeInput input.now }
+    requires table { IsSafeInput input.now }
+    requires agree { AgreeOutside changed seen.now.locals state.now.types.locals }
     ensures { ForListing (R.rules rules.now) input.now (λ listing.
-        result ≡ handles (R.rules rules.now) input.now.claims.now pc state.now.types handler.now) }
+        WasCaught (R.rules rules.now) input.now.claims.now seen.now handler.now
+        → result ≡ handles (R.rules rules.now) input.now.claims.now pc state.now.types handler.now) }
 {
     if !handler.covers(pc) {
         return Ok(());
+    }
+    if seen.is_covered_by(handler) {
+        return catch_changed(rules, input, state, changed, handler.goes_on);
     }
     match handler.caught {
         Some(class) => catch_at(rules, input, state, handler.goes_on, class),
@@ -86,20 +128,50 @@ fn handle<R: CheckRules>(
 }
 
 /// Each handler in turn.
+fn handle_each<R: CheckRules>(
+    rules: &R,
+    input: &PassInput,
+    state: &State,
+    pc: u16,
+    seen: &SeenLocals,
+    changed: LocalRange,
+    handlers: &[Handler],
+) -> Result<(), Reason>
+    requires table { IsSafeInput input.now }
+    requires agree { AgreeOutside changed seen.now.locals state.now.types.locals }
+    ensures { ForListing (R.rules rules.now) input.now (λ listing.
+        WereCaught (R.rules rules.now) input.now.claims.now handlers.now seen.now
+        → result ≡ all_handle (R.rules rules.now) input.now.claims.now pc state.now.types handlers.now) }
+{
+    for index in 0..handlers.len() {
+        handle(rules, input, state, pc, seen, changed, &handlers[index])?;
+    }
+    Ok(())
+}
+
+/// The handlers at an instruction, which then have seen its locals.
 fn handle_all<R: CheckRules>(
     rules: &R,
     input: &PassInput,
     state: &State,
     pc: u16,
-    handlers: &[Handler],
+    seen: &mut SeenLocals,
 ) -> Result<(), Reason>
-    requires { IsSafeInput input.now }
-    ensures { ForListing (R.rules rules.now) input.now (λ listing.
-        result ≡ all_handle (R.rules rules.now) input.now.claims.now pc state.now.types handlers.now) }
+    requires table { IsSafeInput input.now }
+    requires room { HasRoom input.now.method.now state.now }
+    requires seen { HasSeen (R.rules rules.now) input.now seen.old }
+    ensures result { ForListing (R.rules rules.now) input.now (λ listing.
+        result ≡ all_handle (R.rules rules.now) input.now.claims.now pc state.now.types
+        input.now.method.now.handlers) }
+    ensures seen { HasSeen (R.rules rules.now) input.now seen.new }
 {
-    for index in 0..handlers.len() {
-        handle(rules, input, state, pc, &handlers[index])?;
+    let handlers = input.method.handlers();
+    if handlers.is_empty() {
+        return Ok(());
     }
+    let changed = seen.changed(state.locals());
+    handle_each(rules, input, state, pc, seen, changed, handlers)?;
+    seen.note(pc, state.locals());
     Ok(())
 }
 
@@ -205,18 +277,21 @@ fn visit_live_at<R: CheckRules>(
     rules: &R,
     input: &PassInput,
     state: &mut State,
+    seen: &mut SeenLocals,
     pc: u16,
     instr: &Instr,
 ) -> Result<bool, Reason>
     requires table { IsSafeInput input.now }
     requires room { HasRoom input.now.method.now state.old }
+    requires seen { HasSeen (R.rules rules.now) input.now seen.old }
     ensures flow { ForListing (R.rules rules.now) input.now (λ listing.
         Flowed result state.new.types (visit_live (R.rules rules.now) input.now.method.now listing
         input.now.claims.now (placed pc instr.now) state.old.types)) }
     ensures room { HasRoom input.now.method.now state.new }
+    ensures seen { HasSeen (R.rules rules.now) input.now seen.new }
 {
     let method = input.method;
-    handle_all(rules, input, state, pc, method.handlers())?;
+    handle_all(rules, input, state, pc, seen)?;
     rules.transfer(
         &instr.operation,
         state,
@@ -238,27 +313,30 @@ fn visit_at<R: CheckRules>(
     rules: &R,
     input: &PassInput,
     state: &mut State,
+    seen: &mut SeenLocals,
     live: bool,
     pc: u16,
     instr: &Instr,
 ) -> Result<bool, Reason>
     requires table { IsSafeInput input.now }
     requires room { HasRoom input.now.method.now state.old }
+    requires seen { HasSeen (R.rules rules.now) input.now seen.old }
     requires within { pc < length input.now.method.now.code }
     ensures flow { ForListing (R.rules rules.now) input.now (λ listing.
         Flowed result state.new.types (visit (R.rules rules.now) input.now.method.now listing
         input.now.claims.now (placed pc instr.now) (flowing live state.old.types))) }
     ensures room { HasRoom input.now.method.now state.new }
+    ensures seen { HasSeen (R.rules rules.now) input.now seen.new }
 {
     match mark_at(input.marks, usize::from(pc)) {
         ByteMark::Holds(number) => {
             let claim = &input.claims[usize::from(number)];
             state.load(&claim.locals, &claim.operands);
-            visit_live_at(rules, input, state, pc, instr)
+            visit_live_at(rules, input, state, seen, pc, instr)
         }
         ByteMark::Inside | ByteMark::Start => {
             if live {
-                visit_live_at(rules, input, state, pc, instr)
+                visit_live_at(rules, input, state, seen, pc, instr)
             } else {
                 Ok(false)
             }
@@ -272,11 +350,13 @@ pub(crate) fn walk_code<R: CheckRules>(
     rules: &R,
     input: &PassInput,
     state: &mut State,
+    seen: &mut SeenLocals,
     live: bool,
 ) -> Result<(), Fault>
     requires listed { IsListed (R.rules rules.now) input.now }
     requires table { IsSafeInput input.now }
     requires room { HasRoom input.now.method.now state.old }
+    requires seen { HasSeen (R.rules rules.now) input.now seen.old }
     requires short { length input.now.method.now.code < 2 ^ 16 }
     ensures { ForListing (R.rules rules.now) input.now (λ listing.
         result ≡ walk (R.rules rules.now) input.now.method.now listing input.now.claims.now
@@ -290,7 +370,7 @@ pub(crate) fn walk_code<R: CheckRules>(
         let Ok(instr) = rules.decode(code, pc) else {
             unreachable!()
         };
-        match visit_at(rules, input, state, live, pc as u16, &instr) {
+        match visit_at(rules, input, state, seen, live, pc as u16, &instr) {
             Ok(falls) => live = falls,
             Err(reason) => {
                 return Err(Fault {

@@ -19,11 +19,12 @@ use Rattle.jc_names.specs.Names.{home_of}
 use Rattle.jc_names.specs.declared.name.ClassName.{ClassName}
 use Rattle.jc_entries.specs.declared.called.Called.{Called}
 use Rattle.jc_entries.specs.declared.called.Called.TheVariants.{Nothing}
-use Rattle.jc_program.specs.Called.{AreCalled, AreInterfaceCalls, called_of, called_under}
+use Rattle.jc_program.specs.Called.{AreCalled, AreInterfaceCalls, called_at, called_of, called_under}
 use Rattle.jc_program.specs.Classes.{HaveWordOffsets, class_names, class_number}
 use Rattle.jc_program.specs.InterfaceRows.{AreInterfaceRows, ClassInterfaces, IndexRow, class_interfaces, index_row}
 use Rattle.jc_program.specs.InterfaceRows.{indexes_at, indexes_from, indexes_in}
 use Rattle.jc_program.specs.Methods.{LoadedMethod}
+use Rattle.jc_program.specs.declared.interfaces.InterfaceCall.{InterfaceCall}
 use Rattle.jc_program.specs.declared.interfaces.InterfaceCall.TheVariants.{NotListed, Listed}
 use Rattle.jc_program.proofs.Chaining.{above_number}
 use Rattle.jc_program.proofs.Naming.{first_option}
@@ -52,96 +53,122 @@ module _ (world : List Shape) (names : List ClassName) (interface : ClassName) (
   abbrev with_number : Implemented → ℕ → IndexRow
   with_number row n = record { interface = n; indexes = row.indexes }
 
+  abbrev indexes_of : Option Implemented → Option (List ℕ)
+  indexes_of o = option_map (λ (r : Implemented). r.indexes) o
+
   -- the first row for it in a class's record
   own_row : (home : ℕ) (rows : List Implemented) → indexes_in (filter_map (index_row world names home) rows) other
-      ≡ option_map (λ (r : Implemented). r.indexes) (row_for world interface home rows)
+      ≡ indexes_of (row_for world interface home rows)
   own_row home [] = refl
-  own_row home (row ∷ rows) = by_name (class_named world home row.interface)
+  own_row home (row ∷ rows) = by_name (class_named world home row.interface) (own_row home rows)
     where
-      abbrev rest : List IndexRow
+      rest : List IndexRow
       rest = filter_map (index_row world names home) rows
 
-      by_test : (n : ℕ) (b : Bool) → (n == other) ≡ b → indexes_in (with_number row n ∷ rest) other
-          ≡ option_map (λ (r : Implemented). r.indexes) (cond b (Some row) (row_for world interface home rows))
-      by_test n true e = ap (λ b. option_map (λ (r : IndexRow). r.indexes) (cond b (Some (with_number row n))
+      by_test : (n : ℕ) (b : Bool) → (n == other) ≡ b → indexes_in rest other ≡ indexes_of (row_for world interface home rows)
+          → indexes_in (with_number row n ∷ rest) other
+          ≡ indexes_of (cond b (Some row) (row_for world interface home rows))
+      by_test n true e others = ap (λ b. option_map (λ (r : IndexRow). r.indexes) (cond b (Some (with_number row n))
           (find (λ (r : IndexRow). r.interface == other) rest))) e
-      by_test n false e = ap (λ b. option_map (λ (r : IndexRow). r.indexes) (cond b (Some (with_number row n))
-          (find (λ (r : IndexRow). r.interface == other) rest))) e ∙ own_row home rows
+      by_test n false e others = ap (λ b. option_map (λ (r : IndexRow). r.indexes) (cond b (Some (with_number row n))
+          (find (λ (r : IndexRow). r.interface == other) rest))) e ∙ others
 
       by_number : (o : Option ℕ) (b : Bool) → option_map_or (λ n. n == other) o false ≡ b
+          → indexes_in rest other ≡ indexes_of (row_for world interface home rows)
           → indexes_in (cons_option (option_map (with_number row) o) rest) other
-          ≡ option_map (λ (r : Implemented). r.indexes) (cond b (Some row) (row_for world interface home rows))
-      by_number None true e = absurd cc
-      by_number None false e = own_row home rows
-      by_number (Some n) b e = by_test n b e
+          ≡ indexes_of (cond b (Some row) (row_for world interface home rows))
+      by_number None true e others = absurd cc
+      by_number None false e others = others
+      by_number (Some n) b e others = by_test n b e others
 
-      by_name : (o : Option ClassName)
+      by_name : (o : Option ClassName) → indexes_in rest other ≡ indexes_of (row_for world interface home rows)
           → indexes_in (cons_option (option_map (with_number row) (option_and_then (class_number names) o)) rest) other
-          ≡ option_map (λ (r : Implemented). r.indexes)
-          (cond (is_this interface o) (Some row) (row_for world interface home rows))
-      by_name None = own_row home rows
-      by_name (Some d) = by_number (class_number names d) _ (number_told names interface other is d)
+          ≡ indexes_of (cond (is_this interface o) (Some row) (row_for world interface home rows))
+      by_name None others = others
+      by_name (Some d) others = by_number (class_number names d) _ (number_told names interface other is d) others
+
+  -- a class's own row, or what is found above it
+  own : (home : ℕ) (body : RecordBody) (above : Option (List ℕ)) → (superclass_ref body ≡ None → above ≡ None)
+      → option_or (indexes_in (filter_map (index_row world names home) (interface_rows body)) other) above
+      ≡ found_from (listing_visit world interface home body) above
+  own home (Interface r) above none = none refl
+  own home (Class r) above none =
+      ap (λ (o : Option (List ℕ)). option_or o above) (own_row home r.interfaces)
+      ∙ by_row (row_for world interface home r.interfaces)
+    where
+      by_row : (o : Option Implemented) → option_or (indexes_of o) above ≡ found_from (indexes_visit o) above
+      by_row None = refl
+      by_row (Some row) = refl
+
+  abbrev says : List ClassInterfaces → ℕ → ClassInterfaces → Option (List ℕ)
+  says classes steps k = option_or (indexes_in k.rows other)
+      (option_and_then (indexes_from classes other steps) k.superclass)
+
+  -- one class on the way up, where those above it say what is found by names
+  one_class : (classes : List ClassInterfaces) (steps : ℕ) (c : ClassName)
+      → option_and_then (indexes_from classes other steps) (option_and_then (class_number names) (superclass_of world c))
+      ≡ option_and_then (walk (interface_visit world interface) world steps) (superclass_of world c)
+      → says classes steps (class_interfaces world names c) ≡ walk (interface_visit world interface) world (suc steps) c
+  one_class classes steps c above =
+      ap (option_or (indexes_in (class_interfaces world names c).rows other)) above ∙ by_class (class_at world c) refl
+    where
+      by_names : ClassName → Option (List ℕ)
+      by_names = walk (interface_visit world interface) world steps
+
+      by_ref : (o : Option ClassShape) → class_at world c ≡ o
+          → option_and_then by_names (superclass_of world c) ≡ option_and_then by_names
+          (option_and_then (class_named world (home_of c)) (option_and_then (λ (k : ClassShape). superclass_ref k.body) o))
+      by_ref o e = ap (λ (l : Option ClassShape). option_and_then by_names (option_and_then
+          (class_named world (home_of c)) (option_and_then (λ (k : ClassShape). superclass_ref k.body) l))) e
+
+      with_rows : (o : Option ClassShape) → class_at world c ≡ o
+          → option_or (indexes_in (class_interfaces world names c).rows other)
+          (option_and_then by_names (superclass_of world c))
+          ≡ option_or (indexes_in (filter_map (index_row world names (home_of c))
+          (option_map_or (λ (k : ClassShape). interface_rows k.body) o [])) other)
+          (option_and_then by_names (superclass_of world c))
+      with_rows o e = ap (λ (l : Option ClassShape). option_or (indexes_in (filter_map
+          (index_row world names (home_of c)) (option_map_or (λ (k : ClassShape). interface_rows k.body) l [])) other)
+          (option_and_then by_names (superclass_of world c))) e
+
+      by_class : (o : Option ClassShape) → class_at world c ≡ o
+          → option_or (indexes_in (class_interfaces world names c).rows other)
+          (option_and_then by_names (superclass_of world c))
+          ≡ option_and_then (λ (k : ClassShape). found_from (interface_visit world interface c k)
+          (option_and_then by_names (superclass_of world c))) (class_at world c)
+      by_class None e =
+          with_rows None e ∙ by_ref None e
+          ∙ sym (ap (option_and_then (λ (k : ClassShape). found_from (interface_visit world interface c k)
+          (option_and_then by_names (superclass_of world c)))) e)
+      by_class (Some k) e =
+          with_rows (Some k) e
+          ∙ own (home_of c) k.body (option_and_then by_names (superclass_of world c)) (λ none.
+          by_ref (Some k) e ∙ ap (λ r. option_and_then by_names (option_and_then (class_named world (home_of c)) r)) none)
+          ∙ sym (ap (option_and_then (λ (k : ClassShape). found_from (interface_visit world interface c k)
+          (option_and_then by_names (superclass_of world c)))) e)
 
   module _ (are : names ≡ class_names world) (words : HaveWordOffsets world) where
-    abbrev classes : List ClassInterfaces
-    classes = map (class_interfaces world names) names
+    abbrev made : List ClassInterfaces
+    made = map (class_interfaces world names) names
 
     -- the same is found by numbers and by names, in as many steps
     walk_is : (steps number : ℕ) (c : ClassName) → slice_get names number ≡ Some c
-        → indexes_from classes other steps number ≡ walk (interface_visit world interface) world steps c
+        → indexes_from made other steps number ≡ walk (interface_visit world interface) world steps c
     walk_is zero number c at = refl
     walk_is (suc steps) number c at =
-        ap (option_and_then says) (slice_get-map (class_interfaces world names) names number
+        ap (option_and_then (says made steps)) (slice_get-map (class_interfaces world names) names number
         ∙ ap (option_map (class_interfaces world names)) at)
-        ∙ by_class (class_at world c) refl
+        ∙ one_class made steps c (above (superclass_of world c) refl (walk_is steps))
       where
-        abbrev says : ClassInterfaces → Option (List ℕ)
-        says k = option_or (indexes_in k.rows other)
-            (option_and_then (indexes_from classes other steps) k.superclass)
-
-        abbrev by_names : ClassName → Option (List ℕ)
-        by_names = walk (interface_visit world interface) world steps
-
         above : (o : Option ClassName) → superclass_of world c ≡ o
-            → option_and_then (indexes_from classes other steps) (option_and_then (class_number names) o)
-            ≡ option_and_then by_names o
-        above None e = refl
-        above (Some d) e =
+            → ((number : ℕ) (d : ClassName) → slice_get names number ≡ Some d
+            → indexes_from made other steps number ≡ walk (interface_visit world interface) world steps d)
+            → option_and_then (indexes_from made other steps) (option_and_then (class_number names) o)
+            ≡ option_and_then (walk (interface_visit world interface) world steps) o
+        above None e same = refl
+        above (Some d) e same =
             let has = above_number world names are words c d e in
-            ap (option_and_then (indexes_from classes other steps)) has.found
-            ∙ walk_is steps has.number d has.there
-
-        own : (body : RecordBody) (rest : Option (List ℕ)) → (superclass_ref body ≡ None → rest ≡ None)
-            → option_or (indexes_in (filter_map (index_row world names (home_of c)) (interface_rows body)) other) rest
-            ≡ found_from (listing_visit world interface (home_of c) body) rest
-        own (Interface r) rest none = none refl
-        own (Class r) rest none =
-            ap (λ (o : Option (List ℕ)). option_or o rest) (own_row (home_of c) r.interfaces)
-            ∙ by_row (row_for world interface (home_of c) r.interfaces)
-          where
-            by_row : (o : Option Implemented) → option_or (option_map (λ (r : Implemented). r.indexes) o) rest
-                ≡ found_from (indexes_visit o) rest
-            by_row None = refl
-            by_row (Some row) = refl
-
-        by_class : (o : Option ClassShape) → class_at world c ≡ o → says (class_interfaces world names c)
-            ≡ option_and_then (λ (k : ClassShape). found_from (interface_visit world interface c k)
-            (option_and_then by_names (superclass_of world c))) o
-        by_class None e = none_there
-          where
-            none_there : says (class_interfaces world names c) ≡ None
-            none_there = rw e refl
-        by_class (Some k) e =
-            ap (λ (l : Option ClassShape). option_or (indexes_in (filter_map (index_row world names (home_of c))
-            (option_map_or (λ (k : ClassShape). interface_rows k.body) l [])) other)
-            (option_and_then (indexes_from classes other steps)
-            (option_and_then (class_number names) (superclass_of world c)))) e
-            ∙ ap (option_or (indexes_in (filter_map (index_row world names (home_of c)) (interface_rows k.body)) other))
-            (above (superclass_of world c) refl)
-            ∙ own k.body (option_and_then by_names (superclass_of world c)) (λ none.
-            ap (λ (l : Option ClassShape). option_and_then by_names (option_and_then (class_named world (home_of c))
-            (option_and_then (λ (k : ClassShape). superclass_ref k.body) l))) e
-            ∙ ap (λ r. option_and_then by_names (option_and_then (class_named world (home_of c)) r)) none)
+            ap (option_and_then (indexes_from made other steps)) has.found ∙ same has.number d has.there
 
 -- ---- what a call leads to
 
@@ -151,10 +178,11 @@ pub are_interface_calls : (world : List Shape) (methods : List LoadedMethod) (na
     → AreInterfaceCalls world methods names classes virtuals
 are_interface_calls world methods names classes virtuals are words rows called number other token c interface at is =
     ap (λ (o : Option (List ℕ)). leads o)
-    (ap (λ cs. indexes_at cs other number) rows ∙ walk_is world names interface other is are words most_classes number c at)
+    (ap (λ cs. indexes_at cs other number) rows
+    ∙ walk_is world names interface other is are words most_classes number c at)
     ∙ by_found (found (interface_visit world interface) world c)
   where
-    abbrev leads : Option (List ℕ) → InterfaceCall
+    leads : Option (List ℕ) → InterfaceCall
     leads o = option_map_or (λ indexes.
         Listed (option_map_or (called_under virtuals number) (slice_get indexes token) Nothing)) o NotListed
 

@@ -41,6 +41,7 @@ pub struct ProgramSize {
 
 impl Program {
     /// All tables of a world.
+    #[tactic(auto, using(crate::proofs::Interfacing::are_interface_calls))]
     pub fn new(alloc: Global, world: &World) -> Result<Program, AllocError>
         ensures { IfOk result (λ program. IsProgramOf world.now program) }
     {

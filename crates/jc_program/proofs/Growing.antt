@@ -1,7 +1,7 @@
 -- What tables of a world hold stays right in the world with one package more.
 use Rattle.std.proofs.Common.{◌≡◌, ◌⊎◌, inl, inr, ℕ, zero, suc, ◌+◌, ◌-◌, ◌<◌, ◌≤◌, Bool, true, false, cond}
 use Rattle.std.proofs.Common.{List, [], ◌∷◌, length, map, take, Option, Some, None, is_some, slice_get}
-use Rattle.std.proofs.Common.{unwrap_or, nat_lt, refl, sym, ap, subst, ◌∙◌, arith, length-append}
+use Rattle.std.proofs.Common.{unwrap_or, refl, sym, ap, subst, ◌∙◌, arith, length-append}
 use Rattle.std.proofs.lemmas.Bool.{cases_lt, ne_eqb}
 use Rattle.std.proofs.lemmas.Iterator.Adapters.{position_from-zero}
 use Rattle.std.proofs.lemmas.List.{take-append-le, take_all}
@@ -40,7 +40,7 @@ use Rattle.jc_entries.specs.declared.called.Called.{Called}
 use Rattle.jc_entries.specs.declared.called.Called.TheVariants.{Nothing}
 use Rattle.jc_program.specs.declared.class_rows.ClassRow.{ClassRow}
 use Rattle.jc_program.proofs.Counting.{get_front, is_there, keeps_numbers, new_at_home}
-use Rattle.jc_program.proofs.Same.{is_placed, name_itself, named, same_name}
+use Rattle.jc_program.proofs.Same.{is_placed, name_itself, named}
 
 -- ---- lists and options
 

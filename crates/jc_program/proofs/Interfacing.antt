@@ -10,7 +10,7 @@ use Rattle.jc_cap.specs.Interfaces.{Implemented}
 use Rattle.jc_cap.specs.declared.record.RecordBody.{RecordBody}
 use Rattle.jc_cap.specs.declared.record.RecordBody.TheVariants.{Class, Interface}
 use Rattle.jc_cap_desc.specs.Shape.{ClassShape, Shape}
-use Rattle.jc_classes.specs.Methods.{indexes_visit, interface_method_of, interface_visit, is_this, listing_visit}
+use Rattle.jc_classes.specs.Methods.{indexes_visit, interface_visit, is_this, listing_visit}
 use Rattle.jc_classes.specs.Methods.{package_visible, public_method_of, row_for, virtual_method_of}
 use Rattle.jc_classes.specs.Record.{interface_rows}
 use Rattle.jc_classes.specs.Walk.{found, found_from, most_classes, walk}

@@ -81,11 +81,7 @@ impl IndexRows {
         ensures { option_map (λ indexes. indexes.now) result ≡ indexes_in (part self.now first count) interface }
     {
         match row_with(part_of(&self.rows, first, count), interface) {
-            Some(row) => Some(part_of(
-                &self.tokens,
-                row.start as usize,
-                usize::from(row.length),
-            )),
+            Some(row) => Some(part_of(&self.tokens, row.start as usize, usize::from(row.length))),
             None => None,
         }
     }

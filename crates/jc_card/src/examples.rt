@@ -2,7 +2,6 @@
 
 ghost use Rattle.std.specs.Prelude.{◌≡◌, [], ◌∷◌, Some};
 ghost use Rattle.std.specs.Option.{option_and_then};
-ghost use Rattle.jc_card.specs.Command.{normal, not_selected, wrong_length};
 ghost use Rattle.jc_card.specs.Commands.{status_alone};
 ghost use Rattle.jc_card.specs.Examples.{answer_on, applet_aid, header_alone, install_on, installed_card, loaded_card};
 ghost use Rattle.jc_card.specs.Examples.{objects_accessed, other_aid, reset_card, said_by, select_of, selected_card};
@@ -22,10 +21,10 @@ pub fn applets_are_installed()
 
 /// It is selected, and then each command is before it, until a reset. It does nothing.
 pub fn applets_are_selected()
-    ensures selected { answer_on installed_card (select_of applet_aid) ≡ Some (status_alone normal) }
-    ensures processed { answer_on selected_card header_alone ≡ Some (status_alone normal) }
-    ensures before { answer_on installed_card header_alone ≡ Some (status_alone not_selected) }
-    ensures after_reset { answer_on reset_card header_alone ≡ Some (status_alone not_selected) }
-    ensures other { answer_on installed_card (select_of other_aid) ≡ Some (status_alone not_selected) }
-    ensures malformed { answer_on selected_card (0 ∷ 0 ∷ []) ≡ Some (status_alone wrong_length) }
+    ensures selected { answer_on installed_card (select_of applet_aid) ≡ Some (status_alone 0x9000) }
+    ensures processed { answer_on selected_card header_alone ≡ Some (status_alone 0x9000) }
+    ensures before { answer_on installed_card header_alone ≡ Some (status_alone 0x6999) }
+    ensures after_reset { answer_on reset_card header_alone ≡ Some (status_alone 0x6999) }
+    ensures other { answer_on installed_card (select_of other_aid) ≡ Some (status_alone 0x6999) }
+    ensures malformed { answer_on selected_card (0 ∷ 0 ∷ []) ≡ Some (status_alone 0x6700) }
 {}

@@ -1,15 +1,20 @@
 //! What is known of all commands of the defensive machine's card (Java Card Runtime Environment Specification, Applet
 //! Isolation and Object Sharing).
 
-ghost use Rattle.std.specs.Prelude.{◌<◌};
+ghost use Rattle.std.specs.Prelude.{◌<◌, ℕ, List, IsSome};
 ghost use Rattle.jc_api.specs.Bound.{Bound};
 ghost use Rattle.jc_api.specs.NoClash.{HasNoClash};
 ghost use Rattle.jc_card.specs.Accesses.{IsApartCard};
+ghost use Rattle.jc_card.specs.Card.{CardState};
+ghost use Rattle.jc_card.specs.Commands.{apdu_command, reset_command};
+ghost use Rattle.jc_card.specs.Install.{install_command};
 ghost use Rattle.jc_card.specs.New.{new_card};
 ghost use Rattle.jc_machine.specs.declared.limits.Limits.{Limits};
 ghost use Rattle.jc_run.specs.Isolation.{AreIsolated};
-ghost use Rattle.jc_run.specs.NeverStuck.{IsNeverStuck};
+ghost use Rattle.jc_run.specs.NeverStuck.{GoesOn, IsNeverStuck};
 ghost use Rattle.jc_run.specs.Runs.{AreGuarded, anything};
+ghost use Rattle.jc_run.specs.Session.{MayRefuse};
+ghost use Rattle.jc_script.specs.Script.{Apdu, Asks, Cells, Install, Objects, Reset, Skipped, Steps};
 
 use jc_card::{
     accesses_add_up, commands_are_answered, commands_are_guarded, commands_are_never_stuck,
@@ -35,3 +40,22 @@ pub(crate) fn commands_are_lawful()
     commands_are_never_stuck();
     accesses_add_up();
 }
+
+/// A session may refuse a line that is no command, and a load; no other line. It does nothing.
+pub fn sessions_refuse_no_other_line()
+    ensures apdu { (bytes : List ℕ) → MayRefuse (Asks (Apdu bytes)) → ⊥ }
+    ensures install { (applet instance incoming : List ℕ) → MayRefuse (Asks (Install applet instance incoming)) → ⊥ }
+    ensures reset { MayRefuse (Asks Reset) → ⊥ }
+    ensures cells { MayRefuse (Asks Cells) → ⊥ }
+    ensures objects { MayRefuse (Asks Objects) → ⊥ }
+    ensures steps { (steps : ℕ) → MayRefuse (Asks (Steps steps)) → ⊥ }
+    ensures skipped { MayRefuse Skipped → ⊥ }
+{}
+
+/// A command that calls methods goes on only if the card of the defensive machine answers it. It does nothing.
+pub fn commands_that_go_on_are_answered()
+    ensures apdu { (c : CardState) (bytes : List ℕ) → GoesOn c (Apdu bytes) → IsSome (apdu_command c bytes) }
+    ensures install { (c : CardState) (applet instance incoming : List ℕ) → GoesOn c (Install applet instance incoming)
+        → IsSome (install_command c applet instance incoming) }
+    ensures reset { (c : CardState) → GoesOn c Reset → IsSome (reset_command c) }
+{}

@@ -1,2 +1,3 @@
 pub mod Verdict
 pub mod Own
+pub mod Examples

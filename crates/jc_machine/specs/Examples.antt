@@ -9,6 +9,7 @@ use Rattle.jc_api.specs.declared.class.ApiClass.TheVariants.{ClassCastException,
 use Rattle.jc_api.specs.declared.class.ApiClass.TheVariants.{NegativeArraySizeException, NullPointerException}
 use Rattle.jc_api.specs.declared.class.ApiClass.TheVariants.{SecurityException, IsoException, SystemException}
 use Rattle.jc_api.specs.declared.class.ApiClass.TheVariants.{ApduException}
+use Rattle.jc_cap.specs.declared.handler.Handler.{Handler}
 use Rattle.jc_cap_desc.specs.Shape.{Package, Shape}
 use Rattle.jc_classes.specs.Api.{api_world}
 use Rattle.jc_names.specs.declared.name.ClassName.TheVariants as classes
@@ -244,3 +245,7 @@ has_its_size world wanted = of_type wanted.type
 
 unfoldable pub have_their_sizes : Bool
 have_their_sizes = list_all (has_its_size (api_world default_binding)) runtime_objects
+
+-- an exception handler that covers so many bytes from one on
+abbrev pub handler_from : ℕ → ℕ → Handler
+handler_from start length = record { start = start; active_length = length; handler = 0; catch_type = 0 }

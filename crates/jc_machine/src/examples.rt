@@ -2,18 +2,22 @@
 
 ghost use Rattle.std.specs.Prelude.{◌≡◌, [], ◌∷◌, ◌++◌, List, None, Some, false, true};
 ghost use Rattle.jc_names.specs.declared.name.ClassName.TheVariants as classes;
-ghost use Rattle.jc_cap_desc.specs.Shape.{Shape};
+ghost use Rattle.jc_cap_desc.specs.Shape.{MethodBody, Shape};
+ghost use Rattle.jc_code.specs.declared.object.Form.TheVariants as forms;
 ghost use Rattle.jc_names.specs.declared.name.MethodName.TheVariants.{Api, Loaded};
 ghost use Rattle.jc_firewall.specs.declared.access.Access.TheVariants.{CheckCast, GetField, InvokeInterface};
 ghost use Rattle.jc_firewall.specs.declared.access.Access.TheVariants.{InvokeVirtual, LoadComponent, PutField};
 ghost use Rattle.jc_firewall.specs.declared.access.Access.TheVariants.{StoreComponent};
 ghost use Rattle.jc_firewall.specs.declared.access.Rule.TheVariants.{Fields};
 ghost use Rattle.jc_firewall.specs.declared.access.Verdict.TheVariants.{Allowed, AllowedSwitch, Denied};
+ghost use Rattle.jc_machine.specs.Arrays.{loaded_as, stored_as};
 ghost use Rattle.jc_machine.specs.ExamplePackages.{asker, client, probe, server};
 ghost use Rattle.jc_machine.specs.Examples.{a_value, an_object, asking, exceptions, have_their_sizes, is_stuck_with};
 ghost use Rattle.jc_machine.specs.Examples.{owner, probed, probed_on, probed_with, run, run_with, served_run};
 ghost use Rattle.jc_machine.specs.Examples.{shown, start_of, stuck, touch, untouched, used_up, with_served};
+ghost use Rattle.jc_machine.specs.Examples.{handler_from};
 ghost use Rattle.jc_machine.specs.Idle.{idle};
+ghost use Rattle.jc_machine.specs.Step.{is_covered};
 ghost use Rattle.jc_machine.specs.Typed.{IsOperand};
 ghost use Rattle.jc_words.specs.Values.{Null, Ref, TaggedValue, Unset, Word};
 ghost use Rattle.jc_link.specs.Applet.{applet};
@@ -166,3 +170,21 @@ pub fn first_frames_are_typed()
 {
     an_applet_is_well_formed();
 }
+
+/// Of a word a component or a field of bytes keeps the low byte, and a load gives that with its sign. They do nothing.
+pub fn bytes_are_kept()
+    ensures the_low_byte { stored_as forms.Byte (Word 0x1FF) ≡ Word 0xFF }
+    ensures the_least { loaded_as forms.Byte (Word 0x80) ≡ Some (Word 0xFF80) }
+    ensures minus_one { loaded_as forms.Byte (Word 0xFF) ≡ Some (Word 0xFFFF) }
+    ensures the_greatest { loaded_as forms.Byte (Word 0x7F) ≡ Some (Word 0x7F) }
+    ensures a_short { stored_as forms.Short (Word 0x1FF) ≡ Word 0x1FF }
+{}
+
+/// An exception handler covers the bytes of its range: where code begins at byte 20 of the Method component, a range of
+/// three bytes from byte 22 on covers the pcs 2 to 4. They do nothing.
+pub fn handlers_cover_their_ranges()
+    ensures in_front { (body : MethodBody) → body.code_offset ≡ 20 → is_covered body 1 (handler_from 22 3) ≡ false }
+    ensures the_first { (body : MethodBody) → body.code_offset ≡ 20 → is_covered body 2 (handler_from 22 3) ≡ true }
+    ensures the_last { (body : MethodBody) → body.code_offset ≡ 20 → is_covered body 4 (handler_from 22 3) ≡ true }
+    ensures behind { (body : MethodBody) → body.code_offset ≡ 20 → is_covered body 5 (handler_from 22 3) ≡ false }
+{}

@@ -10,8 +10,9 @@ mod natives;
 mod stop;
 
 pub use examples::{
-    callback_runs, calls_run, first_frames_are_typed, install_runs, natives_run,
-    new_machines_are_typed, operands_are_written, runtime_objects_fit, stuck_runs, throws_run,
+    bytes_are_kept, callback_runs, calls_run, first_frames_are_typed, handlers_cover_their_ranges,
+    install_runs, natives_run, new_machines_are_typed, operands_are_written, runtime_objects_fit,
+    stuck_runs, throws_run,
 };
 pub use idle::IdleNatives;
 pub use laws::{

@@ -6,7 +6,7 @@ use Rattle.jc_base.specs.Results.{◌>>=◌}
 use Rattle.jc_base.specs.declared.fault.LoadFault.{LoadFault}
 use Rattle.jc_base.specs.declared.fault.LoadFault.TheVariants.{BadAid}
 
--- how many bytes an AID has
+-- the least and the greatest number of bytes of an AID
 abbrev pub shortest_aid : ℕ
 shortest_aid = 5
 
@@ -20,7 +20,7 @@ has_aid_length n = nat_le shortest_aid n && nat_le n longest_aid
 abbrev pub aid_of : List ℕ → Option (List ℕ)
 aid_of bytes = if has_aid_length (length bytes) then Some bytes else None
 
--- the length of an AID, and so many bytes, in the component with a tag
+-- an AID in the component with a tag: its length, and then its bytes
 unfoldable pub next_aid : ℕ → List ℕ → Result (Read (List ℕ)) LoadFault
 next_aid tag bytes = do
   len ← field tag (next_u1 bytes)

@@ -1,5 +1,5 @@
--- An image: components one behind the other, each a tag, a size and an info, in any order
--- (Java Card Virtual Machine Specification, CAP file format: Component model).
+-- An image: consecutive components, each a tag, a size and an info, in any order (Java Card Virtual Machine
+-- Specification, CAP file format: Component model).
 use Rattle.std.specs.Prelude.{◌≡◌, ℕ, ◌+◌, ◌*◌, ◌<◌, ◌==◌, if◌then◌else◌, List, [], ◌∷◌, ◌++◌, length, Option, Some}
 use Rattle.std.specs.Prelude.{None, nat_lt, Result, Ok, Err}
 use Rattle.std.specs.List.{flat_map, find, AllByRecursion, range_with_len}
@@ -11,7 +11,7 @@ use Rattle.jc_base.specs.declared.fault.LoadFault.TheVariants.{RepeatedComponent
 use Rattle.jc_base.specs.Tag.{header_tag, applet_tag, import_tag, constant_pool_tag, class_tag, method_tag}
 use Rattle.jc_base.specs.Tag.{static_field_tag, export_tag, descriptor_tag}
 
--- a component as it stands: its tag, the two bytes of its size, and its info
+-- a component: its tag, the two bytes of its size, and its info
 pub record Piece : Type 0 where
   pub tag : ℕ
   pub high : ℕ
@@ -47,7 +47,7 @@ abbrev pub count_of : ℕ → List Piece → ℕ
 count_of tag [] = 0
 count_of tag (p ∷ pieces) = (if p.tag == tag then 1 else 0) + count_of tag pieces
 
--- the tags that have a meaning, 1 to 12; other components are passed over
+-- the tags that have a meaning, 1 to 12; other components are ignored
 unfoldable pub known : List ℕ
 known = range_with_len 1 12
 
@@ -55,17 +55,17 @@ known = range_with_len 1 12
 abbrev pub twice : List Piece → Option ℕ
 twice pieces = find (λ tag. nat_lt 1 (count_of tag pieces)) known
 
--- an info that must be there
+-- the info of a required component
 abbrev pub needed : ℕ → Option (List ℕ) → Result (List ℕ) LoadFault
 needed tag (Some info) = Ok info
 needed tag None = Err (MissingComponent tag)
 
--- the infos, where no tag came twice
+-- the infos, if no tag came twice
 abbrev pub single : Option ℕ → Infos → Result Infos LoadFault
 single None infos = Ok infos
 single (Some tag) infos = Err (RepeatedComponent tag)
 
--- what the infos by their tags, and the tag that came twice, give: the first that is missing is the least
+-- the infos, from the info of each tag and the tag that came twice; of several missing tags the least is reported
 unfoldable pub infos_by : (ℕ → Option (List ℕ)) → Option ℕ → Result Infos LoadFault
 infos_by info repeated = do
   header ← needed header_tag (info header_tag)
@@ -87,7 +87,7 @@ infos_by info repeated = do
         descriptor = descriptor;
       })
 
--- what an image of these components and this rest gives: its infos, or of the refusals the first
+-- the result for an image of these components and this rest: its infos, or the first refusal
 abbrev pub answer : List Piece → List ℕ → Result Infos LoadFault
 answer pieces [] = infos_by (λ tag. info_of tag pieces) (twice pieces)
 answer pieces (tag ∷ high ∷ low ∷ bytes) = Err ShortComponent

@@ -9,8 +9,8 @@ use Rattle.jc_base.specs.declared.fault.LoadFault.TheVariants.{BadAid, Malformed
 use Rattle.jc_base.specs.declared.fault.LoadFault.TheVariants.{TypeMismatch, BadClass, BadStatic, DuplicatePackage}
 use Rattle.jc_base.specs.declared.fault.LoadFault.TheVariants.{BadCertificate, MethodRefused, Full, Memory}
 
--- the words of a refusal's line behind the word `refused`: number, name and places, with one space between them;
--- tags, tokens, indices, offsets and pcs in decimal
+-- the words of a refusal's line after the word `refused`: number, name and places, separated by one space; tags,
+-- tokens, indices, offsets and pcs in decimal
 abbrev pub words_of : LoadFault → List ℕ
 words_of ShortComponent = codes "1 ShortComponent"
 words_of ExtraBytes = codes "2 ExtraBytes"
@@ -55,7 +55,7 @@ number_of (MethodRefused method pc reason) = 17
 number_of Full = 18
 number_of Memory = 19
 
--- where it was found: a tag, a token, an index or an offset; 0 for a refusal that names no place
+-- the tag, token, index or offset that a refusal names first; 0 for a refusal that names no place
 abbrev pub place_of : LoadFault → ℕ
 place_of ShortComponent = 0
 place_of ExtraBytes = 0
@@ -77,11 +77,11 @@ place_of (MethodRefused method pc reason) = method
 place_of Full = 0
 place_of Memory = 0
 
--- of several refusals the one with the smaller number is told, and of one number the one with the smaller place
+-- of several refusals the one with the smaller number is reported, and of one number the one with the smaller place
 abbrev pub is_told_before : LoadFault → LoadFault → Bool
 is_told_before a b =
     nat_lt (number_of a) (number_of b) || (number_of a == number_of b && nat_lt (place_of a) (place_of b))
 
--- the one of two that is told; the first where neither is told before the other
+-- the one of two that is reported; the first if neither is reported before the other
 abbrev pub least_of : LoadFault → LoadFault → LoadFault
 least_of a b = if is_told_before b a then b else a

@@ -15,6 +15,6 @@ s1s bytes = map (cast_signed w8) bytes
 abbrev pub s2s : List ℕ → List ℤ
 s2s bytes = map (cast_signed w16) (u2s bytes)
 
--- whether a flag is among flags
+-- whether all bits of a flag are set in the flags
 abbrev pub has_flag : ℕ → ℕ → Bool
 has_flag flags flag = bit_and flags flag == flag

@@ -1,4 +1,4 @@
--- Packages as they stand in components (Java Card Virtual Machine Specification, CAP file format: package_info in the
+-- Packages as components spell them (Java Card Virtual Machine Specification, CAP file format: package_info in the
 -- Header component).
 use Rattle.std.specs.Prelude.{ℕ, List, Result, Ok}
 use Rattle.jc_base.specs.Cursor.{Read, next_u1, field}

@@ -1,7 +1,7 @@
--- What an image has (Java Card Virtual Machine Specification, CAP file format: Component model).
+-- The components of an image (Java Card Virtual Machine Specification, CAP file format: Component model).
 use Rattle.std.specs.Prelude.{ℕ, List, Option}
 
--- the infos of an image: those that it must have, and those that it may have
+-- the infos of an image: required ones and optional ones
 pub record Infos : Type 0 where
   pub header : List ℕ
   pub applet : Option (List ℕ)

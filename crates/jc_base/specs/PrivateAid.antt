@@ -10,7 +10,7 @@ use Rattle.jc_base.specs.declared.aid.Aid.TheInside.{Inside}
 abbrev pub held : Inside → List ℕ
 held a = take a.len a.bytes
 
--- behind them the array has zeros
+-- all bytes after them are zeros
 pub record IsHeld (a : Inside) : Type 0 where
   pub least : shortest_aid ≤ a.len
   pub most : a.len ≤ longest_aid

@@ -1,4 +1,4 @@
--- Private. The component in front of a list of bytes, and what is kept of components while they are read.
+-- Private. The first component of a list of bytes, and what is kept of the components that were read.
 use Rattle.std.specs.Prelude.{◌≡◌, ℕ, ◌+◌, ◌*◌, ◌^◌, ◌<◌, false, List, [], ◌∷◌, length, take, drop, Some, None, Result}
 use Rattle.std.specs.Prelude.{Ok, Err, Option, nat_lt, slice_index_or, IfSome, if◌then◌else◌}
 use Rattle.std.specs.Option.{option_copied}
@@ -9,7 +9,7 @@ use Rattle.jc_base.specs.declared.fault.LoadFault.TheVariants.{ShortComponent, E
 use Rattle.jc_base.specs.declared.cutting.Component.{Component}
 use Rattle.jc_base.specs.declared.cutting.Slots.{Slots}
 
--- no byte is left; a tag and an info, and the bytes behind them; or neither
+-- the end of the bytes; or a tag and an info, and the bytes after them; or a refusal
 pub data Next : Type 0 where
   Ended : Next
   Found : ℕ → List ℕ → List ℕ → Next
@@ -23,7 +23,7 @@ next_of (tag ∷ high ∷ low ∷ bytes) =
     if nat_lt (length bytes) (256 * high + low) then Refused ShortComponent
     else Found tag (take (256 * high + low) bytes) (drop (256 * high + low) bytes)
 
--- what the code found, with what is left behind it
+-- what the code found, with what is left after it
 abbrev pub next_is : Result (Option Component) LoadFault → List ℕ → Next
 next_is (Ok None) rest = Ended
 next_is (Ok (Some c)) rest = Found c.tag c.info.now rest
@@ -33,7 +33,7 @@ next_is (Err fault) rest = Refused fault
 abbrev pub info_in : Slots → ℕ → Option (List ℕ)
 info_in slots tag = option_copied (slice_index_or slots.infos tag None)
 
--- the least known tag that is marked as come twice
+-- the least known tag that is marked as repeated
 abbrev pub twice_in : Slots → Option ℕ
 twice_in slots = find (λ tag. slice_index_or slots.repeats tag false) known
 
@@ -44,6 +44,6 @@ pub record Holds (slots : Slots) (pieces : List Piece) : Type 0 where
   pub repeats_len : length slots.repeats ≡ 13
   pub repeats : (tag : ℕ) → tag < 13 → slice_index_or slots.repeats tag false ≡ nat_lt 1 (count_of tag pieces)
 
--- each info that is kept is as short as the two bytes of a size say
+-- each kept info is shorter than 2^16 bytes
 abbrev pub AreShort : Slots → Type 0
 AreShort slots = (tag : ℕ) → IfSome (slice_index_or slots.infos tag None) (λ info. length info.now < 2 ^ 16)

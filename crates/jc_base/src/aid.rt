@@ -10,10 +10,10 @@ use crate::cursor::Cursor;
 use crate::fault::LoadFault;
 use std::marker::Model;
 
-/// How many bytes an AID has at least.
+/// The least number of bytes of an AID.
 const SHORTEST_AID: usize = 5;
 
-/// How many bytes an AID has at most.
+/// The greatest number of bytes of an AID.
 const LONGEST_AID: usize = 16;
 
 /// The identifier of a package or an applet: 5 to 16 bytes (ISO/IEC 7816-5).
@@ -39,7 +39,7 @@ impl Model for Aid {
     ghost inverse_ok = { same_held };
 }
 
-/// Whether an AID may have so many bytes.
+/// Whether an AID may have this many bytes.
 fn is_aid_len(len: usize) -> bool
     ensures { result ≡ has_aid_length len }
 {
@@ -47,7 +47,7 @@ fn is_aid_len(len: usize) -> bool
 }
 
 impl Aid {
-    /// The identifier of these bytes, or `None` where they are fewer than 5 or more than 16.
+    /// The identifier with these bytes, or `None` if they are fewer than 5 or more than 16.
     pub fn from_slice(bytes: &[u8]) -> Option<Aid>
         ensures { result ≡ aid_of bytes.now }
     {
@@ -94,8 +94,8 @@ impl Eq for Aid {
     ghost laws = { nat_list_eq_equiv };
 }
 
-/// The next AID in the component with a tag: its length, and its bytes. A length that isn't 5 to 16 is `BadAid`, also
-/// where fewer bytes follow. At an `Err` the cursor stands anywhere.
+/// The next AID in the component with a tag: its length, and its bytes. A length outside 5 to 16 is `BadAid`, even if
+/// fewer bytes follow. After an `Err` the cursor may stand anywhere.
 #[tactic(auto, unfolding(crate::specs::Aid::next_aid))]
 pub fn next_aid(cursor: &mut Cursor, tag: u8) -> Result<Aid, LoadFault>
     ensures { Gives (λ aid. aid) result cursor.new (next_aid tag cursor.old) }

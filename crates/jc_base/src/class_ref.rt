@@ -3,7 +3,7 @@
 ghost use Rattle.std.specs.Prelude.{◌≡◌};
 ghost use Rattle.jc_base.specs.ClassRef.{class_ref_of};
 
-/// Numbers from here on name classes of other packages.
+/// From this number on, a number names a class of another package.
 const EXTERNAL: u16 = 0x8000;
 
 /// A class as a file names it (Java Card Virtual Machine Specification, CAP file format: `class_ref`).
@@ -16,7 +16,7 @@ pub enum ClassRef {
     External { package: u8, class: u8 },
 }
 
-/// The reference that a number of two bytes is.
+/// The reference that a number of two bytes encodes.
 pub fn class_ref_of(number: u16) -> ClassRef
     ensures { result ≡ class_ref_of number }
 {

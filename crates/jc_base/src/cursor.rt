@@ -6,9 +6,9 @@ ghost use Rattle.jc_base.specs.Cursor.{next_u1, next_u2, next_u4, next_s1, next_
 use byteorder::{BigEndian, ByteOrder};
 use std::marker::Model;
 
-/// The bytes that are left to read. What it lends comes from the bytes that it was made from.
+/// The bytes that are left to read. The slices that it returns borrow from the bytes that it was made from.
 ///
-/// A call that finds too few bytes gives `None` and leaves the cursor where it was.
+/// A call that finds too few bytes returns `None` and leaves the cursor where it was.
 #[derive(Drop)]
 pub struct Cursor<'a> {
     rest: &'a [u8],

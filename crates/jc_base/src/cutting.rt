@@ -22,7 +22,7 @@ struct Component<'a> {
     info: &'a [u8],
 }
 
-/// The next component, or `None` where no byte is left.
+/// The next component, or `None` if no byte is left.
 fn next_component<'a>(cursor: &mut Cursor<'a>) -> Result<Option<Component<'a>>, LoadFault>
     ensures next { next_of cursor.old ≡ next_is result cursor.new }
     ensures short { IfOk result (λ found. IfSome found (λ component. length component.info.now < 2 ^ 16)) }
@@ -37,7 +37,7 @@ fn next_component<'a>(cursor: &mut Cursor<'a>) -> Result<Option<Component<'a>>, 
     Ok(Some(Component { tag, info }))
 }
 
-/// What is kept of the components so far, by their tags.
+/// The components read so far, by their tags.
 #[derive(Drop)]
 struct Slots<'a> {
     infos: [Option<&'a [u8]>; 13],
@@ -55,7 +55,7 @@ impl<'a> Slots<'a> {
         }
     }
 
-    /// Keeps one more component. A tag from 13 on is passed over.
+    /// Adds a component. It ignores a tag above 12.
     fn put(&mut self, component: Component<'a>)
         ensures holds { (pieces : List Piece) (p : Piece) → component.entry.tag ≡ p.tag
             → component.entry.info.now ≡ p.info → Holds self.old pieces → Holds self.new (pieces ++ p ∷ []) }
@@ -80,7 +80,7 @@ impl<'a> Slots<'a> {
         self.infos[usize::from(tag)]
     }
 
-    /// The least tag that came twice.
+    /// The least known tag that came twice.
     #[tactic(auto, unfolding(crate::specs::Cutting::known))]
     fn repeated(&self) -> Option<u8>
         ensures { result ≡ twice_in self.now }
@@ -104,7 +104,7 @@ fn components<'a>(image: &'a [u8]) -> Result<Slots<'a>, LoadFault>
     Ok(slots)
 }
 
-/// The parts of what is kept, or the tag that is missing or came twice.
+/// The parts, or the least missing tag, or the least repeated tag.
 #[tactic(auto, unfolding(crate::specs::Cutting::infos_by))]
 fn parts_in<'a>(slots: &Slots<'a>) -> Result<Parts<'a>, LoadFault>
     requires short { AreShort slots.now }
@@ -142,7 +142,7 @@ fn parts_in<'a>(slots: &Slots<'a>) -> Result<Parts<'a>, LoadFault>
     })
 }
 
-/// The parts of an image, by its components in one way that it falls into them.
+/// The parts of an image, computed from one way to split it into components.
 fn parts_of<'a>(image: &'a [u8]) -> Result<Parts<'a>, LoadFault>
     ensures { (pieces : List Piece) × (rest : List ℕ) × Splits image.now pieces rest × (result ≡ answer pieces rest) }
 {
@@ -150,14 +150,14 @@ fn parts_of<'a>(image: &'a [u8]) -> Result<Parts<'a>, LoadFault>
     parts_in(&slots)
 }
 
-/// The components of an image, lent from it, or the first reason against it: a size that runs past the
-/// image, bytes behind the last component, the least required tag that is missing, the least tag that
-/// came twice (Java Card Virtual Machine Specification, CAP file format: Component model).
+/// The components of an image, borrowed from it, or the first reason against it: a size that runs past the image, one
+/// or two bytes after the last component, the least required tag that is missing, the least tag that came twice (Java
+/// Card Virtual Machine Specification, CAP file format: Component model).
 pub fn cut<'a>(image: &'a [u8]) -> Result<Parts<'a>, LoadFault>
-    // The image has components and a rest, and they decide.
+    // The image splits into components and a rest, and they determine the result.
     ensures found { (pieces : List Piece) × (rest : List ℕ) × Splits image.now pieces rest
         × (result ≡ answer pieces rest) }
-    // It has no others.
+    // Every split of the image gives the same result.
     ensures only { (pieces : List Piece) (rest : List ℕ) → Splits image.now pieces rest → result ≡ answer pieces rest }
 {
     parts_of(image)

@@ -1,8 +1,7 @@
 //! The types of fields, parameters and results.
 
-/// The type of a field, a parameter or a result, its classes named in one way: as a file spells them, or as they
-/// were found (Java Card Virtual Machine Specification, Descriptor component: `type_descriptor_info`). The type
-/// int isn't among them.
+/// The type of a field, a parameter or a result. `C` names its classes: as a file spells them, or as they were resolved
+/// (Java Card Virtual Machine Specification, Descriptor component: `type_descriptor_info`). There is no type int.
 #[derive(Clone, Copy, Debug, PartialEq, Eq)]
 pub enum DeclaredType<C> {
     Boolean,
@@ -17,7 +16,7 @@ pub enum DeclaredType<C> {
     ReferenceArray(C),
 }
 
-/// What a method gives.
+/// What a method returns.
 #[derive(Clone, Copy, Debug, PartialEq, Eq)]
 pub enum ReturnType<C> {
     Void,

@@ -7,18 +7,18 @@ use crate::reason::Reason;
 use std::error::Error;
 use std::fmt;
 
-/// Why an image isn't loaded, with the place. Of several refusals that apply the one with the smallest number is
-/// reported, and of several places of one refusal the first. Its text is the printed line behind `refused`: number,
-/// name and places, numbers in decimal.
+/// Why an image isn't loaded, with the place. If several refusals apply, the one with the smallest number is reported,
+/// and of one number the one with the smallest place. Its text is the printed line after `refused`: number, name and
+/// places, numbers in decimal.
 #[derive(Clone, Copy, Debug, PartialEq, Eq, Drop)]
 pub enum LoadFault {
     /// A component's size runs past the image.
     ShortComponent,
     /// One or two bytes stand after the last component.
     ExtraBytes,
-    /// The least required tag that is missing.
+    /// A required component is missing: the least such tag.
     MissingComponent(u8),
-    /// The least tag of 1 to 12 that is there twice.
+    /// A tag of 1 to 12 came twice: the least such tag.
     RepeatedComponent(u8),
     /// The Header doesn't begin with DECAFFED.
     BadMagic,
@@ -28,13 +28,13 @@ pub enum LoadFault {
     IntPackage,
     /// An AID isn't 5 to 16 bytes long.
     BadAid,
-    /// The component with this tag isn't as its layout says.
+    /// The component with this tag doesn't follow its layout.
     Malformed(u8),
-    /// The import with this package token isn't met.
+    /// No package meets the import with this package token.
     MissingImport(u8),
-    /// The constant pool's entry with this index finds nothing, or not what its tag asks.
+    /// The constant pool's entry with this index resolves to nothing, or to something that its tag doesn't allow.
     Unresolved(u16),
-    /// The constant pool's entry with this index has another type than the member that it finds.
+    /// The constant pool's entry with this index has a type that differs from its member's.
     TypeMismatch(u16),
     /// The class or interface at this offset isn't well-formed.
     BadClass(u16),
@@ -42,9 +42,9 @@ pub enum LoadFault {
     BadStatic(u16),
     /// A package with this AID is on the card.
     DuplicatePackage,
-    /// The certificate's bytes spell no certificate.
+    /// The certificate's bytes encode no certificate.
     BadCertificate,
-    /// The method at an offset isn't carried by the certificate, at a pc, for a reason.
+    /// The method at an offset isn't accepted with the certificate, at a pc, for a reason.
     MethodRefused {
         method: u16,
         pc: u16,
@@ -84,7 +84,7 @@ impl LoadFault {
         }
     }
 
-    /// Where it was found: a tag, a token, an index or an offset. 0 for a refusal that names no place.
+    /// The tag, token, index or offset that it names first, or 0 if it names none.
     pub fn place(&self) -> u16
         ensures { result ≡ place_of self.now }
     {
@@ -109,7 +109,8 @@ impl LoadFault {
         }
     }
 
-    /// Whether it is told where the other applies too: it has the smaller number, or the smaller place of one number.
+    /// Whether it is reported before the other: its number is smaller, or the numbers are equal and its place is
+    /// smaller.
     pub fn is_told_before(&self, other: &LoadFault) -> bool
         ensures { result ≡ is_told_before self.now other.now }
     {
@@ -117,7 +118,7 @@ impl LoadFault {
         number < others_number || number == others_number && self.place() < other.place()
     }
 
-    /// The one of two that is told.
+    /// The one of two that is reported.
     pub fn least_of(self, other: LoadFault) -> LoadFault
         ensures { result ≡ least_of self other }
     {

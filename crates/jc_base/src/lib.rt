@@ -1,4 +1,4 @@
-//! What the readers of a card's files share: a cursor over bytes, why a file is refused, and values that are shared.
+//! What the readers of a card's files share: a cursor over bytes, the faults of a refused file, and shared values.
 #![tactic(auto)]
 
 mod aid;

@@ -5,10 +5,10 @@ ghost use Rattle.jc_base.specs.NumberSet.{has_number};
 
 use std::marker::Model;
 
-/// How many numbers a word stands for.
+/// How many numbers a word covers.
 const WORD_BITS: u16 = 64;
 
-/// Numbers of two bytes, each in the set or not. It takes 8 KiB and no other memory.
+/// A set of numbers of two bytes. It takes 8 KiB and no other memory.
 #[derive(Drop)]
 pub struct NumberSet {
     words: [u64; 1024],
@@ -23,7 +23,7 @@ impl Model for NumberSet {
 }
 
 impl NumberSet {
-    /// The set without a number.
+    /// The empty set.
     pub fn empty() -> NumberSet
         ensures { (n : ℕ) → has_number result n ≡ false }
     {
@@ -38,7 +38,7 @@ impl NumberSet {
         word >> (number % WORD_BITS) & 1 == 1
     }
 
-    /// Puts a number into the set, which may have it already.
+    /// Puts a number into the set, which may hold it already.
     pub fn insert(&mut self, number: u16)
         ensures { (n : ℕ) → has_number self.new n ≡ (n == number || has_number self.old n) }
     {

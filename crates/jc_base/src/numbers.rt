@@ -1,4 +1,4 @@
-//! Numbers one behind the other, lent from an image, and flags.
+//! Consecutive numbers, borrowed from an image, and flags.
 
 ghost use Rattle.std.specs.Prelude.{◌≡◌, length, slice_get};
 ghost use Rattle.jc_base.specs.Numbers.{u2s, s1s, s2s, has_flag};
@@ -22,7 +22,7 @@ impl<'a> Model for U2s<'a> {
 }
 
 impl<'a> U2s<'a> {
-    /// The numbers that bytes are. Behind an odd number of them the last byte counts for nothing.
+    /// The numbers that these bytes encode. The last byte of an odd number of bytes is ignored.
     pub fn new(bytes: &'a [u8]) -> U2s<'a>
         ensures { result ≡ u2s bytes.now }
     {
@@ -65,7 +65,7 @@ impl<'a> Model for S1s<'a> {
 }
 
 impl<'a> S1s<'a> {
-    /// The numbers that bytes are.
+    /// The signed bytes of these bytes.
     pub fn new(bytes: &'a [u8]) -> S1s<'a>
         ensures { result ≡ s1s bytes.now }
     {
@@ -104,7 +104,7 @@ impl<'a> Model for S2s<'a> {
 }
 
 impl<'a> S2s<'a> {
-    /// The shorts that bytes are. Behind an odd number of them the last byte counts for nothing.
+    /// The shorts that these bytes encode. The last byte of an odd number of bytes is ignored.
     pub fn new(bytes: &'a [u8]) -> S2s<'a>
         ensures { result ≡ s2s bytes.now }
     {
@@ -129,7 +129,7 @@ impl<'a> S2s<'a> {
     }
 }
 
-/// Whether a flag is among flags: each of its bits.
+/// Whether all bits of a flag are set in the flags.
 pub fn has_flag(flags: u8, flag: u8) -> bool
     ensures { result ≡ has_flag flags flag }
 {

@@ -1,11 +1,11 @@
-//! Rows that are kept.
+//! Owned copies of rows.
 
 ghost use Rattle.std.specs.Prelude.{◌≡◌, IfOk};
 
 use crate::rows::{Row, Rows, Source};
 use std::alloc::{AllocError, Global};
 
-/// A copy of rows that is kept. It serves rows that lend nothing.
+/// Copies rows into a vector, for rows that borrow nothing.
 pub fn owned_rows<S: Source, R: Row<S>>(
     alloc: Global,
     rows: &Rows<S, R>,

@@ -19,7 +19,7 @@ pub struct PackageInfo {
     pub aid: Aid,
 }
 
-/// The next package in the component with a tag. At an `Err` the cursor stands anywhere.
+/// The next package in the component with a tag. After an `Err` the cursor may stand anywhere.
 #[tactic(auto, unfolding(crate::specs::PackageInfo::next_package_info))]
 pub fn next_package_info(cursor: &mut Cursor, tag: u8) -> Result<PackageInfo, LoadFault>
     ensures { Gives (λ info. info) result cursor.new (next_package_info tag cursor.old) }
@@ -30,7 +30,7 @@ pub fn next_package_info(cursor: &mut Cursor, tag: u8) -> Result<PackageInfo, Lo
     Ok(PackageInfo { minor, major, aid })
 }
 
-/// Packages one behind the other are those of the Import component.
+/// Packages as rows are those of the Import component.
 impl<'a> Row<Cursor<'a>> for PackageInfo {
     ghost next_row = { next_package_info import_tag };
 

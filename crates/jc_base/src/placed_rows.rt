@@ -1,4 +1,4 @@
-//! Rows one behind the other until nothing is left.
+//! Consecutive rows up to the end of the bytes.
 
 ghost use Rattle.std.specs.Prelude.{◌≡◌, ◌↔◌, ◌≤◌, ◌∷◌, ℕ, List, [], Ok, drop, length, IsTrue, IfSome, IfNone};
 ghost use Rattle.jc_base.specs.PlacedRows.{Shrinks, IsInFront, IsThatOf, ArePlaced, placed_in, placed_rows, row_at};
@@ -8,12 +8,12 @@ use crate::fault::LoadFault;
 use crate::rows::{Row, Source};
 use std::marker::{Model, PhantomData};
 
-/// Rows that take a byte at least, so that bytes are no more rows than they are bytes.
+/// Rows of at least one byte each, so bytes hold at most as many rows as bytes.
 pub trait PlacedRow<S: Source>: Row<S> {
     ghost shrinks: { Shrinks Self.next_row };
 }
 
-/// Rows that are read from the front of the bytes, so that one is found in one step where it is known to begin.
+/// Rows that are read from the front: the end of the bytes is left. So a row whose offset is known is read in one step.
 pub trait FrontRow<S: Source>: PlacedRow<S> {
     ghost in_front: { IsInFront Self.next_row };
 }
@@ -26,8 +26,7 @@ pub struct Placed<R> {
     pub row: R,
 }
 
-/// Rows one behind the other until nothing is left, each found at the offset at which it begins. They are read where
-/// they are asked for.
+/// Consecutive rows up to the end of a source, each found by the offset at which it begins. They are read on demand.
 #[derive(Drop)]
 pub struct PlacedRows<S: Source, R: PlacedRow<S>> {
     left: S,
@@ -49,7 +48,7 @@ impl<S: Source, R: PlacedRow<S>> Model for PlacedRows<S, R> {
         × (done (placed_in R.next_row r.total r.total (S.left r.left)) ≡ Ok tt) };
 }
 
-/// Whether what is left is rows to its end.
+/// Checks that the rest of a source is rows to its end.
 fn check<S: Source, R: PlacedRow<S>>(left: &S, total: usize) -> Result<(), LoadFault>
     requires { length (S.left left.now) ≤ total }
     ensures { result ≡ done (placed_in R.next_row total total (S.left left.now)) }
@@ -94,7 +93,7 @@ impl<S: Source, R: PlacedRow<S>> PlacedRows<S, R> {
         self.left.len() == 0
     }
 
-    /// The row that begins at an offset, or `None` where none begins. It costs the rows before it.
+    /// The row that begins at an offset, or `None` if none begins. It costs the rows before it.
     pub fn at(&self, offset: usize) -> Option<R>
         ensures { result ≡ row_at offset self.now }
     {
@@ -111,7 +110,7 @@ impl<S: Source, R: PlacedRow<S>> PlacedRows<S, R> {
         None
     }
 
-    /// Takes the first row off, or answers `None` where there is none.
+    /// Takes the first row off, or returns `None` if there is none.
     pub fn next(&mut self) -> Option<Placed<R>>
         ensures some { IfSome result (λ row. self.old ≡ row ∷ self.new) }
         ensures none { IfNone result ((self.old ≡ []) × (self.new ≡ [])) }
@@ -130,7 +129,7 @@ impl<S: Source, R: PlacedRow<S>> PlacedRows<S, R> {
 }
 
 impl<S: Source, R: FrontRow<S>> PlacedRows<S, R> {
-    /// The row that begins at an offset, where one is known to begin. It costs that row alone.
+    /// The row at an offset at which a row is known to begin. It costs that row alone.
     pub fn known_at(&self, offset: usize) -> Option<R>
         ensures { IsThatOf (row_at offset self.now) result }
     {
@@ -143,8 +142,8 @@ impl<S: Source, R: FrontRow<S>> PlacedRows<S, R> {
     }
 }
 
-/// Bytes are read as placed rows exactly where these rows stand in them one behind the other, with nothing between them
-/// and nothing behind, each at its offset.
+/// Bytes are read as placed rows if and only if the bytes are exactly these rows, one after the other, each at its
+/// offset.
 pub fn placed_rows_are_placed<S: Source, R: PlacedRow<S>>()
     ensures { (first : ℕ) (bytes : List ℕ) (rows : List (Placed R))
         → (placed_rows R.next_row first bytes ≡ Ok rows) ↔ ArePlaced R.next_row (length bytes) (drop first bytes) rows }

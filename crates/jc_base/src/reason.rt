@@ -10,21 +10,21 @@ use std::fmt;
 pub enum Reason {
     /// No instruction of the profile has this opcode.
     BadOpcode,
-    /// An operand byte, or what it names, isn't one that the instruction takes.
+    /// An operand byte, or what it names, is invalid for the instruction.
     BadOperand,
     /// The code ends within the instruction.
     CutShort,
     /// The method has no such local.
     BadLocal,
-    /// There are fewer operands than the instruction takes.
+    /// The operand stack has fewer operands than the instruction takes.
     StackUnder,
-    /// A local or an operand isn't of the type that the instruction takes.
+    /// A local or an operand has a type that the instruction doesn't take.
     WrongType,
     /// There would be more operands than the method's maximum.
     StackOver,
-    /// A branch leads to a place where no instruction begins.
+    /// A branch leads to a place at which no instruction begins.
     NoTarget,
-    /// What holds at a place isn't what the certificate has there.
+    /// What holds at a place doesn't match the certificate.
     CertMismatch,
     /// Execution would go on past the last instruction.
     FallsOff,

@@ -1,4 +1,4 @@
-//! Rows one behind the other.
+//! Consecutive rows.
 
 ghost use Rattle.std.specs.Prelude.{◌≡◌, ◌↔◌, ◌∷◌, [], drop, length, slice_get, IsTrue, List, ℕ, Result, IfSome};
 ghost use Rattle.std.specs.Prelude.{IfNone};
@@ -19,11 +19,11 @@ pub trait Source: Drop {
     fn len(&self) -> usize
         ensures { result ≡ length (left self.now) };
 
-    /// The same, to be read on its own.
+    /// A copy, to be read on its own.
     fn again(&self) -> Self
         ensures { left result ≡ left self.now };
 
-    /// What stands behind the next `count`, to be read on its own: nothing where there are fewer.
+    /// A copy from which the next `count` are removed, to be read on its own; it is empty if there are fewer.
     fn behind(&self, count: usize) -> Self
         ensures { left result ≡ drop count (left self.now) };
 }
@@ -44,16 +44,16 @@ impl<'a> Source for Cursor<'a> {
     }
 }
 
-/// What may stand in a source among others of its kind, one behind the other.
+/// A row: rows of one kind may stand in a source one after the other.
 pub trait Row<S: Source>: Drop {
     ghost next_row: { List ℕ → Result (Read Self) LoadFault };
 
-    /// The next row. Where there is none the source stands anywhere.
+    /// The next row. After an `Err` the source may stand anywhere.
     fn next_row(source: &mut S) -> Result<Self, LoadFault>
         ensures { Gives (λ row. row) result (S.left source.new) (next_row (S.left source.old)) };
 }
 
-/// Rows that all take so many bytes.
+/// Rows that all have the same number of bytes.
 pub trait FixedRow<S: Source>: Row<S> {
     ghost size: { ℕ };
 
@@ -64,7 +64,7 @@ pub trait FixedRow<S: Source>: Row<S> {
     ghost has_size: { HasSize size Self.next_row };
 }
 
-/// Rows one behind the other, so many as a count says. They are read where they are asked for.
+/// A counted sequence of consecutive rows. They are read on demand.
 #[derive(Drop)]
 pub struct Rows<S: Source, R: Row<S>> {
     start: S,
@@ -95,7 +95,7 @@ fn skip<S: Source, R: Row<S>>(source: &mut S, count: u16) -> Result<(), LoadFaul
 }
 
 impl<S: Source, R: Row<S>> Rows<S, R> {
-    /// The next `count` rows, each looked at once. Where one of them isn't there the source stands anywhere.
+    /// Reads the next `count` rows, each once. After an `Err` the source may stand anywhere.
     pub fn read(source: &mut S, count: u16) -> Result<Rows<S, R>, LoadFault>
         ensures { Gives (λ rows. rows) result (S.left source.new) (repeat R.next_row count (S.left source.old)) }
     {
@@ -108,7 +108,7 @@ impl<S: Source, R: Row<S>> Rows<S, R> {
         })
     }
 
-    /// The rows that a source is, so many and nothing behind them; where something is left, the fault is told.
+    /// Reads a source that is `count` rows and nothing more. If something is left after them, it reports `fault`.
     pub fn whole(mut source: S, count: u16, fault: LoadFault) -> Result<Rows<S, R>, LoadFault>
         ensures { result ≡ whole fault (repeat R.next_row count (S.left source)) }
     {
@@ -149,7 +149,7 @@ impl<S: Source, R: Row<S>> Rows<S, R> {
         usize::from(self.count)
     }
 
-    /// How many rows there are, as the count says that they were read by.
+    /// How many rows there are, as a number of two bytes.
     pub fn count(&self) -> u16
         ensures { result ≡ length self.now }
     {
@@ -163,7 +163,7 @@ impl<S: Source, R: Row<S>> Rows<S, R> {
         self.len() == 0
     }
 
-    /// The row at an index, or `None` past the last. It costs the rows before it: for all of them in turn use `next`.
+    /// The row at an index, or `None` past the last. It costs the rows before it: to visit all in turn use `next`.
     pub fn get(&self, index: u16) -> Option<R>
         ensures { result ≡ slice_get self.now index }
     {
@@ -177,7 +177,7 @@ impl<S: Source, R: Row<S>> Rows<S, R> {
         R::next_row(&mut source).ok()
     }
 
-    /// Takes the first row off, or answers `None` where there is none.
+    /// Takes the first row off, or returns `None` if there is none.
     pub fn next(&mut self) -> Option<R>
         ensures some { IfSome result (λ row. self.old ≡ row ∷ self.new) }
         ensures none { IfNone result ((self.old ≡ []) × (self.new ≡ [])) }
@@ -209,7 +209,7 @@ impl<S: Source, R: FixedRow<S>> Rows<S, R> {
         R::next_row(&mut source).ok()
     }
 
-    /// The `count` rows from index `first` on, or `None` where they run past the last, in one step.
+    /// The `count` rows from index `first` on, or `None` if they run past the last, in one step.
     pub fn part(&self, first: u16, count: u16) -> Option<Rows<S, R>>
         ensures { result ≡ part first count self.now }
     {

@@ -1,4 +1,4 @@
-//! Values that nobody writes any more.
+//! Shared immutable values.
 
 ghost use Rattle.std.specs.Prelude.{◌≡◌, IfOk};
 
@@ -6,7 +6,7 @@ use std::alloc::{AllocError, Global};
 use std::marker::Model;
 use std::rc::Rc;
 
-/// A value that nobody writes any more, and that others may share. What it is to a contract is the value.
+/// An immutable value that may be shared. A contract sees the value itself.
 #[derive(Drop)]
 pub struct Shared<T: Drop> {
     value: Rc<T>,
@@ -19,7 +19,7 @@ impl<T: Drop> Model for Shared<T> {
 }
 
 impl<T: Drop> Shared<T> {
-    /// A value that may be shared, if there is memory for it.
+    /// Makes a value shareable, if there is memory for it.
     pub fn new(alloc: Global, value: T) -> Result<Shared<T>, AllocError>
         ensures { IfOk result (λ shared. shared ≡ value) }
     {
@@ -37,7 +37,7 @@ impl<T: Drop> Shared<T> {
         self.value.as_ref()
     }
 
-    /// The same value once more: a pointer is made, and nothing is copied. It fails where too many share it already.
+    /// Another pointer to the same value; nothing is copied. It fails if too many share the value already.
     pub fn share(&self) -> Result<Shared<T>, AllocError>
         ensures { IfOk result (λ shared. shared ≡ self.now) }
     {

@@ -1,10 +1,10 @@
-//! Moving the operands of a stack that stands in a slice, the bottom one first.
+//! Moving the operands of an operand stack that lies in a slice, the bottom one first.
 
 ghost use Rattle.std.specs.Prelude.{◌≡◌, ◌<◌, ◌≤◌, ◌+◌, ◌-◌, ◌++◌, length, reverse, take, drop};
 ghost use Rattle.jc_base.specs.Stack.{duplicated, swapped};
 ghost use Rattle.jc_base.specs.PrivateStack.{turned};
 
-// The last of a slice becomes the first, by two moves.
+// Moves the last element of a slice to its front, by two moves.
 fn turn_once<T: Copy>(window: &mut [T])
     requires { 0 < length window.old }
     ensures turned { window.new ≡ turned 1 window.old }
@@ -16,7 +16,7 @@ fn turn_once<T: Copy>(window: &mut [T])
     window[0] = top;
 }
 
-// The last `count` of a slice come before the others.
+// Moves the last `count` elements of a slice to its front.
 fn turn<T: Copy>(window: &mut [T], count: usize)
     requires { count ≤ length window.old }
     ensures { window.new ≡ turned count window.old }
@@ -26,8 +26,8 @@ fn turn<T: Copy>(window: &mut [T], count: usize)
     }
 }
 
-/// The top `upper` of the `depth` operands and the `lower` below them change places.
-// By itself it takes no register from the loops that call it.
+/// Swaps the top `upper` of the `depth` operands with the `lower` below them.
+// Kept out of line, so it takes no register from the loops that call it.
 #[inline(never)]
 pub fn swap_top<T: Copy>(slots: &mut [T], depth: usize, upper: usize, lower: usize)
     requires there { upper + lower ≤ depth }

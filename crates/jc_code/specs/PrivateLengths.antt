@@ -1,4 +1,4 @@
--- Private. How many bytes the instruction of an opcode has, where the opcode alone tells.
+-- Private. How many bytes the instruction of an opcode has, if the opcode alone decides it.
 use Rattle.std.specs.Prelude.{◌≡◌, ℕ, zero, suc, ◌+◌, List, length, drop, slice_get, Some, Result, Ok, Err, nat_lt}
 use Rattle.std.specs.Prelude.{if◌then◌else◌}
 use Rattle.jc_base.specs.Cursor.{Read}
@@ -9,16 +9,17 @@ use Rattle.jc_code.specs.Decoding.{next_constant}
 use Rattle.jc_code.specs.Objects.{next_object}
 use Rattle.jc_code.specs.Instructions.{either_operation}
 
--- what stands behind so many bytes
+-- the bytes after the first `count`
 abbrev pub behind : ℕ → List ℕ → Result (List ℕ) CodeFault
 behind count bytes = if nat_lt (length bytes) count then Err CutShort else Ok (drop count bytes)
 
--- what stands behind an operation that was read
+-- the bytes after an operation that was read
 abbrev pub rest_of : {A : Type 0} → Result (Read A) CodeFault → Result (List ℕ) CodeFault
 rest_of (Ok read) = Ok read.rest
 rest_of (Err fault) = Err fault
 
--- behind the opcode of an instruction of so many bytes, whatever its operands are; 0 tells nothing
+-- the instruction of an opcode has this length, whatever its operands are; the bytes start after the opcode; 0 says
+-- nothing
 abbrev pub HasLength : {A : Type 0} → ℕ → (List ℕ → Result (Read A) CodeFault) → Type 0
 HasLength zero read = Unit {0}
 HasLength (suc count) read = (bytes : List ℕ) → rest_of (read bytes) ≡ behind count bytes
@@ -28,10 +29,10 @@ pub record AreLengths {A : Type 0} (read : ℕ → List ℕ → Result (Read A) 
   pub each : (opcode count : ℕ) → slice_get lengths opcode ≡ Some count → HasLength count (read opcode)
   pub all : length lengths ≡ 256
 
--- the operation that an opcode and the bytes behind it spell
+-- the operation that an opcode and the bytes after it encode
 abbrev pub next_any : ℕ → List ℕ → Result (Read Operation) CodeFault
 next_any opcode bytes = either_operation (next_constant opcode bytes) (next_object opcode bytes)
 
--- the pc so many bytes behind one, in code that goes so far
+-- the pc that lies `count` bytes after one, if the code reaches it
 abbrev pub pc_behind : List ℕ → ℕ → ℕ → Result ℕ CodeFault
 pc_behind code pc count = if nat_lt (length code) (pc + count) then Err CutShort else Ok (pc + count)

@@ -11,7 +11,7 @@ use crate::instr::{BinaryOperator, Condition, Shuffle, UnaryOperator, When, Word
 use crate::tables::{LookupTable, StableTable, next_cases, next_offsets};
 use jc_base::Cursor;
 
-/// The table of the stableswitch behind whose opcode the cursor stands.
+/// The table of a stableswitch; the cursor stands after its opcode.
 #[inline(always)]
 #[tactic(auto, unfolding(crate::specs::Decoding::next_stable_switch))]
 pub fn next_stable_switch<'a>(cursor: &mut Cursor<'a>) -> Result<StableTable<'a>, CodeFault>
@@ -32,7 +32,7 @@ pub fn next_stable_switch<'a>(cursor: &mut Cursor<'a>) -> Result<StableTable<'a>
     })
 }
 
-/// The table of the slookupswitch behind whose opcode the cursor stands.
+/// The table of a slookupswitch; the cursor stands after its opcode.
 #[inline(always)]
 #[tactic(auto, unfolding(crate::specs::Decoding::next_lookup_switch))]
 pub fn next_lookup_switch<'a>(cursor: &mut Cursor<'a>) -> Result<LookupTable<'a>, CodeFault>
@@ -54,7 +54,7 @@ fn wide_increment<'a>(cursor: &mut Cursor<'a>) -> Result<WordOperation<'a>, Code
     Ok(WordOperation::Increment { local, by })
 }
 
-/// When the branch of an opcode with an offset of one byte is taken; `None` where no branch has the opcode.
+/// The condition of a branch opcode with an offset of one byte, or `None` if no such branch has the opcode.
 #[inline(always)]
 #[tactic(auto, unfolding(crate::specs::Decoding::when_of))]
 pub fn when_of(opcode: u8) -> Option<When>
@@ -255,8 +255,8 @@ fn local<'a>(opcode: u8, cursor: &mut Cursor<'a>) -> Result<WordOperation<'a>, C
     }
 }
 
-/// The operation on words that an opcode and the bytes behind it spell: the first of the tables. Each hands an opcode
-/// that it hasn't on to the next, so that all compile to one jump.
+/// The operation on words that an opcode and the bytes after it encode: the first of the tables. Each table hands an
+/// opcode that it doesn't have to the next, so all compile to one jump.
 #[inline(always)]
 #[tactic(auto, unfolding(crate::specs::Decoding::next_constant))]
 pub(crate) fn next_constant<'a>(

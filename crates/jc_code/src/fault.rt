@@ -8,7 +8,7 @@ pub enum CodeFault {
     /// No instruction of the profile has this opcode.
     #[error("")]
     BadOpcode,
-    /// An operand byte isn't one that the instruction takes.
+    /// An operand byte is invalid for the instruction.
     #[error("")]
     BadOperand,
     /// The code ends within the instruction, or before it.

@@ -1,4 +1,4 @@
-//! Where an instruction may go on.
+//! Where control flow goes after an instruction.
 
 ghost use Rattle.std.specs.Prelude.{◌≡◌, length, slice_get};
 ghost use Rattle.jc_code.specs.Targets.{falls_in, falls_of, flow_of, is_end, is_end_of, offsets_in, target_of};
@@ -8,12 +8,12 @@ use crate::instr::{Instr, Operation};
 use crate::tables::{Cases, Offsets};
 use std::marker::Model;
 
-/// Where control flow goes behind an instruction. Offsets count from its opcode.
+/// Where control flow goes after an instruction. Offsets count from its opcode.
 #[derive(Drop)]
 pub enum Flow<'a> {
-    /// To the instruction behind it.
+    /// To the next instruction.
     On,
-    /// By an offset, or to the instruction behind it.
+    /// By an offset, or to the next instruction.
     Branch(i16),
     /// By an offset.
     Jump(i16),
@@ -26,7 +26,7 @@ pub enum Flow<'a> {
 }
 
 impl<'a> Flow<'a> {
-    /// Whether it may go on to the instruction behind it.
+    /// Whether it may go on to the next instruction.
     fn falls(&self) -> bool
         ensures { result ≡ falls_in self.now }
     {
@@ -36,7 +36,7 @@ impl<'a> Flow<'a> {
         }
     }
 
-    /// Whether it goes nowhere in the method but to a handler.
+    /// Whether it goes nowhere in the method, except to an exception handler.
     fn ends(&self) -> bool
         ensures { result ≡ is_end self.now }
     {
@@ -89,7 +89,7 @@ impl<'a> Flow<'a> {
 }
 
 impl<'a> Operation<'a> {
-    /// Where control flow goes behind it.
+    /// Where control flow goes after it.
     fn flow(&self) -> Flow<'a>
         ensures { result ≡ flow_of self.now }
     {
@@ -100,8 +100,8 @@ impl<'a> Operation<'a> {
     }
 }
 
-/// The places that an instruction may branch to, in the order of the code. A place may lie before the code,
-/// behind it, or within an instruction.
+/// The places that an instruction may branch to, in the order of the code. A place may lie before the code, after it,
+/// or within an instruction.
 #[derive(Drop)]
 pub struct Targets<'a> {
     pc: u16,
@@ -118,7 +118,7 @@ impl<'a> Model for Targets<'a> {
 }
 
 impl<'a> Instr<'a> {
-    /// The places that the instruction may branch to where it stands at a pc.
+    /// The places that the instruction may branch to if it stands at a pc.
     pub fn targets(&self, pc: u16) -> Targets<'a>
         ensures { result ≡ targets_of pc self.now.operation }
     {
@@ -128,14 +128,14 @@ impl<'a> Instr<'a> {
         }
     }
 
-    /// Whether it may go on to the instruction behind it.
+    /// Whether it may go on to the next instruction.
     pub fn falls_through(&self) -> bool
         ensures { result ≡ falls_of self.now.operation }
     {
         self.operation.flow().falls()
     }
 
-    /// Whether it goes on nowhere in its method, but where it throws: at a handler.
+    /// Whether it goes on nowhere in its method, except at an exception handler if it throws.
     pub fn ends(&self) -> bool
         ensures { result ≡ is_end_of self.now.operation }
     {

@@ -1,4 +1,4 @@
-//! What an instruction says.
+//! Decoded instructions.
 
 ghost use Rattle.std.specs.Prelude.{◌≡◌};
 ghost use Rattle.jc_code.specs.Targets.{word_flow};
@@ -7,16 +7,16 @@ use crate::flow::Flow;
 use crate::object::ObjectOperation;
 use crate::tables::{Cases, Offsets};
 
-/// An instruction as it stands in code.
+/// A decoded instruction.
 #[derive(Drop)]
 pub struct Instr<'a> {
     pub operation: Operation<'a>,
-    /// Where the instruction behind it begins.
+    /// Where the next instruction begins.
     pub next_pc: usize,
 }
 
-/// What an instruction does, whatever form it is spelled in (Java Card Virtual Machine Specification,
-/// instruction set). Offsets count from the instruction's own opcode.
+/// What an instruction does, whatever its encoding (Java Card Virtual Machine Specification, instruction set). Offsets
+/// count from the instruction's own opcode.
 #[derive(Drop)]
 pub enum Operation<'a> {
     /// On words, and moves of operands.
@@ -25,7 +25,7 @@ pub enum Operation<'a> {
     Object(ObjectOperation),
 }
 
-/// What an instruction on words does: all that code alone may use.
+/// What an instruction on words does. Code alone may use only these.
 #[derive(Drop)]
 pub enum WordOperation<'a> {
     /// nop
@@ -47,7 +47,7 @@ pub enum WordOperation<'a> {
     Binary(BinaryOperator),
     /// Takes a short and puts one.
     Unary(UnaryOperator),
-    /// Goes to another place, always or where a condition holds.
+    /// Goes to another place, always or if a condition holds.
     Branch {
         when: When,
         offset: i16,
@@ -68,7 +68,7 @@ pub enum WordOperation<'a> {
 }
 
 impl<'a> WordOperation<'a> {
-    /// Where control flow goes behind it.
+    /// Where control flow goes after it.
     pub(crate) fn flow(&self) -> Flow<'a>
         ensures { result ≡ word_flow self.now }
     {
@@ -99,18 +99,18 @@ impl<'a> WordOperation<'a> {
     }
 }
 
-/// How operands are moved. The top is the first to be counted.
+/// How operands are moved. Counting starts at the top.
 #[derive(Clone, Copy, Debug, PartialEq, Eq)]
 pub enum Shuffle {
     /// pop, pop2: drops the top `count`.
     Pop { count: u8 },
-    /// dup, dup2, dup_x: puts the top `count` again, below the top `depth`; depth 0 is on top.
+    /// dup, dup2, dup_x: inserts a copy of the top `count` below the top `depth`; depth 0 is on top.
     Duplicate { count: u8, depth: u8 },
     /// swap_x: the top `upper` and the `lower` below them change places.
     Swap { upper: u8, lower: u8 },
 }
 
-/// What is made of two shorts.
+/// Operators on two shorts.
 #[derive(Clone, Copy, Debug, PartialEq, Eq)]
 pub enum BinaryOperator {
     Add,
@@ -126,7 +126,7 @@ pub enum BinaryOperator {
     Xor,
 }
 
-/// What is made of one short.
+/// Operators on one short.
 #[derive(Clone, Copy, Debug, PartialEq, Eq)]
 pub enum UnaryOperator {
     /// sneg
@@ -140,9 +140,9 @@ pub enum UnaryOperator {
 pub enum When {
     /// goto
     Always,
-    /// Where a short compares so with zero.
+    /// If a short compares so with zero.
     Zero(Condition),
-    /// Where two shorts compare so, the deeper one first.
+    /// If two shorts compare so, the deeper one first.
     Compare(Condition),
 }
 

@@ -11,7 +11,7 @@ use crate::instr::{Instr, Operation};
 use crate::objects::next_object;
 use jc_base::Cursor;
 
-// The opcode at a pc, and the bytes behind it.
+// The opcode at a pc, and the bytes after it.
 #[inline(always)]
 fn opcode_at<'a>(code: &'a [u8], pc: usize) -> Result<(u8, &'a [u8]), CodeFault>
     ensures read { IfOk result (λ r. next_u1 (drop pc code.now) ≡ Some (record { value = r.0; rest = r.1.now })) }
@@ -25,7 +25,7 @@ fn opcode_at<'a>(code: &'a [u8], pc: usize) -> Result<(u8, &'a [u8]), CodeFault>
 
 /// The instruction that begins at a pc.
 ///
-/// `CutShort` also where the pc lies at the code's end or past it.
+/// `CutShort` also if the pc lies at the code's end or past it.
 #[inline(always)]
 #[tactic(auto, unfolding(crate::specs::Instructions::instr_at, crate::specs::Instructions::next_operation), using(crate::proofs::Ascents::left_behind_word, crate::proofs::Ascents::left_behind_object))]
 pub fn decode<'a>(code: &'a [u8], pc: usize) -> Result<Instr<'a>, CodeFault>
@@ -55,7 +55,7 @@ pub fn decode<'a>(code: &'a [u8], pc: usize) -> Result<Instr<'a>, CodeFault>
 
 /// The instruction that begins at a pc of code alone, which may use those on words: every other opcode is `BadOpcode`.
 ///
-/// `CutShort` also where the pc lies at the code's end or past it.
+/// `CutShort` also if the pc lies at the code's end or past it.
 #[inline(always)]
 #[tactic(auto, unfolding(crate::specs::Instructions::word_instr_at, crate::specs::Decoding::next_word_operation), using(crate::proofs::Ascents::left_behind_word))]
 pub fn decode_words<'a>(code: &'a [u8], pc: usize) -> Result<Instr<'a>, CodeFault>

@@ -1,4 +1,5 @@
-//! Where the instruction behind the one at a pc begins: the opcode tells, unless the operands count or are tested.
+//! Where the next instruction begins: the opcode says it, except if the length depends on the operands or they are
+//! tested.
 
 ghost use Rattle.std.specs.Prelude.{◌≡◌, ◌+◌, ◌<◌, ◌≤◌, length, IfOk};
 ghost use Rattle.jc_code.specs.Decoding.{next_constant};
@@ -8,7 +9,7 @@ ghost use Rattle.jc_code.specs.PrivateLengths.{AreLengths, HasLength, next_any, 
 use crate::fault::CodeFault;
 use crate::instructions::{decode, decode_words};
 
-/// How many bytes the instruction of an opcode has; 0 where decoding tells.
+/// How many bytes the instruction of an opcode has; 0 means that decoding decides.
 static LENGTHS: [u8; 256] = [
     1, 1, 1, 1, 1, 1, 1, 1, 1, 0, 0, 0, 0, 0, 0, 0, 2, 3, 0, 0, 0, 2, 2, 0, 1, 1, 1, 1, 1, 1, 1, 1,
     0, 0, 0, 0, 1, 1, 1, 0, 2, 2, 0, 1, 1, 1, 1, 1, 1, 1, 1, 0, 0, 0, 0, 1, 1, 1, 0, 1, 1, 1, 1, 0,
@@ -20,7 +21,7 @@ static LENGTHS: [u8; 256] = [
     0, 0, 0, 0, 0, 0, 0, 0, 0, 0, 0, 0, 0, 0, 0, 0, 0, 0, 0, 0, 0, 0, 0, 0, 0, 0, 0, 0, 0, 0, 0, 0,
 ];
 
-/// The same in code alone, which has the opcodes on words.
+/// The same for code alone, which has only the opcodes on words.
 static WORD_LENGTHS: [u8; 256] = [
     1, 0, 1, 1, 1, 1, 1, 1, 1, 0, 0, 0, 0, 0, 0, 0, 2, 3, 0, 0, 0, 0, 2, 0, 0, 0, 0, 0, 1, 1, 1, 1,
     0, 0, 0, 0, 0, 0, 0, 0, 0, 2, 0, 0, 0, 0, 0, 1, 1, 1, 1, 0, 0, 0, 0, 0, 0, 0, 0, 1, 1, 1, 1, 0,
@@ -60,7 +61,7 @@ fn word_length_of(opcode: u8) -> u8
     word_lengths()[usize::from(opcode)]
 }
 
-/// The pc so many bytes behind one.
+/// The pc that lies `count` bytes after one.
 #[inline(always)]
 fn pc_behind(code: &[u8], pc: usize, count: u8) -> Result<usize, CodeFault>
     requires { pc < length code.now }
@@ -94,7 +95,7 @@ fn decoded_next_words_pc(code: &[u8], pc: usize) -> Result<usize, CodeFault>
     Ok(decode_words(code, pc)?.next_pc)
 }
 
-/// Where the instruction behind the one at a pc begins.
+/// The pc of the instruction after the one at a pc.
 #[inline(always)]
 #[tactic(auto, using(crate::proofs::ByLength::no_instr, crate::proofs::ByLength::by_length))]
 pub fn next_pc(code: &[u8], pc: usize) -> Result<usize, CodeFault>
@@ -113,7 +114,7 @@ pub fn next_pc(code: &[u8], pc: usize) -> Result<usize, CodeFault>
     }
 }
 
-/// The same in code alone, where every opcode that isn't one on words is `BadOpcode`.
+/// The same for code alone, in which every opcode that isn't one on words is `BadOpcode`.
 #[inline(always)]
 #[tactic(auto, using(crate::proofs::ByLength::no_word_instr, crate::proofs::ByLength::words_by_length))]
 pub fn next_words_pc(code: &[u8], pc: usize) -> Result<usize, CodeFault>

@@ -1,4 +1,4 @@
-//! The instructions of a method's code, as the bytes spell them.
+//! The instructions of a method's code, decoded from its bytes.
 #![tactic(auto)]
 
 mod decoding;

@@ -1,4 +1,4 @@
-//! What an instruction on references says.
+//! Decoded instructions on references.
 
 ghost use Rattle.std.specs.Prelude.{◌≡◌};
 ghost use Rattle.jc_code.specs.Targets.{object_flow};
@@ -6,7 +6,7 @@ ghost use Rattle.jc_code.specs.Targets.{object_flow};
 use crate::flow::Flow;
 
 /// What an instruction on references does: to objects, arrays, members and methods. An index is one of the constant
-/// pool; offsets count from the instruction's own opcode.
+/// pool. Offsets count from the instruction's own opcode.
 #[derive(Clone, Copy)]
 pub enum ObjectOperation {
     /// aconst_null
@@ -17,11 +17,11 @@ pub enum ObjectOperation {
     Store(u8),
     /// aaload, baload, saload: takes an array and an index, and puts the component.
     LoadComponent(Form),
-    /// aastore, bastore, sastore: takes an array, an index and what is to be the component.
+    /// aastore, bastore, sastore: takes an array, an index and the new component.
     StoreComponent(Form),
     /// arraylength
     ArrayLength,
-    /// ifnull, ifnonnull, if_acmpeq, if_acmpne: goes to another place where a condition holds.
+    /// ifnull, ifnonnull, if_acmpeq, if_acmpne: goes to another place if a condition holds.
     Branch {
         when: ReferenceCondition,
         offset: i16,
@@ -35,7 +35,7 @@ pub enum ObjectOperation {
     Invoke(Invocation),
     /// new, newarray, anewarray
     Create(Creation),
-    /// checkcast: throws where a reference isn't of the type.
+    /// checkcast: throws if a reference isn't of the type.
     CheckCast(TestedType),
     /// instanceof: whether a reference is of the type.
     InstanceOf(TestedType),
@@ -43,12 +43,12 @@ pub enum ObjectOperation {
     Throw,
     /// areturn: ends the method with a reference.
     ReturnReference,
-    /// return: ends the method with nothing.
+    /// return: ends the method without a value.
     ReturnVoid,
 }
 
 impl ObjectOperation {
-    /// Where control flow goes behind it.
+    /// Where control flow goes after it.
     pub(crate) fn flow<'a>(self) -> Flow<'a>
         ensures { result ≡ object_flow self }
     {
@@ -82,13 +82,13 @@ pub enum Form {
 /// When a branch on references is taken.
 #[derive(Clone, Copy)]
 pub enum ReferenceCondition {
-    /// Where a reference is null.
+    /// If a reference is null.
     Null,
-    /// Where a reference isn't null.
+    /// If a reference isn't null.
     NotNull,
-    /// Where two references are one.
+    /// If two references are equal.
     Same,
-    /// Where two references aren't one.
+    /// If two references differ.
     Different,
 }
 
@@ -133,7 +133,7 @@ pub enum Invocation {
     Static {
         index: u16,
     },
-    /// invokeinterface: `arguments` counts their words, the object among them.
+    /// invokeinterface: `arguments` counts the words of the arguments, the object included.
     Interface {
         arguments: u8,
         index: u16,
@@ -152,7 +152,7 @@ pub enum Creation {
     ReferenceArray { index: u16 },
 }
 
-/// What an array of words has as components.
+/// The component type of an array of words.
 #[derive(Clone, Copy)]
 pub enum WordKind {
     Boolean,

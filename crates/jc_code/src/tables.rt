@@ -1,4 +1,4 @@
-//! The tables of switches, lent from the code.
+//! The tables of switches, borrowed from the code.
 
 ghost use Rattle.std.specs.Prelude.{◌≡◌, ◌*◌, ◌<◌, ◌^◌, length, slice_get};
 ghost use Rattle.jc_base.specs.Cursor.{Gives};
@@ -27,7 +27,7 @@ impl<'a> Model for Offsets<'a> {
 }
 
 impl<'a> Offsets<'a> {
-    /// The same.
+    /// The same offsets, borrowed once more.
     pub(crate) fn lent(&self) -> Offsets<'a>
         ensures { result ≡ self.now }
     {
@@ -70,7 +70,7 @@ pub(crate) fn next_offsets<'a>(
     Ok(Offsets { bytes })
 }
 
-/// A case of a switch: the key, and the offset to go by.
+/// A case of a switch: the key, and its offset.
 #[derive(Clone, Copy, Debug, PartialEq, Eq)]
 pub struct Case {
     pub key: i16,
@@ -97,7 +97,7 @@ impl<'a> Model for Cases<'a> {
 }
 
 impl<'a> Cases<'a> {
-    /// The same.
+    /// The same cases, borrowed once more.
     pub(crate) fn lent(&self) -> Cases<'a>
         ensures { result ≡ self.now }
     {
@@ -143,8 +143,7 @@ pub(crate) fn next_cases<'a>(cursor: &mut Cursor<'a>, count: usize) -> Result<Ca
     Ok(Cases { bytes })
 }
 
-/// What stands behind the opcode of a stableswitch: the offset of a key that has none, the least key, and the offsets
-/// of the keys from it on.
+/// The operands of a stableswitch: the default offset, the least key, and the offsets of the keys from that one on.
 #[derive(Drop)]
 pub struct StableTable<'a> {
     pub default: i16,
@@ -152,7 +151,7 @@ pub struct StableTable<'a> {
     pub offsets: Offsets<'a>,
 }
 
-/// What stands behind the opcode of a slookupswitch: the offset of a key that has none, and the cases.
+/// The operands of a slookupswitch: the default offset, and the cases.
 #[derive(Drop)]
 pub struct LookupTable<'a> {
     pub default: i16,

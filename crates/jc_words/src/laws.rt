@@ -2,8 +2,8 @@
 
 ghost use Rattle.jc_words.specs.Laws.{WordLaws};
 
-/// What is made of words is a word, below 65536, and the offset that a switch goes on by is one of those that it names.
-/// It does nothing.
+/// The result of an operator on words is a word, below 65536. The offset that a switch takes is one that it names. It
+/// does nothing.
 #[inline(always)]
 pub fn word_laws()
     ensures { WordLaws }

@@ -1,4 +1,4 @@
-//! Words of 16 bits as shorts, and what they are as values with tags.
+//! Words of 16 bits as shorts, and as values with tags.
 #![tactic(auto)]
 
 mod laws;

@@ -79,7 +79,7 @@ fn shift_right_unsigned(a: u16, b: u16) -> u16
     low_bits(i32::from(a.cast_signed()).cast_unsigned() >> distance_of(b))
 }
 
-/// What is made of two words, the deeper one first. `None` is a division by 0.
+/// The result of a binary operator, the deeper operand first. `None` is a division by 0.
 #[inline(always)]
 pub fn binary(operator: BinaryOperator, a: u16, b: u16) -> Option<u16>
     ensures { result ≡ binary_of operator a b }
@@ -111,7 +111,7 @@ pub fn binary(operator: BinaryOperator, a: u16, b: u16) -> Option<u16>
     }
 }
 
-/// What is made of one word.
+/// The result of a unary operator.
 #[inline(always)]
 pub fn unary(operator: UnaryOperator, a: u16) -> u16
     ensures { result ≡ unary_of operator a }
@@ -122,7 +122,7 @@ pub fn unary(operator: UnaryOperator, a: u16) -> u16
     }
 }
 
-/// A word and a constant.
+/// The sum of a word and a constant, wrapped.
 #[inline(always)]
 pub fn incremented(a: u16, by: i16) -> u16
     ensures { result ≡ incremented a by }
@@ -130,7 +130,7 @@ pub fn incremented(a: u16, by: i16) -> u16
     a.cast_signed().wrapping_add(by).cast_unsigned()
 }
 
-/// Whether two words compare so as shorts.
+/// Whether a condition holds of two words as shorts.
 #[inline(always)]
 pub fn compares(condition: Condition, a: u16, b: u16) -> bool
     ensures { result ≡ holds condition a b }

@@ -16,13 +16,13 @@ next_applet bytes = do
   install ← field applet_tag (next_u2 aid.rest)
   Ok (record { value = record { aid = aid.value; install = install.value }; rest = install.rest })
 
--- what an info gives: a count, so many applets and nothing behind them; of the refusals the first
+-- an info as applets: a count, that many applets and nothing after them; otherwise the first refusal
 unfoldable pub applets_in : List ℕ → Result (List Applet) LoadFault
 applets_in info = do
   count ← field applet_tag (next_u1 info)
   whole (Malformed applet_tag) (repeat next_applet count.value count.rest)
 
--- a package without the component is a library, which isn't one with no applets
+-- a package without the component is a library, which differs from a package with no applets
 abbrev pub applets_of : Option (List ℕ) → Result (Option (List Applet)) LoadFault
 applets_of None = Ok None
 applets_of (Some info) = applets_in info >>= λ applets. Ok (Some applets)

@@ -9,7 +9,7 @@ use Rattle.jc_base.specs.Numbers.{s1s, s2s}
 use Rattle.jc_cap.specs.declared.arrays.StaticArray.{StaticArray}
 use Rattle.jc_cap.specs.declared.arrays.StaticArray.TheVariants.{Boolean, Byte, Short}
 
--- the types of arrays
+-- the type codes of arrays
 abbrev pub of_booleans : ℕ
 of_booleans = 2
 
@@ -19,18 +19,19 @@ of_bytes = 3
 abbrev pub of_shorts : ℕ
 of_shorts = 4
 
--- how many components an array has at most
+-- the greatest number of components of an array
 abbrev pub most_components : ℕ
 most_components = 32_767
 
--- the array of a type with these bytes; one of shorts has an even number of them, so never too many components
+-- the array with a type code and these bytes; an array of shorts has an even number of bytes, so never too many
+-- components
 abbrev pub array_of : ℕ → List ℕ → Option StaticArray
 array_of kind bytes =
     if kind == of_booleans && nat_le (length bytes) most_components then Some (Boolean (s1s bytes))
     else (if kind == of_bytes && nat_le (length bytes) most_components then Some (Byte (s1s bytes))
     else (if kind == of_shorts && length bytes % 2 == 0 then Some (Short (s2s bytes)) else None))
 
--- a type, a number of bytes, and the bytes
+-- a type code, a number of bytes, and the bytes
 unfoldable pub next_static_array : List ℕ → Result (Read StaticArray) LoadFault
 next_static_array bytes = do
   kind ← field static_field_tag (next_u1 bytes)

@@ -15,7 +15,7 @@ use Rattle.jc_cap.specs.declared.record.RecordBody.{RecordBody}
 use Rattle.jc_cap.specs.declared.record.RecordBody.TheVariants.{Interface, Class}
 use Rattle.jc_cap.specs.declared.record.Record.{Record}
 
--- where the records begin: in format 2.2 behind a pool of signatures, which has its length in front
+-- the offset of the first record: in format 2.2 after a pool of signatures, which begins with its length
 unfoldable pub first_record : Format → List ℕ → Result ℕ LoadFault
 first_record TwoOne info = Ok 0
 first_record TwoTwo info = do
@@ -33,7 +33,7 @@ abbrev pub all_classes : List (Placed Record) → Bool
 all_classes [] = true
 all_classes (p ∷ records) = if is_class p.row.body then all_classes records else false
 
--- interfaces' records, and behind them classes'
+-- interfaces' records, and after them classes'
 abbrev pub interfaces_first : List (Placed Record) → Bool
 interfaces_first [] = true
 interfaces_first (p ∷ records) = if is_class p.row.body then all_classes records else interfaces_first records
@@ -43,7 +43,7 @@ abbrev pub none_remote : List (Placed Record) → Bool
 none_remote [] = true
 none_remote (p ∷ records) = if p.row.is_remote then false else none_remote records
 
--- the records one behind the other to the end, those of interfaces first
+-- consecutive records up to the end, those of interfaces first
 unfoldable pub layout_of : Format → List ℕ → Result (List (Placed Record)) LoadFault
 layout_of format info = do
   first ← first_record format info

@@ -51,17 +51,17 @@ next_class nibbles = do
   d ← field descriptor_tag (next_nibble c.rest)
   Ok (record { value = class_ref_of (16 * (16 * (16 * a.value + b.value) + c.value) + d.value); rest = d.rest })
 
--- a type that takes no more nibbles
+-- a type without more nibbles
 abbrev pub no_more : DeclaredType ClassRef → List ℕ → Result (Read (DeclaredType ClassRef)) LoadFault
 no_more type nibbles = Ok (record { value = type; rest = nibbles })
 
--- a type that goes on with a class
+-- a type with a class after it
 abbrev pub of_class : (ClassRef → DeclaredType ClassRef) → List ℕ → Result (Read (DeclaredType ClassRef)) LoadFault
 of_class type nibbles = do
   class ← next_class nibbles
   Ok (record { value = type class.value; rest = class.rest })
 
--- a type behind its first nibble
+-- a type after its first nibble
 unfoldable pub next_coded_type : ℕ → List ℕ → Result (Read (DeclaredType ClassRef)) LoadFault
 next_coded_type code nibbles =
     if code == boolean_code then no_more Boolean nibbles
@@ -80,19 +80,19 @@ next_type nibbles = do
   code ← field descriptor_tag (next_nibble nibbles)
   next_coded_type code.value code.rest
 
--- what a method gives, behind its first nibble: void or a type
+-- the result of a method, after its first nibble: void or a type
 unfoldable pub next_coded_return : ℕ → List ℕ → Result (Read (ReturnType ClassRef)) LoadFault
 next_coded_return code nibbles =
     if code == void_code then Ok (record { value = Void; rest = nibbles })
     else (next_coded_type code nibbles >>= λ type. Ok (record { value = Value type.value; rest = type.rest }))
 
--- what a method gives
+-- the result of a method
 unfoldable pub next_return : List ℕ → Result (Read (ReturnType ClassRef)) LoadFault
 next_return nibbles = do
   code ← field descriptor_tag (next_nibble nibbles)
   next_coded_return code.value code.rest
 
--- the type that is given, unless that is void
+-- the type of a result, unless it is void
 abbrev pub type_given : ReturnType ClassRef → Option (DeclaredType ClassRef)
 type_given Void = None
 type_given (Value type) = Some type

@@ -17,19 +17,19 @@ use Rattle.jc_base.specs.declared.declared_type.DeclaredType.{DeclaredType}
 use Rattle.jc_base.specs.declared.declared_type.ReturnType.{ReturnType}
 use Rattle.jc_base.specs.declared.declared_type.ReturnType.TheVariants.{Void, Value}
 
--- the nibbles are these parameters, one after the other, and then this result, and nothing more
+-- the nibbles are these parameters, then this result, and nothing more
 abbrev pub IsSpelled : List (DeclaredType ClassRef) → ReturnType ClassRef → List ℕ → Type 0
 IsSpelled [] result nibbles = next_return nibbles ≡ Ok (record { value = result; rest = [] })
 IsSpelled (type ∷ types) result nibbles =
     (rest : List ℕ) × (next_type nibbles ≡ Ok (record { value = type; rest = rest })) × IsSpelled types result rest
 
--- a signature with one more parameter in front; void is none
+-- a signature with one more parameter in front; void is no parameter
 abbrev pub with_parameter : ReturnType ClassRef → Result (Signature ClassRef) LoadFault
     → Result (Signature ClassRef) LoadFault
 with_parameter Void others = Err (Malformed descriptor_tag)
 with_parameter (Value type) others = others >>= λ s. Ok (record { parameters = type ∷ s.parameters; result = s.result })
 
--- nibbles as a signature: a result alone, or a parameter and a signature, in at most so many steps
+-- nibbles as a signature, in at most the given number of steps: a result alone, or a parameter and a signature
 abbrev pub signature_in : ℕ → List ℕ → Result (Signature ClassRef) LoadFault
 signature_in zero nibbles = Err (Malformed descriptor_tag)
 signature_in (suc steps) nibbles = do
@@ -37,11 +37,11 @@ signature_in (suc steps) nibbles = do
   if nat_eq (length next.rest) 0 then Ok (record { parameters = []; result = next.value })
       else with_parameter next.value (signature_in steps next.rest)
 
--- all nibbles as a signature: each of its parts takes at least one of them
+-- all nibbles as a signature; the steps suffice, since each part takes at least one nibble
 unfoldable pub signature_of : List ℕ → Result (Signature ClassRef) LoadFault
 signature_of nibbles = signature_in (length nibbles) nibbles
 
--- a descriptor in front of bytes: a byte that counts nibbles, and nibbles that are a signature
+-- the first descriptor in bytes: a byte that counts nibbles, and nibbles that encode a signature
 unfoldable pub next_descriptor : List ℕ → Result (Read (Signature ClassRef)) LoadFault
 next_descriptor bytes = do
   count ← field descriptor_tag (next_u1 bytes)
@@ -49,10 +49,10 @@ next_descriptor bytes = do
   signature ← signature_of nibbles.value
   Ok (record { value = signature; rest = nibbles.rest })
 
--- the descriptor that begins at an offset of bytes that from another one on are descriptors to their end
+-- the descriptor that begins at an offset of bytes, if the bytes from offset `first` to their end are descriptors
 abbrev pub descriptor_at : ℕ → ℕ → List ℕ → Option (Signature ClassRef)
 descriptor_at first offset bytes = option_and_then (row_at offset) (result_ok (placed_rows next_descriptor first bytes))
 
--- a signature without parameters that gives something is a field's type as well
+-- a signature without parameters, whose result isn't void, is also the type of a field
 abbrev pub field_type_of : Signature ClassRef → Option (DeclaredType ClassRef)
 field_type_of s = if nat_eq (length s.parameters) 0 then type_given s.result else None

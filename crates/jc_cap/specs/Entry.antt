@@ -45,24 +45,24 @@ next_internal bytes = do
   offset ← field constant_pool_tag (next_u2 bytes)
   Ok (record { value = Internal offset.value; rest = offset.rest })
 
--- two tokens behind a package's
+-- a class token and a member token, after a package token
 abbrev pub next_external : ℕ → List ℕ → Result (Read StaticRef) LoadFault
 next_external import bytes = do
   class ← field constant_pool_tag (next_u1 bytes)
   token ← field constant_pool_tag (next_u1 class.rest)
   Ok (record { value = External import class.value token.value; rest = token.rest })
 
--- with the high bit of the first byte clear padding and an offset, with it set three tokens
+-- if the high bit of the first byte is clear, padding and an offset; if it is set, three tokens
 unfoldable pub next_static_ref : List ℕ → Result (Read StaticRef) LoadFault
 next_static_ref bytes = do
   front ← field constant_pool_tag (next_u1 bytes)
   if nat_lt front.value 0x80 then next_internal front.rest else next_external (front.value - 0x80) front.rest
 
--- what was read, as an entry
+-- wraps what was read as an entry
 abbrev pub as_entry : {A : Type 0} → (A → PoolEntry) → Result (Read A) LoadFault → Result (Read PoolEntry) LoadFault
 as_entry entry found = found >>= λ r. Ok (record { value = entry r.value; rest = r.rest })
 
--- an entry behind its tag
+-- an entry after its tag
 unfoldable pub next_tagged_entry : ℕ → List ℕ → Result (Read PoolEntry) LoadFault
 next_tagged_entry tag bytes =
     if tag == classref_tag then as_entry (λ m. Classref m.class) (next_member_ref bytes)
@@ -73,7 +73,7 @@ next_tagged_entry tag bytes =
     else (if tag == static_methodref_tag then as_entry StaticMethodref (next_static_ref bytes)
     else Err (Malformed constant_pool_tag))))))
 
--- an entry: a tag, and three bytes that go by it
+-- an entry: a tag, and three bytes whose meaning depends on it
 unfoldable pub next_entry : List ℕ → Result (Read PoolEntry) LoadFault
 next_entry bytes = do
   tag ← field constant_pool_tag (next_u1 bytes)

@@ -9,7 +9,7 @@ use Rattle.jc_base.specs.declared.fault.LoadFault.TheVariants.{Malformed}
 use Rattle.jc_base.specs.Tag.{export_tag}
 use Rattle.jc_cap.specs.declared.exports.ExportedClass.{ExportedClass}
 
--- a class: its offset, two counts, and so many offsets of static fields and of static methods
+-- a class: its offset, two counts, and that many offsets of static fields and of static methods
 unfoldable pub next_exported_class : List ℕ → Result (Read ExportedClass) LoadFault
 next_exported_class bytes = do
   offset ← field export_tag (next_u2 bytes)
@@ -22,7 +22,7 @@ next_exported_class bytes = do
     rest = methods.rest;
   })
 
--- what an info gives: a count, so many classes and nothing behind them
+-- an info as exports: a count, that many classes and nothing after them
 unfoldable pub exports_in : List ℕ → Result (List ExportedClass) LoadFault
 exports_in info = do
   count ← field export_tag (next_u1 info)

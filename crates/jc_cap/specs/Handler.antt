@@ -10,7 +10,7 @@ use Rattle.jc_cap.specs.declared.handler.Handler.{Handler}
 abbrev pub stop_bit : ℕ
 stop_bit = 0x8000
 
--- one handler: four numbers of two bytes, the second of them without its stop bit
+-- a handler: four numbers of two bytes, the second of them without its stop bit
 unfoldable pub next_handler : List ℕ → Result (Read Handler) LoadFault
 next_handler bytes = do
   start ← field method_tag (next_u2 bytes)

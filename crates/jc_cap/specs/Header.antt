@@ -13,13 +13,13 @@ use Rattle.jc_base.specs.Tag.{header_tag}
 use Rattle.jc_cap.specs.declared.header.Format.{Format}
 use Rattle.jc_cap.specs.declared.header.Format.TheVariants.{TwoOne, TwoTwo}
 
--- what a Header says: the file's format, the package, and its name, which is empty where there is none
+-- the contents of a Header: the file's format, the package, and its name, which is empty if there is none
 pub record Heading : Type 0 where
   pub format : Format
   pub «package» : PackageInfo
   pub name : List ℕ
 
--- what a Header begins with
+-- the first four bytes of a Header
 abbrev pub magic : ℕ
 magic = 0xDECA_FFED
 
@@ -27,7 +27,7 @@ magic = 0xDECA_FFED
 abbrev pub acc_int : ℕ
 acc_int = 1
 
--- the bytes behind the magic number; one that isn't there isn't the one that is wanted
+-- the bytes after the magic number; a missing one is a wrong one
 abbrev pub behind_magic : Option (Read ℕ) → Result (List ℕ) LoadFault
 behind_magic None = Err BadMagic
 behind_magic (Some x) = if x.value == magic then Ok x.rest else Err BadMagic
@@ -39,7 +39,7 @@ format_of minor major =
     else (if major == 2 && minor == 2 then Ok TwoTwo
     else Err FormatVersion)
 
--- the two versions; one that isn't there isn't the one that is wanted
+-- the two versions; a missing one is a wrong one
 unfoldable pub next_format : List ℕ → Result (Read Format) LoadFault
 next_format bytes = do
   minor ← ok_or (next_u1 bytes) FormatVersion
@@ -47,19 +47,19 @@ next_format bytes = do
   format ← format_of minor.value major.value
   Ok (record { value = format; rest = major.rest })
 
--- the name: in format 2.2 its length in bytes, and these
+-- the name: in format 2.2 its length in bytes, and then its bytes
 unfoldable pub next_name : Format → List ℕ → Result (Read (List ℕ)) LoadFault
 next_name TwoOne bytes = Ok (record { value = []; rest = bytes })
 next_name TwoTwo bytes = field header_tag (next_u1 bytes) >>= λ size. field header_tag (next_bytes size.value size.rest)
 
--- all behind the flags
+-- all after the flags
 abbrev pub next_heading : Format → List ℕ → Result (Read Heading) LoadFault
 next_heading format bytes = do
   found ← next_package_info header_tag bytes
   name ← next_name format found.rest
   Ok (record { value = record { format = format; «package» = found.value; name = name.value }; rest = name.rest })
 
--- what the Header's info gives: of the refusals the first
+-- a Header's info as a heading; otherwise the first refusal
 unfoldable pub header_of : List ℕ → Result Heading LoadFault
 header_of info = do
   versions ← behind_magic (next_u4 info)

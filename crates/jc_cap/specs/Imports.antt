@@ -9,7 +9,7 @@ use Rattle.jc_base.specs.declared.fault.LoadFault.TheVariants.{Malformed}
 use Rattle.jc_base.specs.declared.package_info.PackageInfo.{PackageInfo}
 use Rattle.jc_base.specs.Tag.{import_tag}
 
--- what an info gives: a count, so many packages and nothing behind them; of the refusals the first
+-- an info as imports: a count, that many packages and nothing after them; otherwise the first refusal
 unfoldable pub imports_in : List ℕ → Result (List PackageInfo) LoadFault
 imports_in info = do
   count ← field import_tag (next_u1 info)

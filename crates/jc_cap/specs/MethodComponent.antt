@@ -12,19 +12,19 @@ use Rattle.jc_cap.specs.declared.method_header.MethodHeader.{MethodHeader}
 use Rattle.jc_cap.specs.Handler.{next_handler}
 use Rattle.jc_cap.specs.MethodHeader.{next_header}
 
--- the handler table, and the bytes that offsets count in: methods stand at any of them, and may overlap
+-- the handler table, and all bytes of the info: a method may stand at any offset, and methods may overlap
 pub record Methods : Type 0 where
   pub handlers : List Handler
   pub info : List ℕ
 
--- a byte that counts the handlers, the handlers, and whatever follows
+-- a byte that counts the handlers, the handlers, and any bytes after them
 unfoldable pub methods_of : List ℕ → Result Methods LoadFault
 methods_of info = do
   count ← field method_tag (next_u1 info)
   table ← repeat next_handler count.value count.rest
   Ok (record { handlers = table.value; info = info })
 
--- a method: its header, the offset of the byte behind it, and the bytes from there to the end of the info
+-- a method: its header, the offset of the byte after it, and the bytes from there to the end of the info
 pub record Method : Type 0 where
   pub header : MethodHeader
   pub code_offset : ℕ

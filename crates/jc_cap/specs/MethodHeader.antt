@@ -15,7 +15,7 @@ extended_flag = 8
 abbrev pub abstract_flag : ℕ
 abstract_flag = 4
 
--- the short form, behind its first byte: four nibbles, flags and max_stack in that byte
+-- the short form, after its first byte: four nibbles; the first byte has the flags and max_stack
 unfoldable pub next_short_header : ℕ → List ℕ → Result (Read MethodHeader) LoadFault
 next_short_header front bytes = do
   counts ← field method_tag (next_u1 bytes)
@@ -29,7 +29,7 @@ next_short_header front bytes = do
     rest = counts.rest;
   })
 
--- the extended form, behind its first byte: three bytes, and of the first byte only the flags count
+-- the extended form, after its first byte: three bytes; of the first byte only the flags are read
 unfoldable pub next_extended_header : ℕ → List ℕ → Result (Read MethodHeader) LoadFault
 next_extended_header front bytes = do
   stack ← field method_tag (next_u1 bytes)
@@ -45,7 +45,7 @@ next_extended_header front bytes = do
     rest = locals.rest;
   })
 
--- a header: a flag in its first byte's high nibble says which form it has
+-- a header: a flag in its first byte's high nibble selects the form
 unfoldable pub next_header : List ℕ → Result (Read MethodHeader) LoadFault
 next_header bytes = do
   front ← field method_tag (next_u1 bytes)

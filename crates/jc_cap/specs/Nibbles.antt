@@ -10,11 +10,11 @@ abbrev pub nibbles_of : List ℕ → List ℕ
 nibbles_of [] = []
 nibbles_of (b ∷ bytes) = (b / 16) ∷ (b % 16) ∷ nibbles_of bytes
 
--- the nibble in front of nibbles
+-- the first of these nibbles
 abbrev pub next_nibble : List ℕ → Option (Read ℕ)
 next_nibble nibbles = next_u1 nibbles
 
--- n nibbles in front of bytes, in whole bytes: behind an odd number a nibble of any value
+-- the first n nibbles of bytes, in whole bytes: after an odd number a nibble of any value
 unfoldable pub next_nibbles : ℕ → List ℕ → Result (Read (List ℕ)) LoadFault
 next_nibbles n bytes = do
   packed ← field descriptor_tag (next_bytes ((n + 1) / 2) bytes)

@@ -9,7 +9,7 @@ use Rattle.jc_base.specs.declared.fault.LoadFault.TheVariants.{Malformed}
 use Rattle.jc_cap.specs.declared.entry.PoolEntry.{PoolEntry}
 use Rattle.jc_cap.specs.Entry.{next_entry}
 
--- a number that counts the entries, and so many entries, with nothing behind them
+-- a number that counts the entries, and that many entries, with nothing after them
 unfoldable pub pool_of : List ℕ → Result (List PoolEntry) LoadFault
 pool_of info = do
   count ← field constant_pool_tag (next_u2 info)

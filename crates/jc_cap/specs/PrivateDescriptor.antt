@@ -1,4 +1,4 @@
--- Private. A descriptor takes a byte at least. The lemma stands here, since the row's law takes it from specs alone.
+-- Private. A descriptor takes at least one byte. The lemma stands here, since the row's law takes it from specs alone.
 use Rattle.std.specs.Prelude.{◌≡◌, ℕ, ◌+◌, ◌/◌, ◌≤◌, Bool, true, false, cond, List, [], ◌∷◌, length, drop, take, None}
 use Rattle.std.specs.Prelude.{Some, Ok, nat_lt}
 use Rattle.std.proofs.Common.{ap, arith, length-drop, suc, sym, ◌-◌, ◌∙◌, refl}

@@ -1,4 +1,4 @@
--- Private. A record takes a byte at least. The lemma stands here, since the row's law takes it from specs alone.
+-- Private. A record takes at least one byte. The lemma stands here, since the row's law takes it from specs alone.
 use Rattle.std.specs.Prelude.{◌≡◌, ℕ, zero, suc, ◌*◌, ◌%◌, ◌≤◌, Bool, true, false, cond, List, [], ◌∷◌, length, drop}
 use Rattle.std.specs.Prelude.{take, None, Some, Result, Ok, nat_lt}
 use Rattle.std.proofs.Common.{ap, arith, length-drop}
@@ -12,7 +12,7 @@ use Rattle.jc_cap.specs.Interfaces.{next_superinterface, next_implemented}
 use Rattle.jc_cap.specs.Record.{next_table_size, next_methods, next_interface, next_class_record, next_body}
 use Rattle.jc_cap.specs.Record.{next_record}
 
--- what is read from bytes leaves no more than these
+-- reading leaves no more bytes than there were
 abbrev pub Leaves : {A : Type 0} → List ℕ → Result (Read A) LoadFault → Type 0
 Leaves {A = A} bytes read = (x : Read A) → read ≡ Ok x → length x.rest ≤ length bytes
 

@@ -35,20 +35,20 @@ next_table_size bytes = do
   count ← field class_tag (next_u1 base.rest)
   Ok (record { value = record { base = base.value; count = count.value }; rest = count.rest })
 
--- so many offsets of methods
+-- the next `count` offsets of methods
 unfoldable pub next_methods : ℕ → List ℕ → Result (Read (List ℕ)) LoadFault
 next_methods count bytes = do
   methods ← field class_tag (next_bytes (2 * count) bytes)
   Ok (record { value = u2s methods.value; rest = methods.rest })
 
--- an interface's record behind its first byte
+-- an interface's record after its first byte
 unfoldable pub next_interface : ℕ → List ℕ → Result (Read InterfaceRecord) LoadFault
 next_interface count bytes = do
   interfaces ← repeat next_superinterface count bytes
   Ok (record { value = record { superinterfaces = interfaces.value }; rest = interfaces.rest })
 
--- a class's record behind its first byte: the superclass, the declared size, two numbers that nobody looks at, the
--- sizes of both tables, the tables, and the interfaces
+-- a class's record after its first byte: the superclass, the declared size, two ignored numbers, the sizes of both
+-- tables, the tables, and the interfaces
 unfoldable pub next_class_record : ℕ → List ℕ → Result (Read ClassRecord) LoadFault
 next_class_record count bytes = do
   superclass ← field class_tag (next_u2 bytes)
@@ -70,7 +70,7 @@ next_class_record count bytes = do
     rest = interfaces.rest;
   })
 
--- a record behind its first byte, which has flags and a number of interfaces
+-- a record after its first byte, which has flags and a number of interfaces
 unfoldable pub next_body : ℕ → List ℕ → Result (Read RecordBody) LoadFault
 next_body front bytes =
     if has_flag (front / 16) acc_interface

@@ -9,8 +9,8 @@ use Rattle.jc_base.specs.Tag.{static_field_tag}
 use Rattle.jc_cap.specs.Arrays.{next_static_array}
 use Rattle.jc_cap.specs.declared.arrays.StaticArray.{StaticArray}
 
--- a package's static fields: the bytes that they take, how many references come first, the arrays that the first
--- of these lead to, how many bytes of value 0 follow, and the bytes behind those
+-- a package's static fields: the size of the image, the number of references at its start, the arrays that the first of
+-- these refer to, the number of bytes of value 0 that follow, and the bytes after those
 pub record StaticImage : Type 0 where
   pub size : ℕ
   pub references : ℕ
@@ -18,7 +18,7 @@ pub record StaticImage : Type 0 where
   pub defaults : ℕ
   pub values : List ℕ
 
--- the parts make up the size, and no array is without a reference
+-- the sizes of the parts add up to the size, and each array has a reference
 abbrev pub fits : StaticImage → Bool
 fits image =
     image.size == 2 * image.references + image.defaults + length image.values
@@ -49,6 +49,6 @@ next_static_image info = do
 abbrev pub fitting : StaticImage → Result StaticImage LoadFault
 fitting image = if fits image then Ok image else Err (Malformed static_field_tag)
 
--- what an info gives: the fields, nothing behind them, and an image that fits
+-- an info as static fields: nothing follows them, and the image fits
 abbrev pub static_fields_of : List ℕ → Result StaticImage LoadFault
 static_fields_of info = whole (Malformed static_field_tag) (next_static_image info) >>= fitting

@@ -11,7 +11,7 @@ use jc_base::{Aid, Cursor, LoadFault, Parts, Row, Rows, next_aid};
 pub struct Applet {
     /// The applet's AID.
     pub aid: Aid,
-    /// Where its install method stands in the Method component.
+    /// The offset of its install method in the Method component.
     pub install: u16,
 }
 
@@ -38,9 +38,9 @@ fn applets_in<'a>(info: &'a [u8]) -> Result<Applets<'a>, LoadFault>
     Rows::whole(cursor, u16::from(count), LoadFault::Malformed(APPLET))
 }
 
-/// Reads the Applet component, or answers `None` where there is none: the package is then a library, which isn't
-/// the same as a package with no applets (Java Card Virtual Machine Specification, CAP file format: Applet
-/// component). `BadAid` or `Malformed(3)`.
+/// Reads the Applet component, or returns `None` if there is none: the package is then a library, which differs from a
+/// package with no applets (Java Card Virtual Machine Specification, CAP file format: Applet component). `BadAid` or
+/// `Malformed(3)`.
 pub fn read_applets<'a>(parts: &Parts<'a>) -> Result<Option<Applets<'a>>, LoadFault>
     ensures { result ≡ applets_of parts.now.applet }
 {

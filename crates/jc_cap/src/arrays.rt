@@ -12,10 +12,10 @@ const BOOLEAN: u8 = 2;
 const BYTE: u8 = 3;
 /// The type of an array of shorts.
 const SHORT: u8 = 4;
-/// How many components an array has at most.
+/// The greatest number of components of an array.
 const MOST_COMPONENTS: usize = 32_767;
 
-/// An array that a package's static fields begin with. A boolean's byte is kept as it stands.
+/// An initialised array of a package's static fields. The byte of a boolean is kept unchanged.
 #[derive(Drop)]
 pub enum StaticArray<'a> {
     Boolean(S1s<'a>),

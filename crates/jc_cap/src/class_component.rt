@@ -12,7 +12,7 @@ use jc_base::{Cursor, LoadFault, Parts, PlacedRows};
 /// The records of a package's classes and interfaces, each found at the offset at which it begins.
 pub type Records<'a> = PlacedRows<Cursor<'a>, Record<'a>>;
 
-/// Where the records begin.
+/// The offset of the first record.
 #[tactic(auto, unfolding(crate::specs::ClassComponent::first_record))]
 fn first_record(format: Format, info: &[u8]) -> Result<usize, LoadFault>
     ensures { result ≡ first_record format info.now }
@@ -39,7 +39,7 @@ fn is_class(body: &RecordBody) -> bool
     }
 }
 
-/// Whether no interface's record stands behind a class's.
+/// Whether no interface's record stands after a class's.
 fn interfaces_first(records: &Records) -> bool
     ensures { result ≡ interfaces_first records.now }
 {
@@ -55,7 +55,7 @@ fn interfaces_first(records: &Records) -> bool
     true
 }
 
-/// Whether no record is a remote one. Remote records are what `read_class` refuses of what `class_layout` gives.
+/// Whether no record is a remote one. `class_layout` accepts remote records, and `read_class` refuses them.
 pub fn none_remote(records: &Records) -> bool
     ensures { result ≡ none_remote records.now }
 {
@@ -68,7 +68,7 @@ pub fn none_remote(records: &Records) -> bool
     true
 }
 
-/// Reads the Class component as its layout says, remote records too. `Malformed(6)`.
+/// Reads the Class component by its layout, with remote records. `Malformed(6)`.
 #[tactic(auto, unfolding(crate::specs::ClassComponent::layout_of))]
 pub fn class_layout<'a>(parts: &Parts<'a>, format: Format) -> Result<Records<'a>, LoadFault>
     ensures { result ≡ layout_of format parts.now.class }
@@ -82,8 +82,8 @@ pub fn class_layout<'a>(parts: &Parts<'a>, format: Format) -> Result<Records<'a>
     Ok(records)
 }
 
-/// Reads the Class component (Java Card Virtual Machine Specification, CAP file format: Class component) of a file of
-/// this format. Remote records are refused. `Malformed(6)`.
+/// Reads the Class component of a file of this format (Java Card Virtual Machine Specification, CAP file format: Class
+/// component). It refuses remote records. `Malformed(6)`.
 pub fn read_class<'a>(parts: &Parts<'a>, format: Format) -> Result<Records<'a>, LoadFault>
     ensures { result ≡ classes_of format parts.now.class }
 {

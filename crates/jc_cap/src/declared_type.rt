@@ -49,7 +49,7 @@ fn next_class(nibbles: &mut Nibbles) -> Result<ClassRef, LoadFault>
     Ok(class_ref_of(16 * (16 * (16 * first + second) + third) + fourth))
 }
 
-/// The rest of a type, behind its first nibble.
+/// The rest of a type, after its first nibble.
 #[tactic(auto, unfolding(crate::specs::DeclaredType::next_coded_type))]
 fn next_coded_type(code: u8, nibbles: &mut Nibbles) -> Result<DeclaredType<ClassRef>, LoadFault>
     ensures { Gives (λ t. t) result nibbles.new (next_coded_type code nibbles.old) }
@@ -77,7 +77,7 @@ impl<'a> Row<Nibbles<'a>> for DeclaredType<ClassRef> {
     }
 }
 
-/// What a method gives: a type or void.
+/// The result of a method: a type or void.
 #[tactic(auto, unfolding(crate::specs::DeclaredType::next_return, crate::specs::DeclaredType::next_coded_return))]
 pub(crate) fn next_return(nibbles: &mut Nibbles) -> Result<ReturnType<ClassRef>, LoadFault>
     ensures { Gives (λ r. r) result nibbles.new (next_return nibbles.old) }

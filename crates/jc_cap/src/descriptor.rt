@@ -19,8 +19,8 @@ use std::marker::Model;
 /// The types of parameters, in their order.
 pub type Parameters<'a> = Rows<Nibbles<'a>, DeclaredType<ClassRef>>;
 
-/// A descriptor (Java Card Virtual Machine Specification, Descriptor component: `type_descriptor_info`):
-/// what a method takes and gives. One without parameters that gives something is a field's type as well.
+/// A descriptor (Java Card Virtual Machine Specification, Descriptor component: `type_descriptor_info`): the signature
+/// of a method. A descriptor without parameters, whose result isn't void, is also the type of a field.
 #[derive(Drop)]
 pub struct Descriptor<'a> {
     parameters: Parameters<'a>,
@@ -44,14 +44,14 @@ impl<'a> Descriptor<'a> {
         self.parameters.again()
     }
 
-    /// What is given.
+    /// The result.
     pub fn result(&self) -> ReturnType<ClassRef>
         ensures { result ≡ self.now.result }
     {
         self.result
     }
 
-    /// The type of a field that has this descriptor, or `None` where it describes no field.
+    /// The type of a field that has this descriptor, or `None` if it describes no field.
     pub fn field_type(&self) -> Option<DeclaredType<ClassRef>>
         ensures { result ≡ field_type_of self.now }
     {
@@ -65,7 +65,7 @@ impl<'a> Descriptor<'a> {
     }
 }
 
-/// The descriptor that has these nibbles, or `Malformed(11)` where they are no signature.
+/// The descriptor that these nibbles encode, or `Malformed(11)` if they encode no signature.
 fn signature<'a>(nibbles: &Nibbles<'a>) -> Result<Descriptor<'a>, LoadFault>
     requires { length nibbles.now < 256 }
     ensures { result ≡ signature_of nibbles.now }
@@ -111,11 +111,11 @@ impl<'a> FrontRow<Cursor<'a>> for Descriptor<'a> {
     ghost in_front = { descriptor_in_front };
 }
 
-/// Descriptors one behind the other until nothing is left, each found at the offset at which it begins.
+/// Consecutive descriptors up to the end of the bytes, each found by the offset at which it begins.
 pub type Descriptors<'a> = PlacedRows<Cursor<'a>, Descriptor<'a>>;
 
-/// The descriptor that begins at an offset of the bytes, which from offset `first` on are descriptors to their end. Or
-/// `None`, where none begins there, or where the bytes aren't that.
+/// The descriptor that begins at an offset of bytes that are descriptors from offset `first` to their end. It returns
+/// `None` if none begins there, or if the bytes aren't such descriptors.
 pub fn descriptor_at<'a>(bytes: &'a [u8], first: usize, offset: usize) -> Option<Descriptor<'a>>
     ensures { result ≡ descriptor_at first offset bytes.now }
 {
@@ -123,7 +123,7 @@ pub fn descriptor_at<'a>(bytes: &'a [u8], first: usize, offset: usize) -> Option
     descriptors.at(offset)
 }
 
-/// Nibbles are read as a signature exactly where they are the spelling of one, and as that one.
+/// Nibbles are read as a signature if and only if they encode it.
 pub fn signatures_are_spelled()
     ensures { (nibbles : List ℕ) (s : Signature ClassRef)
         → (signature_of nibbles ≡ Ok s) ↔ IsSpelled s.parameters s.result nibbles }

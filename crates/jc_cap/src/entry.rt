@@ -20,15 +20,15 @@ const STATIC_FIELDREF: u8 = 5;
 
 const STATIC_METHODREF: u8 = 6;
 
-/// A static member's reference whose first byte is from here on names a member of another package.
+/// If the first byte of a reference to a static member is at or above this, the member is of another package.
 const EXTERNAL: u8 = 0x80;
 
 /// An instance field or a virtual method: a class, and the member's token in it.
 #[derive(Clone, Copy, Debug, PartialEq, Eq)]
 pub struct MemberRef {
-    /// The class that is named, which may have the member from a class above it.
+    /// The class that is named; it may inherit the member.
     pub class: ClassRef,
-    /// The member's token. A virtual method's with its high bit set is package-visible.
+    /// The member's token. The high bit marks a package-visible virtual method.
     pub token: u8,
 }
 
@@ -42,8 +42,7 @@ pub enum StaticRef {
     External { package: u8, class: u8, token: u8 },
 }
 
-/// What an entry of the constant pool names (Java Card Virtual Machine Specification, Constant Pool
-/// component: `cp_info`).
+/// An entry of the constant pool (Java Card Virtual Machine Specification, Constant Pool component: `cp_info`).
 #[derive(Clone, Copy, Debug, PartialEq, Eq)]
 pub enum PoolEntry {
     /// A class or an interface.
@@ -52,7 +51,7 @@ pub enum PoolEntry {
     InstanceFieldref(MemberRef),
     /// A method that is looked up from the object's class.
     VirtualMethodref(MemberRef),
-    /// A method that is looked up from the class above the one named.
+    /// A method that is looked up from the superclass of the class that is named.
     SuperMethodref(MemberRef),
     /// A static field.
     StaticFieldref(StaticRef),
@@ -60,7 +59,7 @@ pub enum PoolEntry {
     StaticMethodref(StaticRef),
 }
 
-/// The reference to a class, and the byte behind it.
+/// A reference to a class, and the byte after it.
 #[tactic(auto, unfolding(crate::specs::Entry::next_member_ref))]
 fn next_member_ref(cursor: &mut Cursor) -> Result<MemberRef, LoadFault>
     ensures { Gives (λ m. m) result cursor.new (next_member_ref cursor.old) }
@@ -92,7 +91,7 @@ fn next_static_ref(cursor: &mut Cursor) -> Result<StaticRef, LoadFault>
     })
 }
 
-/// The rest of an entry, behind its tag.
+/// The rest of an entry, after its tag.
 #[tactic(auto, unfolding(crate::specs::Entry::next_tagged_entry))]
 fn next_tagged_entry(tag: u8, cursor: &mut Cursor) -> Result<PoolEntry, LoadFault>
     ensures { Gives (λ e. e) result cursor.new (next_tagged_entry tag cursor.old) }

@@ -6,14 +6,14 @@ ghost use Rattle.jc_cap.specs.Exports.{next_exported_class, exports_in, exports_
 use jc_base::tag::EXPORT;
 use jc_base::{Cursor, LoadFault, Parts, Row, Rows, U2s};
 
-/// What other packages may use of a class. The index of an offset is the token of the field or method.
+/// What other packages may use of a class. The token of a field or method is the index of its offset.
 #[derive(Drop)]
 pub struct ExportedClass<'a> {
-    /// Where the class stands in the Class component.
+    /// The offset of the class in the Class component.
     pub class: u16,
-    /// Where its static fields stand in the static image.
+    /// The offsets of its static fields in the static image.
     pub fields: U2s<'a>,
-    /// Where its static methods and constructors stand in the Method component.
+    /// The offsets of its static methods and constructors in the Method component.
     pub methods: U2s<'a>,
 }
 
@@ -51,8 +51,8 @@ fn exports_in<'a>(info: &'a [u8]) -> Result<Exports<'a>, LoadFault>
     Rows::whole(cursor, u16::from(count), LoadFault::Malformed(EXPORT))
 }
 
-/// Reads the Export component; without one no class is exported (Java Card Virtual Machine Specification, CAP file
-/// format: Export component). Whether something stands at an offset isn't asked. `Malformed(10)`.
+/// Reads the Export component; a package without one exports no class (Java Card Virtual Machine Specification, CAP
+/// file format: Export component). It doesn't test what stands at an offset. `Malformed(10)`.
 pub fn read_exports<'a>(parts: &Parts<'a>) -> Result<Exports<'a>, LoadFault>
     ensures { result ≡ exports_of parts.now.export }
 {

@@ -7,20 +7,20 @@ ghost use Rattle.jc_cap.specs.PrivateHandler.{handler_has_size};
 use jc_base::tag::METHOD;
 use jc_base::{Cursor, FixedRow, LoadFault, Row, Rows};
 
-/// The highest bit of a handler's second number, which is no part of its length.
+/// The highest bit of a handler's second number, the stop bit. It isn't part of the length.
 const STOP_BIT: u16 = 0x8000;
 
-/// What one row of the handler table says (Java Card Virtual Machine Specification, Method component:
-/// `exception_handler_info`). Offsets count from the first byte of the component's info.
+/// A row of the handler table (Java Card Virtual Machine Specification, Method component: `exception_handler_info`).
+/// Offsets count from the first byte of the component's info.
 #[derive(Clone, Copy, Debug, PartialEq, Eq)]
 pub struct Handler {
-    /// Where the bytes begin that the handler covers.
+    /// Where the covered bytes begin.
     pub start: u16,
-    /// How many bytes it covers: 15 bits, the stop bit is no part of it.
+    /// How many bytes it covers: 15 bits, without the stop bit.
     pub active_length: u16,
     /// Where execution goes on.
     pub handler: u16,
-    /// The constant pool's index of the class that is caught, 0 for all.
+    /// The constant pool's index of the class that is caught, or 0 for all.
     pub catch_type: u16,
 }
 

@@ -8,21 +8,21 @@ use jc_base::tag::HEADER;
 use jc_base::{Cursor, LoadFault, PackageInfo, Parts, has_flag, next_package_info};
 use std::marker::Model;
 
-/// What a Header begins with.
+/// The first four bytes of a Header.
 const MAGIC: u32 = 0xDECA_FFED;
 /// The flag of a package that uses the type int.
 const ACC_INT: u8 = 1;
 
-/// The formats of a package's file that are read.
+/// The supported formats of a package's file.
 #[derive(Clone, Copy, Debug, PartialEq, Eq)]
 pub enum Format {
     /// Format 2.1.
     TwoOne,
-    /// Format 2.2, which has a name behind the package, and a pool of signatures in front of the classes.
+    /// Format 2.2: a name follows the package, and a pool of signatures precedes the classes.
     TwoTwo,
 }
 
-/// What the Header component says of its package.
+/// The contents of the Header component.
 #[derive(Drop)]
 pub struct Header<'a> {
     format: Format,
@@ -53,7 +53,7 @@ impl<'a> Header<'a> {
         self.package
     }
 
-    /// The package's name in UTF-8, which isn't looked at. It is empty where there is none, as in format 2.1.
+    /// The package's name in UTF-8, unchecked. It is empty if there is none, as in format 2.1.
     pub fn name(&self) -> &'a [u8]
         ensures { result.now ≡ self.now.name }
     {
@@ -61,7 +61,7 @@ impl<'a> Header<'a> {
     }
 }
 
-/// The format's minor and major version. One that isn't there isn't the one that is wanted.
+/// The format's minor and major version. `FormatVersion` also if a version is missing.
 #[tactic(auto, unfolding(crate::specs::Header::next_format))]
 fn next_format(cursor: &mut Cursor) -> Result<Format, LoadFault>
     ensures { Gives (λ format. format) result cursor.new (next_format cursor.old) }
@@ -77,7 +77,7 @@ fn next_format(cursor: &mut Cursor) -> Result<Format, LoadFault>
     }
 }
 
-/// The name behind the package.
+/// The name after the package.
 #[tactic(auto, unfolding(crate::specs::Header::next_name))]
 fn next_name<'a>(format: Format, cursor: &mut Cursor<'a>) -> Result<&'a [u8], LoadFault>
     ensures { Gives (λ name. name.now) result cursor.new (next_name format cursor.old) }
@@ -94,8 +94,8 @@ fn next_name<'a>(format: Format, cursor: &mut Cursor<'a>) -> Result<&'a [u8], Lo
 }
 
 /// Reads the Header component of formats 2.1 and 2.2 (Java Card Virtual Machine Specification, CAP file format: Header
-/// component). Of the flags only ACC_INT is looked at. A magic number or a version that isn't there isn't the one that
-/// is wanted.
+/// component). Of the flags it reads only ACC_INT. A missing magic number is `BadMagic`, and a missing version is
+/// `FormatVersion`.
 #[tactic(auto, unfolding(crate::specs::Header::header_of))]
 pub fn read_header<'a>(parts: &Parts<'a>) -> Result<Header<'a>, LoadFault>
     ensures { result ≡ header_of parts.now.header }

@@ -14,7 +14,7 @@ use jc_base::{Cursor, LoadFault, PackageInfo, Parts, Rows};
 /// The packages that a package imports, by their package tokens.
 pub type Imports<'a> = Rows<Cursor<'a>, PackageInfo>;
 
-/// So many packages, and nothing behind them.
+/// The next `count` packages, with nothing after them.
 fn all_imports<'a>(cursor: Cursor<'a>, count: u8) -> Result<Imports<'a>, LoadFault>
     ensures read { result ≡ whole (Malformed import_tag) (repeat (next_package_info import_tag) count cursor.entry) }
     ensures few { IfOk result (λ imports. length imports ≤ 255) }
@@ -32,7 +32,7 @@ fn imports_in<'a>(info: &'a [u8]) -> Result<Imports<'a>, LoadFault>
     all_imports(cursor, count)
 }
 
-/// Reads the Import component; without one nothing is imported (Java Card Virtual Machine Specification, CAP file
+/// Reads the Import component; a package without one imports nothing (Java Card Virtual Machine Specification, CAP file
 /// format: Import component). `BadAid` or `Malformed(4)`.
 pub fn read_imports<'a>(parts: &Parts<'a>) -> Result<Imports<'a>, LoadFault>
     ensures read { result ≡ imports_of parts.now.imports }

@@ -41,7 +41,7 @@ impl<'a> FixedRow<Cursor<'a>> for Superinterface {
 /// The interfaces that an interface's record lists, in their order.
 pub type Superinterfaces<'a> = Rows<Cursor<'a>, Superinterface>;
 
-/// An interface that a class's record lists, with the class's virtual tokens of its methods.
+/// An interface that a class's record lists, with the class's virtual tokens for the interface's methods.
 #[derive(Drop)]
 pub struct ImplementedInterface<'a> {
     interface: ClassRef,

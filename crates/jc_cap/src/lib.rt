@@ -1,4 +1,4 @@
-//! The components of an image, each by itself: Header, Import, Applet, Class, Method, StaticField, Export, and
+//! The components of an image, each read alone: Header, Import, Applet, Class, Method, StaticField, Export, and
 //! ConstantPool, with the descriptors of types.
 //!
 //! Java Card Virtual Machine Specification, CAP file format.

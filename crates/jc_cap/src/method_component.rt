@@ -11,7 +11,7 @@ use jc_base::tag::METHOD;
 use jc_base::{Cursor, LoadFault, Parts};
 use std::marker::Model;
 
-/// A method where it stands.
+/// A method with its header and its code.
 #[derive(Drop)]
 pub struct Method<'a> {
     header: MethodHeader,
@@ -35,15 +35,15 @@ impl<'a> Method<'a> {
         self.header
     }
 
-    /// The offset of its code: that of the byte behind the header.
+    /// The offset of its code: that of the byte after the header.
     pub fn code_offset(&self) -> usize
         ensures { result ≡ self.now.code_offset }
     {
         self.code_offset
     }
 
-    /// What follows the header, to the end of the info. The method's code is in front of it: its descriptor says how
-    /// many bytes.
+    /// The bytes after the header, to the end of the info. They begin with the method's code; its descriptor has the
+    /// number of bytes.
     pub fn code(&self) -> &'a [u8]
         ensures { result.now ≡ self.now.code }
     {
@@ -51,8 +51,8 @@ impl<'a> Method<'a> {
     }
 }
 
-/// The Method component of an image: what stands in it is read where it is asked for.
-/// Offsets count from the first byte of the component's info.
+/// The Method component of an image, whose contents are read on demand. Offsets count from the first byte of the
+/// component's info.
 #[derive(Drop)]
 pub struct MethodInfo<'a> {
     handlers: Handlers<'a>,
@@ -75,14 +75,14 @@ impl<'a> MethodInfo<'a> {
         self.handlers.len()
     }
 
-    /// The `count` handlers from index `first` on, in table order, or `None` where they run past the table.
+    /// The `count` handlers from index `first` on, in table order, or `None` if they run past the table.
     pub fn handlers(&self, first: u16, count: u16) -> Option<Handlers<'a>>
         ensures { result ≡ part first count self.now.handlers }
     {
         self.handlers.part(first, count)
     }
 
-    /// The method whose header stands at an offset, or `None` where that runs past the info.
+    /// The method whose header stands at an offset, or `None` if the header runs past the info.
     pub fn method_at(&self, offset: u16) -> Option<Method<'a>>
         ensures { result ≡ method_at offset self.now }
     {
@@ -98,14 +98,14 @@ impl<'a> MethodInfo<'a> {
         })
     }
 
-    /// The method header at an offset, or `None` where it runs past the info.
+    /// The method header at an offset, or `None` if it runs past the info.
     pub fn header_at(&self, offset: u16) -> Option<MethodHeader>
         ensures { result ≡ header_at offset self.now }
     {
         Some(self.method_at(offset)?.header)
     }
 
-    /// What follows the method header at an offset, to the end of the info, or `None` where there is no header.
+    /// The bytes after the method header at an offset, to the end of the info, or `None` if there is no header.
     pub fn code_at(&self, offset: u16) -> Option<&'a [u8]>
         ensures { option_copied result ≡ code_at offset self.now }
     {
@@ -124,8 +124,8 @@ fn methods_in<'a>(info: &'a [u8]) -> Result<MethodInfo<'a>, LoadFault>
     Ok(MethodInfo { handlers, info })
 }
 
-/// Reads the Method component. `Malformed(7)` where the handler table runs past the info; what follows
-/// the table may be anything. The info is at most 65,535 bytes.
+/// Reads the Method component. `Malformed(7)` if the handler table runs past the info; the bytes after the table may be
+/// anything. The info is at most 65,535 bytes.
 pub fn read_method<'a>(parts: &Parts<'a>) -> Result<MethodInfo<'a>, LoadFault>
     ensures methods { result ≡ methods_of parts.now.method }
     ensures short { length parts.now.method < 2 ^ 16 }

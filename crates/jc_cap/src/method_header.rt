@@ -13,21 +13,21 @@ const ACC_EXTENDED: u8 = 8;
 /// The method is abstract.
 const ACC_ABSTRACT: u8 = 4;
 
-/// What a method's header says (Java Card Virtual Machine Specification, Method component:
-/// `method_header_info` and `extended_method_header_info`). Both forms say the same.
+/// A method's header (Java Card Virtual Machine Specification, Method component: `method_header_info` and
+/// `extended_method_header_info`). Both forms have the same contents.
 #[derive(Clone, Copy, Debug, PartialEq, Eq)]
 pub struct MethodHeader {
     /// Whether the method is abstract.
     pub is_abstract: bool,
-    /// How many words its operand stack holds at most.
+    /// The greatest number of words on its operand stack.
     pub max_stack: u8,
-    /// How many words of arguments it takes, `this` among them.
+    /// How many words of arguments it takes, `this` included.
     pub nargs: u8,
-    /// How many words of locals it has beside its arguments.
+    /// How many words of locals it has besides its arguments.
     pub max_locals: u8,
 }
 
-/// A header of the short form, behind its first byte.
+/// A header of the short form, after its first byte.
 #[tactic(auto, unfolding(crate::specs::MethodHeader::next_short_header))]
 fn next_short_header(front: u8, cursor: &mut Cursor) -> Result<MethodHeader, LoadFault>
     ensures { Gives (λ h. h) result cursor.new (next_short_header front cursor.old) }
@@ -41,7 +41,7 @@ fn next_short_header(front: u8, cursor: &mut Cursor) -> Result<MethodHeader, Loa
     })
 }
 
-/// A header of the extended form, behind its first byte.
+/// A header of the extended form, after its first byte.
 #[tactic(auto, unfolding(crate::specs::MethodHeader::next_extended_header))]
 fn next_extended_header(front: u8, cursor: &mut Cursor) -> Result<MethodHeader, LoadFault>
     ensures { Gives (λ h. h) result cursor.new (next_extended_header front cursor.old) }

@@ -19,7 +19,7 @@ fn pool_in<'a>(info: &'a [u8]) -> Result<ConstantPool<'a>, LoadFault>
     Rows::whole(cursor, count, LoadFault::Malformed(CONSTANT_POOL))
 }
 
-/// Reads the ConstantPool component. `Malformed(5)` where its info isn't a count and that many entries.
+/// Reads the ConstantPool component. `Malformed(5)` if its info isn't a count and that many entries.
 pub fn read_pool<'a>(parts: &Parts<'a>) -> Result<ConstantPool<'a>, LoadFault>
     ensures { result ≡ pool_of parts.now.constant_pool }
 {

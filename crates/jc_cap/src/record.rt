@@ -14,7 +14,7 @@ use jc_base::{ClassRef, Cursor, LoadFault, PlacedRow, Row, Rows, U2s, class_ref_
 const ACC_INTERFACE: u8 = 8;
 /// The record is a remote class's or interface's.
 const ACC_REMOTE: u8 = 2;
-/// What stands in place of a superclass where there is none.
+/// The number of a class without a superclass.
 const NO_SUPERCLASS: u16 = 0xFFFF;
 
 /// A table of virtual methods.
@@ -22,7 +22,7 @@ const NO_SUPERCLASS: u16 = 0xFFFF;
 pub struct VirtualTable<'a> {
     /// The token of the first method.
     pub base: u8,
-    /// The methods' offsets in the Method component, `FFFF` where another package declares the method.
+    /// The methods' offsets in the Method component, `FFFF` if another package declares the method.
     pub methods: U2s<'a>,
 }
 
@@ -36,7 +36,7 @@ pub struct InterfaceRecord<'a> {
 /// A class's record.
 #[derive(Drop)]
 pub struct ClassRecord<'a> {
-    /// The class above, or `None` where none is named.
+    /// The superclass, or `None` if the record names none.
     pub superclass: Option<ClassRef>,
     /// How many cells of an object the class itself declares.
     pub declared_size: u8,
@@ -48,7 +48,7 @@ pub struct ClassRecord<'a> {
     pub interfaces: ImplementedInterfaces<'a>,
 }
 
-/// What a record says.
+/// The contents of a record.
 #[derive(Drop)]
 pub enum RecordBody<'a> {
     Interface(InterfaceRecord<'a>),
@@ -56,10 +56,10 @@ pub enum RecordBody<'a> {
 }
 
 /// A record (Java Card Virtual Machine Specification, Class component: `interface_info` and `class_info`). Of the flags
-/// only ACC_INTERFACE and ACC_REMOTE are looked at.
+/// only ACC_INTERFACE and ACC_REMOTE are read.
 #[derive(Drop)]
 pub struct Record<'a> {
-    /// Whether it is a remote class's or interface's, which this card doesn't load.
+    /// Whether it is a remote class's or interface's. The card refuses such records.
     pub is_remote: bool,
     pub body: RecordBody<'a>,
 }
@@ -101,7 +101,7 @@ fn next_methods<'a>(count: u8, cursor: &mut Cursor<'a>) -> Result<U2s<'a>, LoadF
     Ok(U2s::new(bytes))
 }
 
-/// An interface's record behind its first byte, which counts the superinterfaces.
+/// An interface's record after its first byte, which counts the superinterfaces.
 #[tactic(auto, unfolding(crate::specs::Record::next_interface))]
 fn next_interface<'a>(count: u8, cursor: &mut Cursor<'a>) -> Result<InterfaceRecord<'a>, LoadFault>
     ensures { Gives (λ r. r) result cursor.new (next_interface count cursor.old) }
@@ -110,7 +110,7 @@ fn next_interface<'a>(count: u8, cursor: &mut Cursor<'a>) -> Result<InterfaceRec
     Ok(InterfaceRecord { superinterfaces })
 }
 
-/// A class's record behind its first byte, which counts the interfaces.
+/// A class's record after its first byte, which counts the interfaces.
 #[tactic(auto, unfolding(crate::specs::Record::next_class_record))]
 fn next_class_record<'a>(count: u8, cursor: &mut Cursor<'a>) -> Result<ClassRecord<'a>, LoadFault>
     ensures { Gives (λ r. r) result cursor.new (next_class_record count cursor.old) }
@@ -138,7 +138,7 @@ fn next_class_record<'a>(count: u8, cursor: &mut Cursor<'a>) -> Result<ClassReco
     })
 }
 
-/// A record behind its first byte.
+/// A record after its first byte.
 #[tactic(auto, unfolding(crate::specs::Record::next_body))]
 fn next_body<'a>(front: u8, cursor: &mut Cursor<'a>) -> Result<RecordBody<'a>, LoadFault>
     ensures { Gives (λ body. body) result cursor.new (next_body front cursor.old) }

@@ -10,7 +10,7 @@ use jc_base::tag::STATIC_FIELD;
 use jc_base::{Cursor, LoadFault, Parts};
 use std::marker::Model;
 
-/// The static fields of a package. Their image begins with the references: those to the initialised arrays, then
+/// The static fields of a package. Their image begins with the references: first those to the initialised arrays, then
 /// null ones. Bytes of value 0 follow, and then bytes with given values.
 #[derive(Drop)]
 pub struct StaticFields<'a> {
@@ -50,7 +50,7 @@ impl<'a> StaticFields<'a> {
         self.references
     }
 
-    /// The initialised arrays, to which the first references lead.
+    /// The initialised arrays, which the first references refer to.
     pub fn arrays(&self) -> StaticArrays<'a>
         ensures { result ≡ self.now.arrays }
     {
@@ -64,14 +64,14 @@ impl<'a> StaticFields<'a> {
         self.defaults
     }
 
-    /// The bytes that follow those.
+    /// The bytes after those.
     pub fn values(&self) -> &'a [u8]
         ensures { result.now ≡ self.now.values }
     {
         self.values
     }
 
-    /// Whether the parts make up the size, and each array has a reference.
+    /// Whether the sizes of the parts add up to the size, and each array has a reference.
     fn fits(&self) -> bool
         ensures { result ≡ fits self.now }
     {
@@ -82,7 +82,7 @@ impl<'a> StaticFields<'a> {
     }
 }
 
-/// The static image that an info spells, and nothing behind it.
+/// The static image that an info encodes, with nothing after it.
 #[tactic(auto, unfolding(crate::specs::Statics::next_static_image))]
 fn image_in<'a>(info: &'a [u8]) -> Result<StaticFields<'a>, LoadFault>
     ensures { result ≡ whole (LoadFault.Malformed static_field_tag) (next_static_image info.now) }

@@ -24,7 +24,7 @@ acc_static = 8
 abbrev pub acc_abstract : ℕ
 acc_abstract = 0x80
 
--- with the high bit clear the offset of a type's descriptor, with the high bit set a type of a few
+-- if the high bit is clear, the offset of a type's descriptor; if it is set, the code of a type
 abbrev pub stated_type_of : ℕ → StatedType
 stated_type_of number =
     if nat_lt number 0x8000 then Described number
@@ -33,7 +33,7 @@ stated_type_of number =
     else (if number == 0x8004 then Short
     else Unknown)))
 
--- where a field stands: a static one behind a byte of padding at an offset, another in a class under a token
+-- the place of a field: for a static one a byte of padding and an offset, for another a class and a token
 unfoldable pub next_place : Bool → List ℕ → Result (Read FieldPlace) LoadFault
 next_place true bytes = do
   padding ← field descriptor_tag (next_u1 bytes)
@@ -44,7 +44,7 @@ next_place false bytes = do
   token ← field descriptor_tag (next_u1 class.rest)
   Ok (record { value = Instance (class_ref_of class.value) token.value; rest = token.rest })
 
--- a field: a token that nobody looks at, flags, its place, and its type
+-- a field: an ignored token, flags, its place, and its type
 unfoldable pub next_field_row : List ℕ → Result (Read FieldRow) LoadFault
 next_field_row bytes = do
   token ← field descriptor_tag (next_u1 bytes)
@@ -53,7 +53,7 @@ next_field_row bytes = do
   number ← field descriptor_tag (next_u2 place.rest)
   Ok (record { value = record { place = place.value; stated = stated_type_of number.value }; rest = number.rest })
 
--- a method: its token, flags, its offset, its type's, the number of its bytes of code, and its handlers
+-- a method: its token, flags, its offset, the offset of its type, the number of its bytes of code, and its handlers
 unfoldable pub next_method_row : List ℕ → Result (Read MethodRow) LoadFault
 next_method_row bytes = do
   token ← field descriptor_tag (next_u1 bytes)
@@ -76,8 +76,7 @@ next_method_row bytes = do
     rest = handler_index.rest;
   })
 
--- a class: a token that nobody looks at, flags, the class, three counts, so many interfaces that nobody looks at,
--- fields and methods
+-- a class: an ignored token, flags, the class, three counts, ignored interfaces, fields and methods
 unfoldable pub next_class_row : List ℕ → Result (Read ClassRow) LoadFault
 next_class_row bytes = do
   token ← field descriptor_tag (next_u1 bytes)

@@ -12,8 +12,8 @@ use Rattle.jc_cap.specs.Descriptor.{next_descriptor}
 use Rattle.jc_cap_desc.specs.ClassRow.{next_class_row}
 use Rattle.jc_cap_desc.specs.declared.component.DescriptorInfo.{DescriptorInfo}
 
--- a count of classes and their rows; a count of pool entries and the offsets of their types; and behind these, from the
--- second count on, type descriptors to the end
+-- a count of classes and their rows; a count of pool entries and the offsets of their types; and after these type
+-- descriptors to the end; the offsets of descriptors count from the second count
 unfoldable pub layout_of : List ℕ → Result DescriptorInfo LoadFault
 layout_of info = do
   class_count ← field descriptor_tag (next_u1 info)

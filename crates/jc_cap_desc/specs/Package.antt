@@ -1,4 +1,4 @@
--- A whole package, and which of its faults is told (Java Card Virtual Machine Specification, CAP file format).
+-- A whole package, and which of its faults is reported (Java Card Virtual Machine Specification, CAP file format).
 use Rattle.std.specs.Prelude.{ℕ, ◌==◌, Bool, List, length, Option, Some, None, Result, Ok, Err, ◌&&◌, if◌then◌else◌}
 use Rattle.std.specs.List.{list_all}
 use Rattle.std.specs.Result.{result_ok}
@@ -27,36 +27,36 @@ use Rattle.jc_cap_desc.specs.Across.{applets_install}
 use Rattle.jc_cap_desc.specs.Shape.{Package, shape_of, body_of}
 use Rattle.jc_cap_desc.specs.declared.component.DescriptorInfo.{DescriptorInfo}
 
--- why something wasn't read
+-- the fault of a read that failed
 abbrev pub fault_of : {A : Type 0} → Result A LoadFault → Option LoadFault
 fault_of (Ok x) = None
 fault_of (Err fault) = Some fault
 
--- a component that a test finds malformed
+-- the fault of a component if a test finds it malformed
 abbrev pub unless : Bool → ℕ → Option LoadFault
 unless fine tag = if fine then None else Some (Malformed tag)
 
--- the one of two faults that is told
+-- the one of two faults that is reported
 abbrev pub told : Option LoadFault → Option LoadFault → Option LoadFault
 told None b = b
 told (Some a) None = Some a
 told (Some a) (Some b) = Some (least_of a b)
 
--- the tests on classes and the Descriptor, and with a Method component whose handler table fits
+-- the tests on methods, if the handler table of the Method component fits
 abbrev pub methods_fault : List (Placed Record) → DescriptorInfo → Option Methods → Option LoadFault
 methods_fault records info None = None
 methods_fault records info (Some methods) =
     told (unless (list_all (stands_inside methods) (class_methods records info.classes)) method_tag)
     (unless (list_all (is_described methods) (class_methods records info.classes)) descriptor_tag)
 
--- the test on applets, where there are some
+-- the test on applets, if there are any
 abbrev pub applets_fault : List (Placed Record) → DescriptorInfo → Option (Option (List Applet)) → Option LoadFault
 applets_fault records info None = None
 applets_fault records info (Some None) = None
 applets_fault records info (Some (Some applets)) =
     unless (applets_install records info.classes info.types applets) applet_tag
 
--- the tests with classes, where the layout of the Class component is used up
+-- the tests with classes, if the Class component follows its layout
 abbrev pub classes_fault : Option (List (Placed Record)) → DescriptorInfo → Option (Option (List Applet))
     → Option Methods → Option LoadFault
 classes_fault None info applets methods = None
@@ -70,24 +70,24 @@ abbrev pub pool_fault : Option (List PoolEntry) → DescriptorInfo → Option Lo
 pool_fault None info = None
 pool_fault (Some pool) info = unless (length pool == length info.pool_types) descriptor_tag
 
--- all tests across components, where the layout of the Descriptor component is used up
+-- all tests across components, if the Descriptor component follows its layout
 abbrev pub across_fault : Option DescriptorInfo → Option (List (Placed Record)) → Option (List PoolEntry)
     → Option (Option (List Applet)) → Option Methods → Option LoadFault
 across_fault None records pool applets methods = None
 across_fault (Some info) records pool applets methods =
     told (pool_fault pool info) (classes_fault records info applets methods)
 
--- the records of the Class component, whose layout is that of the Header's format
+-- the records of the Class component, whose layout the Header's format selects
 abbrev pub layout_in : Result Heading LoadFault → List ℕ → Option (List (Placed Record))
 layout_in (Ok heading) info = result_ok (Class.layout_of heading.format info)
 layout_in (Err fault) info = None
 
--- the fault of the Class component; where the Header has one, that is told before any of the Class component
+-- the fault of the Class component; none if the Header has a fault, which is reported first
 abbrev pub class_fault : Result Heading LoadFault → List ℕ → Option LoadFault
 class_fault (Ok heading) info = fault_of (Class.classes_of heading.format info)
 class_fault (Err fault) info = None
 
--- the fault of one component that is told
+-- the reported fault of single components
 abbrev pub component_fault : Infos → Option LoadFault
 component_fault infos =
     told (fault_of (header_of infos.header))
@@ -100,7 +100,7 @@ component_fault infos =
     (told (fault_of (exports_of infos.export))
     (fault_of (descriptor_of infos.descriptor)))))))))
 
--- the fault that is told
+-- the reported fault
 abbrev pub package_fault : Infos → Option LoadFault
 package_fault infos =
     told (component_fault infos)
@@ -125,11 +125,11 @@ components_of infos = do
     body = body_of heading.name applets pool statics records info methods;
   })
 
--- the fault that is told, or the package
+-- the reported fault, or else the package
 abbrev pub refused : Option LoadFault → Result Package LoadFault → Result Package LoadFault
 refused None found = found
 refused (Some fault) found = Err fault
 
--- what the infos of an image give
+-- the package of an image with these infos, or its refusal
 abbrev pub package_of : Infos → Result Package LoadFault
 package_of infos = refused (package_fault infos) (components_of infos)

@@ -13,7 +13,7 @@ use Rattle.jc_cap_desc.specs.declared.class_row.FieldRow.{FieldRow}
 use Rattle.jc_cap_desc.specs.declared.class_row.MethodRow.{MethodRow}
 use Rattle.jc_cap_desc.specs.ClassRow.{acc_static, stated_type_of, next_place, next_field_row, next_method_row}
 
--- a field's row behind its flags
+-- a field's row after its flags
 abbrev behind_flags : Bool → List ℕ → Result (Read FieldRow) LoadFault
 behind_flags is_static bytes = do
   place ← next_place is_static bytes

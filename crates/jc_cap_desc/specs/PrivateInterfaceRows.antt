@@ -14,6 +14,6 @@ is_interface_record r = not (is_class r.body)
 abbrev pub begins_interface : List (Placed Record) → ℕ → Bool
 begins_interface records n = option_map_or is_interface_record (row_at n records) false
 
--- a set that says of each offset whether an interface's record begins there
+-- a set of the offsets at which interfaces' records begin
 abbrev pub HoldsInterfaces : List ℕ → List (Placed Record) → Type 0
 HoldsInterfaces words records = (n : ℕ) → n < 65536 → has_number words n ≡ begins_interface records n

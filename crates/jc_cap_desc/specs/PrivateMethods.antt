@@ -12,27 +12,27 @@ use Rattle.jc_cap_desc.specs.declared.class_row.ClassRow.{ClassRow}
 use Rattle.jc_cap_desc.specs.declared.class_row.MethodRow.{MethodRow}
 use Rattle.jc_cap_desc.specs.declared.standing.MethodTests.{MethodTests}
 
--- the handlers that a method names, where the table has them, stay inside its code
+-- the handlers of a method, if the table has them, stay inside its code
 abbrev pub handlers_are_inside : MethodRow → Method → Option (List Handler) → Bool
 handlers_are_inside m found handlers =
     option_map_or (list_all (stays_inside found.code_offset (found.code_offset + m.bytecode_count))) handlers true
 
--- header, code and handlers of a method stand where they may, by what was found of it
+-- header, code and handlers of a method stand where they may, from what the look-ups found
 abbrev pub is_inside : MethodRow → Option Method → Option (List Handler) → Bool
 is_inside m found handlers =
     option_map_or (λ found. nat_le m.bytecode_count (length found.code) && handlers_are_inside m found handlers) found
     false
 
--- an abstract method has no code, and another has
+-- a method has code if and only if it isn't abstract
 abbrev pub code_is_described : MethodRow → Option Method → Bool
 code_is_described m found =
     option_map_or (λ found. if found.header.is_abstract then not (has_code m) else has_code m) found true
 
--- what both tests say of methods that were looked at before and of these
+-- the results of both tests on the methods so far and on these
 pub record IsStandingOf (before : MethodTests) (methods : Methods) (rows : List MethodRow) (all : MethodTests) : Type 0 where
   pub inside : all.inside ≡ (before.inside && list_all (stands_inside methods) rows)
   pub described : all.described ≡ (before.described && list_all (is_described methods) rows)
 
--- the offsets of a class's methods; an interface's don't count
+-- the offsets of a class's methods; none for an interface
 abbrev pub class_offsets : List (Placed Record) → ClassRow → List ℕ
 class_offsets records row = map (λ m. m.offset) (if is_interface_row records row then [] else row.methods)

@@ -1,5 +1,5 @@
--- Private. The components as they are read, each once, in the order of the code: of the Class and the Descriptor
--- component what their layouts give, and apart from it what the tests behind these layouts say.
+-- Private. The components as they are read, each once, in the order of the code: the Class and the Descriptor component
+-- by their layouts, and apart from that the tests after these layouts.
 use Rattle.std.specs.Prelude.{◌≡◌, ℕ, ◌≤◌, true, List, length, Option, Some, None, Result, Ok, Err, IfOk}
 use Rattle.std.specs.Result.{result_ok}
 use Rattle.jc_base.specs.Parts.{Infos}
@@ -89,26 +89,26 @@ joined found = do
     body = body_of heading.name applets pool statics records info methods;
   })
 
--- no more rows of classes than a byte counts, and no more records than that where both were read
+-- at most 255 rows of classes, and at most 255 records if both were read
 abbrev pub HasFewRows : Components → Type 0
 HasFewRows found = IfOk found.descriptor (λ info. length info.classes ≤ 255)
 
 abbrev pub HasFewRecords : Components → Type 0
 HasFewRecords found = IfOk found.records (λ records. IfOk found.descriptor (λ info. length records ≤ 255))
 
--- no more imports than a byte counts
+-- at most 255 imports
 abbrev pub HasFewImports : Components → Type 0
 HasFewImports found = IfOk found.imports (λ imports. length imports ≤ 255)
 
--- the fields and methods of classes have types
+-- the types of the fields and methods of classes exist
 abbrev pub HasTypes : Components → Type 0
 HasTypes found = IfOk found.descriptor (λ info. classes_are_typed info.types info.classes ≡ true)
 
--- each record has one row where both were read
+-- each record has exactly one row, if both were read
 abbrev pub HasEachRow : Components → Type 0
 HasEachRow found =
     IfOk found.records (λ records. IfOk found.descriptor (λ info. each_has_row records info.classes ≡ true))
 
--- an index of the type descriptors of a layout, where it was read
+-- an index of the type descriptors, if the layout was read
 abbrev pub IsIndexOf : TypeIndex → Result DescriptorInfo LoadFault → Type 0
 IsIndexOf index layout = IfOk layout (λ info. IndexesTypes index info.types)

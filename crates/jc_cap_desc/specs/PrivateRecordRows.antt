@@ -1,4 +1,4 @@
--- Private. The offsets at which records begin, and those of the records that rows are of, as sets of numbers.
+-- Private. The offsets of records, and those of the records that rows name, as sets of numbers.
 use Rattle.std.specs.Prelude.{◌≡◌, ℕ, ◌<◌, ◌+◌, ◌==◌, ◌&&◌, Bool, true, List, Option, Some, None, nat_lt}
 use Rattle.std.specs.Prelude.{is_some, slice_get, if◌then◌else◌}
 use Rattle.std.specs.List.{list_all}
@@ -11,14 +11,14 @@ use Rattle.jc_cap.specs.declared.record.Record.{Record}
 use Rattle.jc_cap_desc.specs.Across.{count_rows, record_of}
 use Rattle.jc_cap_desc.specs.declared.class_row.ClassRow.{ClassRow}
 
--- a set that says of each offset whether a record begins there
+-- a set of the offsets at which records begin
 abbrev pub HoldsRecords : List ℕ → List (Placed Record) → Type 0
 HoldsRecords words records = (n : ℕ) → n < 65536 → has_number words n ≡ is_some (row_at n records)
 
 abbrev pub is_any_record : Record → Bool
 is_any_record r = true
 
--- where the record begins that a row names
+-- the offset of the record that a row names
 abbrev pub offset_named : ClassRow → Option ℕ
 offset_named row = named row.this
   where
@@ -26,11 +26,11 @@ offset_named row = named row.this
     named (Internal offset) = Some offset
     named (External import class) = None
 
--- whether a number is in a set; one that is no number of two bytes isn't
+-- whether a number is in a set; a number above 65,535 isn't
 abbrev pub is_in : List ℕ → ℕ → Bool
 is_in words n = nat_lt n 65536 && has_number words n
 
--- each record has one row
+-- each record has exactly one row
 abbrev pub each_has_row : List (Placed Record) → List ClassRow → Bool
 each_has_row records rows = list_all (λ p. count_rows p.offset rows == 1) records
 
@@ -41,12 +41,12 @@ IsAmong row rows = (n : ℕ) × (slice_get rows n ≡ Some row)
 abbrev pub AreAmong : List ClassRow → List ClassRow → Type 0
 AreAmong some rows = (n : ℕ) (row : ClassRow) → slice_get some n ≡ Some row → IsAmong row rows
 
--- each row is of a record
+-- each row names a record
 abbrev pub all_recorded : List (Placed Record) → List ClassRow → Bool
 all_recorded records rows = list_all (λ row. is_some (record_of records row)) rows
 
--- rows were passed, each of a record, and no two of one: what is in the set, and what the rows that are left are of,
--- is what all rows are of, as often
+-- for each offset, the set and the rows that are left count as many rows as all rows have there; and all rows name
+-- records if and only if those left do
 pub record AreNamed (starts named : List ℕ) (rows left : List ClassRow) : Type 0 where
   pub counted : (n : ℕ) → (if is_in named n then 1 else 0) + count_rows n left ≡ count_rows n rows
   pub recorded : (records : List (Placed Record)) → HoldsRecords starts records

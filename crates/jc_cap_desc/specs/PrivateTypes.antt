@@ -15,11 +15,11 @@ use Rattle.jc_cap_desc.specs.declared.type_index.TypeIndex.{TypeIndex}
 abbrev pub PlacedTypes : Type 0
 PlacedTypes = List (Placed (Signature ClassRef))
 
--- a set that says of each offset whether a descriptor begins there
+-- a set of the offsets at which descriptors begin
 abbrev pub HasStarts : List ℕ → PlacedTypes → Type 0
 HasStarts starts types = (n : ℕ) → n < 65536 → has_number starts n ≡ is_some (row_at n types)
 
--- sets that say of each offset whether a descriptor begins there, a field's, and an install method's
+-- sets of the offsets of all descriptors, of those of fields, and of those of install methods
 pub record IndexesTypes (index : TypeIndex) (types : PlacedTypes) : Type 0 where
   pub starts : HasStarts index.starts types
   pub fields : (n : ℕ) → n < 65536
@@ -33,7 +33,7 @@ is_any s = true
 abbrev pub is_fields : Signature ClassRef → Bool
 is_fields s = is_some (field_type_of s)
 
--- the same, as far as the descriptors were passed
+-- the same, for the descriptors before those left
 pub record IndexedSoFar (types : PlacedTypes) (index : TypeIndex) (left : PlacedTypes) : Type 0 where
   pub any : PassedSoFar is_any types index.starts index.starts left
   pub fields : PassedSoFar is_fields types index.starts index.fields left

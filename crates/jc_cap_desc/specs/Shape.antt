@@ -1,5 +1,5 @@
--- The record of a package, in two halves: its shape, which look-ups, subtypes and types of members are about, and its
--- body, which is what its methods are made of.
+-- A package in two halves: its shape, which look-ups, subtypes and types of members use, and its body, from which its
+-- methods are built.
 use Rattle.std.specs.Prelude.{◌≡◌, ℕ, suc, ◌^◌, ◌<◌, ◌==◌, Bool, true, false, List, map, take, Option, Some, None}
 use Rattle.std.specs.Prelude.{is_some, slice_get, if◌then◌else◌}
 use Rattle.std.specs.List.{filter_map, find}
@@ -34,8 +34,8 @@ pub record FieldShape : Type 0 where
   pub place : FieldPlace
   pub type : DeclaredType ClassRef
 
--- a method: its token, which counts in an interface; its offset and its header, which count in a class; what it takes
--- and gives
+-- a method: its token, which is used in an interface; its offset and its header, which are used in a class; and its
+-- signature
 pub record MethodShape : Type 0 where
   pub token : ℕ
   pub is_static : Bool
@@ -43,7 +43,7 @@ pub record MethodShape : Type 0 where
   pub header : Option MethodHeader
   pub signature : Signature ClassRef
 
--- a class or an interface at its offset: what its record says, and what its row says
+-- a class or an interface at its offset: its record joined with its row
 pub record ClassShape : Type 0 where
   pub offset : ℕ
   pub body : RecordBody
@@ -72,15 +72,14 @@ pub record MethodBody : Type 0 where
   pub code : List ℕ
   pub handlers : List Handler
 
--- of the methods with code no two stand at one offset, and each stands within the 65,535 bytes that a component may
--- have
+-- methods with code have different offsets, and each begins within the 65,535 bytes that a component may have
 pub record StandApart (methods : List MethodBody) : Type 0 where
   pub differ : (n k : ℕ) (b c : MethodBody) → slice_get methods n ≡ Some b → slice_get methods k ≡ Some c
       → b.offset ≡ c.offset → n ≡ k
   pub within : (n : ℕ) (b : MethodBody) → slice_get methods n ≡ Some b → suc b.offset < 2 ^ 16
 
--- the body of a package: its name, its applets, or none where it is a library; its constant pool, with the types that
--- entries have; its static fields; and its methods with code
+-- the body of a package: its name; its applets, or none if it is a library; its constant pool, with the types of
+-- entries; its static fields; and its methods with code
 pub record Body : Type 0 where
   pub name : List ℕ
   pub applets : Option (List Applet)
@@ -94,7 +93,7 @@ pub record Package : Type 0 where
   pub shape : Shape
   pub body : Body
 
--- a method of a class, and where it stands in the shape. An interface's methods have neither header nor code
+-- a method of a class, and its place in the shape. An interface's methods have neither header nor code
 pub record IsOfClass (shape : Shape) (m : MethodShape) : Type 0 where
   pub class : ClassShape
   pub class_place : ℕ
@@ -103,13 +102,13 @@ pub record IsOfClass (shape : Shape) (m : MethodShape) : Type 0 where
   pub place : ℕ
   pub there : slice_get class.methods place ≡ Some m
 
--- a method with a header that isn't an abstract method's
+-- a method whose header isn't an abstract method's
 pub record IsConcrete (m : MethodShape) : Type 0 where
   pub header : MethodHeader
   pub there : m.header ≡ Some header
   pub concrete : header.is_abstract ≡ false
 
--- at an offset stands a method of a class that isn't abstract
+-- a method of a class that isn't abstract stands at an offset
 pub record HasConcrete (shape : Shape) (offset : ℕ) : Type 0 where
   pub method : MethodShape
   pub of_class : IsOfClass shape method
@@ -123,14 +122,14 @@ pub record HasBody (methods : List MethodBody) (offset : ℕ) : Type 0 where
   pub there : slice_get methods place ≡ Some body
   pub offset_is : body.offset ≡ offset
 
--- what a package declares and its code fit together: each method with code is declared by a class and isn't abstract;
--- each method of a class that isn't abstract has code; and methods of classes at one offset are one
+-- a package's declarations match its code: each method with code is declared by a class and isn't abstract; each method
+-- of a class that isn't abstract has code; and two methods of classes at one offset are equal
 pub record HaveBodies (p : Package) : Type 0 where
   pub declared : (n : ℕ) (b : MethodBody) → slice_get p.body.methods n ≡ Some b → HasConcrete p.shape b.offset
   pub coded : (m : MethodShape) → IsOfClass p.shape m → IsConcrete m → HasBody p.body.methods m.offset
   pub differ : (m n : MethodShape) → IsOfClass p.shape m → IsOfClass p.shape n → m.offset ≡ n.offset → m ≡ n
 
--- at an offset stands a static method of a class, with code, that takes and gives what an install method does
+-- a static method of a class, with code and the signature of an install method, stands at an offset
 pub record HasInstallMethod (p : Package) (offset : ℕ) : Type 0 where
   pub method : MethodShape
   pub of_class : IsOfClass p.shape method
@@ -144,11 +143,11 @@ abbrev pub InstallMethods : Package → Type 0
 InstallMethods p = (applets : List Applet) (n : ℕ) (a : Applet) → p.body.applets ≡ Some applets
     → slice_get applets n ≡ Some a → HasInstallMethod p a.install
 
--- a field's row, whose type is there
+-- a field's row, if its type exists
 abbrev pub field_shape : List (Placed (Signature ClassRef)) → FieldRow → Option FieldShape
 field_shape types f = option_map (λ type. record { place = f.place; type = type }) (type_of_field types f.stated)
 
--- a method's row, whose type is there
+-- a method's row, if its type exists
 abbrev pub method_shape : List (Placed (Signature ClassRef)) → (ℕ → Option MethodHeader) → MethodRow
     → Option MethodShape
 method_shape types header m =
@@ -165,7 +164,7 @@ method_shape types header m =
 abbrev pub headers_of : Methods → RecordBody → ℕ → Option MethodHeader
 headers_of methods body offset = if is_class body then header_at offset methods else None
 
--- a record with its row
+-- a record joined with its row
 abbrev pub joined : List (Placed (Signature ClassRef)) → Methods → Placed Record → ClassRow → ClassShape
 joined types methods p row = record {
   offset = p.offset;
@@ -175,11 +174,11 @@ joined types methods p row = record {
   methods = filter_map (method_shape types (headers_of methods p.row.body)) row.methods;
 }
 
--- a record that has a row
+-- a record, if it has a row
 abbrev pub class_shape : DescriptorInfo → Methods → Placed Record → Option ClassShape
 class_shape info methods p = option_map (joined info.types methods p) (find (is_row_of p.offset) info.classes)
 
--- the shape. In a package that is read each record has its row and each row its type, so nothing is left out
+-- the shape. In a package that is read each record has a row and each row's types exist, so nothing is left out
 abbrev pub shape_of : PackageInfo → List PackageInfo → List ExportedClass → List (Placed Record) → DescriptorInfo
     → Methods → Shape
 shape_of named imports exports records info methods = record {

@@ -1,5 +1,5 @@
--- A package that was read leaves nothing out of what its components say of classes, fields, methods and code (Java Card
--- Virtual Machine Specification, CAP file format: Class component; Descriptor component; Method component).
+-- A package that was read has all classes, fields, methods and code of its components (Java Card Virtual Machine
+-- Specification, CAP file format: Class component; Descriptor component; Method component).
 use Rattle.std.specs.Prelude.{◌≡◌, ◌≤◌, ℕ, true, List, length, map, Option, Some, Ok, slice_get}
 use Rattle.std.specs.List.{filter, find}
 use Rattle.jc_base.specs.Parts.{Infos}
@@ -15,7 +15,7 @@ use Rattle.jc_cap_desc.specs.Types.{descriptor_of}
 use Rattle.jc_cap_desc.specs.declared.class_row.ClassRow.{ClassRow}
 use Rattle.jc_cap_desc.specs.declared.component.DescriptorInfo.{DescriptorInfo}
 
--- each of some elements gives one of others, in their order, and there are no more
+-- f gives a result for each element, and these are the others, in order
 abbrev pub AllGive : {A B : Type 0} → (A → Option B) → List A → List B → Type 0
 AllGive f xs ys = map f xs ≡ map Some ys
 
@@ -26,8 +26,8 @@ pub record HasWholeRow (info : DescriptorInfo) (bodies : Methods) (r : Placed Re
   pub fields : AllGive (field_shape info.types) row.fields k.fields
   pub methods : AllGive (method_shape info.types (headers_of bodies r.row.body)) row.methods k.methods
 
--- each record has one row and each row a record; each record is a class of the package, which has all of its row; and
--- each method of a class with code is a body of the package
+-- each record has exactly one row, and each row names a record; each record is a class of the package, which has all of
+-- its row; and each method of a class with code is a body of the package
 pub record IsWhole (records : List (Placed Record)) (info : DescriptorInfo) (methods : Methods)
     (p : Package) : Type 0 where
   pub matched : rows_match records info.classes ≡ true
@@ -36,7 +36,7 @@ pub record IsWhole (records : List (Placed Record)) (info : DescriptorInfo) (met
       → slice_get p.shape.classes n ≡ Some k → HasWholeRow info methods r k
   pub bodies : AllGive (body_of_method methods) (filter has_code (class_methods records info.classes)) p.body.methods
 
--- that of the records, the rows and the methods of an image
+-- the package has all of the records, the rows and the methods of an image
 pub record HasWholeOf (infos : Infos) (p : Package) : Type 0 where
   pub heading : Heading
   pub records : List (Placed Record)

@@ -1,4 +1,4 @@
-//! The tests of class rows against records, and of methods against one another.
+//! The tests of class rows against records, and of methods against each other.
 
 ghost use Rattle.std.specs.Prelude.{◌≡◌, ◌&&◌, ◌||◌, ◌∷◌, ℕ, true, false, List, [], map, not, IfSome, IfNone};
 ghost use Rattle.std.specs.List.{list_all};
@@ -27,7 +27,7 @@ pub(crate) fn is_row_of(offset: usize, row: &ClassRow) -> bool
     }
 }
 
-/// Where the record begins that a row names.
+/// The offset of the record that a row names.
 fn offset_named(row: &ClassRow) -> Option<u16>
     ensures { result ≡ offset_named row.now }
 {
@@ -37,14 +37,14 @@ fn offset_named(row: &ClassRow) -> Option<u16>
     }
 }
 
-/// Whether a record begins at an offset, and no row before named it.
+/// Whether a record begins at an offset that no earlier row named.
 fn is_named_anew(starts: &NumberSet, named: &NumberSet, offset: u16) -> bool
     ensures { result ≡ (has_number starts.now offset && not (has_number named.now offset)) }
 {
     starts.contains(offset) && !named.contains(offset)
 }
 
-/// The offsets of the records that rows are of, or `None` where one is of no record, or two are of one.
+/// The offsets of the records that rows name, or `None` if a row names no record, or two rows name the same one.
 fn offsets_named(starts: &NumberSet, rows: &ClassRows) -> Option<NumberSet>
     ensures named { IfSome result (λ named. AreNamed starts.now named rows.now []) }
     ensures refused { IfNone result ((records : List (Placed Record)) → HoldsRecords starts.now records
@@ -64,7 +64,7 @@ fn offsets_named(starts: &NumberSet, rows: &ClassRows) -> Option<NumberSet>
     Some(named)
 }
 
-/// Whether an offset is in a set; one that is no number of two bytes isn't.
+/// Whether an offset is in a set; an offset above 65,535 isn't.
 fn is_in(set: &NumberSet, offset: usize) -> bool
     ensures { result ≡ is_in set.now offset }
 {
@@ -87,7 +87,8 @@ fn records_are_in(set: &NumberSet, records: &Records) -> bool
     true
 }
 
-/// Whether each record has one row, and each row is of a record: one pass over the rows, and one over the records.
+/// Whether each record has exactly one row, and each row names a record: one pass over the rows, and one over the
+/// records.
 #[tactic(auto, using(crate::proofs::Matching::matched))]
 pub(crate) fn rows_match(records: &Records, starts: &NumberSet, rows: &ClassRows) -> bool
     ensures { HoldsRecords starts.now records.now → result ≡ rows_match records.now rows.now }
@@ -98,7 +99,7 @@ pub(crate) fn rows_match(records: &Records, starts: &NumberSet, rows: &ClassRows
     }
 }
 
-/// Puts a number into a set, and answers whether the set didn't have it.
+/// Puts a number into a set, and returns whether it is new.
 fn is_fresh(seen: &mut NumberSet, number: u16) -> bool
     ensures fresh { (before : List ℕ) → Holds seen.old before → result ≡ not (is_among number before) }
     ensures put { (before : List ℕ) → Holds seen.old before → Holds seen.new (number ∷ before) }
@@ -108,7 +109,7 @@ fn is_fresh(seen: &mut NumberSet, number: u16) -> bool
     fresh
 }
 
-/// Puts the offsets of methods into a set, and answers whether each was new.
+/// Puts the offsets of methods into a set, and returns whether each is new.
 fn offsets_are_fresh(seen: &mut NumberSet, methods: &MethodRows) -> bool
     ensures fresh { (before : List ℕ) → Holds seen.old before
         → result ≡ are_fresh before (map (λ m. m.offset) methods.now) }
@@ -124,7 +125,8 @@ fn offsets_are_fresh(seen: &mut NumberSet, methods: &MethodRows) -> bool
     true
 }
 
-/// Puts the offsets of a class's methods into a set, and answers whether each was new. An interface's don't count.
+/// Puts the offsets of a class's methods into a set, and returns whether each is new. It ignores an interface's
+/// methods.
 fn row_is_fresh(interfaces: &NumberSet, seen: &mut NumberSet, row: &ClassRow) -> bool
     ensures fresh { (records : List (Placed Record)) (before : List ℕ) → HoldsInterfaces interfaces.now records
         → Holds seen.old before → result ≡ are_fresh before (class_offsets records row.now) }
@@ -134,7 +136,7 @@ fn row_is_fresh(interfaces: &NumberSet, seen: &mut NumberSet, row: &ClassRow) ->
     is_interface_row(interfaces, row) || offsets_are_fresh(seen, &row.methods)
 }
 
-/// Whether no two methods of classes have one offset.
+/// Whether the methods of classes have different offsets.
 fn offsets_differ(interfaces: &NumberSet, rows: &ClassRows) -> bool
     ensures { (records : List (Placed Record)) → HoldsInterfaces interfaces.now records
         → result ≡ are_distinct (map (λ m. m.offset) (class_methods records rows.now)) }
@@ -149,7 +151,7 @@ fn offsets_differ(interfaces: &NumberSet, rows: &ClassRows) -> bool
     true
 }
 
-/// Whether no two methods have one token.
+/// Whether methods have different tokens.
 fn tokens_differ(methods: &MethodRows) -> bool
     ensures { result ≡ are_distinct (map (λ m. m.token) methods.now) }
 {
@@ -163,7 +165,7 @@ fn tokens_differ(methods: &MethodRows) -> bool
     true
 }
 
-/// Whether no two methods of an interface have one token.
+/// Whether the methods of each interface have different tokens.
 fn interfaces_differ(interfaces: &NumberSet, rows: &ClassRows) -> bool
     ensures { (records : List (Placed Record)) → HoldsInterfaces interfaces.now records → result ≡ list_all
         (λ row. not (is_interface_row records row) || are_distinct (map (λ m. m.token) row.methods)) rows.now }
@@ -177,7 +179,7 @@ fn interfaces_differ(interfaces: &NumberSet, rows: &ClassRows) -> bool
     true
 }
 
-/// Whether no two methods of classes have one offset, and no two of an interface one token.
+/// Whether the methods of classes have different offsets, and the methods of each interface different tokens.
 pub(crate) fn methods_differ(interfaces: &NumberSet, rows: &ClassRows) -> bool
     ensures { (records : List (Placed Record)) → HoldsInterfaces interfaces.now records
         → result ≡ methods_differ records rows.now }

@@ -16,14 +16,14 @@ use crate::type_index::TypeIndex;
 use jc_base::NumberSet;
 use jc_cap::Applets;
 
-/// Whether a method of a class is static, has code, and takes and gives what an install method does.
+/// Whether a method of a class is static, has code, and has the signature of an install method.
 fn installs(index: &TypeIndex, method: &MethodRow) -> bool
     ensures { (types : PlacedTypes) → IndexesTypes index.now types → result ≡ installs types method.now }
 {
     method.is_static && 0 < method.bytecode_count && index.installs.contains(method.type_offset)
 }
 
-/// Puts the offsets of the methods that install into a set.
+/// Puts the offsets of the install methods among these methods into a set.
 fn put_installs(index: &TypeIndex, methods: &MethodRows, set: &mut NumberSet)
     ensures { (types : PlacedTypes) → IndexesTypes index.now types → (n : ℕ)
         → has_number set.new n ≡ (has_number set.old n || installs_at types methods.now n) }
@@ -36,7 +36,7 @@ fn put_installs(index: &TypeIndex, methods: &MethodRows, set: &mut NumberSet)
     }
 }
 
-/// The offsets of the methods of classes that install.
+/// The offsets of the install methods of classes.
 fn install_offsets(interfaces: &NumberSet, index: &TypeIndex, rows: &ClassRows) -> NumberSet
     ensures { (records : List (Placed Record)) (types : PlacedTypes) → HoldsInterfaces interfaces.now records
         → IndexesTypes index.now types → HoldsInstalls result types (class_methods records rows.now) }
@@ -64,7 +64,7 @@ fn are_within(set: &NumberSet, applets: &Applets) -> bool
     true
 }
 
-/// Whether each applet's install method is one of a class.
+/// Whether each applet's install method is an install method of a class.
 pub(crate) fn applets_install(
     interfaces: &NumberSet,
     rows: &ClassRows,

@@ -41,14 +41,14 @@ impl<'a> Model for MethodBody<'a> {
 }
 
 impl<'a> MethodBody<'a> {
-    /// Where the method's header stands in the Method component.
+    /// The offset of the method's header in the Method component.
     pub fn offset(&self) -> u16
         ensures { result ≡ self.now.offset }
     {
         self.offset
     }
 
-    /// Where its code begins in the Method component, behind the header.
+    /// The offset of its code in the Method component, after the header.
     pub fn code_offset(&self) -> usize
         ensures { result ≡ self.now.code_offset }
     {
@@ -63,7 +63,7 @@ impl<'a> MethodBody<'a> {
         self.code
     }
 
-    /// Its handlers, in the order of the table. Their offsets count in the Method component.
+    /// Its handlers, in table order. Their offsets count in the Method component.
     pub fn handlers(&self) -> Handlers<'a>
         ensures { result ≡ self.now.handlers }
     {
@@ -89,7 +89,7 @@ fn body_of_method<'a>(methods: &MethodInfo<'a>, row: &MethodRow) -> Option<Metho
     })
 }
 
-/// The rows of a class's methods; an interface's don't count.
+/// The rows of a class's methods; none for an interface.
 fn rows_of<'a>(interfaces: &NumberSet, class: &ClassRow<'a>) -> MethodRows<'a>
     ensures { (records : List (Placed Record)) → HoldsInterfaces interfaces.now records
         → result ≡ if is_interface_row records class.now then [] else class.now.methods }
@@ -124,7 +124,7 @@ impl<'p, 'a> Model for ClassMethodRows<'p, 'a> {
 }
 
 impl<'p, 'a> ClassMethodRows<'p, 'a> {
-    /// Takes the first row off, or answers `None` where there is none.
+    /// Takes the first row off, or returns `None` if there is none.
     fn next(&mut self) -> Option<MethodRow>
         ensures some { IfSome result (λ row. self.old ≡ row ∷ self.new) }
         ensures none { IfNone result ((self.old ≡ []) × (self.new ≡ [])) }
@@ -155,7 +155,7 @@ impl<'p, 'a> Model for MethodBodies<'p, 'a> {
 }
 
 impl<'p, 'a> MethodBodies<'p, 'a> {
-    /// The methods with code of these classes' rows.
+    /// The methods with code among the rows of these classes.
     pub(crate) fn new(
         methods: &'p MethodInfo<'a>,
         records: &'p Records<'a>,
@@ -174,7 +174,7 @@ impl<'p, 'a> MethodBodies<'p, 'a> {
         }
     }
 
-    /// Takes the first method off, or answers `None` where there is none.
+    /// Takes the first method off, or returns `None` if there is none.
     pub fn next(&mut self) -> Option<MethodBody<'a>>
         ensures some { IfSome result (λ body. self.old ≡ body ∷ self.new) }
         ensures none { IfNone result ((self.old ≡ []) × (self.new ≡ [])) }

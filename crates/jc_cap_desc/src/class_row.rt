@@ -19,10 +19,10 @@ const BOOLEAN: u16 = 0x8002;
 const BYTE: u16 = 0x8003;
 
 const SHORT: u16 = 0x8004;
-/// Numbers below are offsets of type descriptors.
+/// Numbers below this are offsets of type descriptors.
 const PRIMITIVE: u16 = 0x8000;
 
-/// Where a field stands.
+/// The place of a field.
 #[derive(Clone, Copy, Debug, PartialEq, Eq)]
 pub enum FieldPlace {
     /// At an offset of the static image.
@@ -31,7 +31,7 @@ pub enum FieldPlace {
     Instance { class: ClassRef, token: u8 },
 }
 
-/// What a field's row says of its type.
+/// The type in a field's row.
 #[derive(Clone, Copy, Debug, PartialEq, Eq)]
 pub enum StatedType {
     Boolean,
@@ -39,12 +39,12 @@ pub enum StatedType {
     Short,
     /// The type whose descriptor begins at this offset, below 32,768.
     Described { offset: u16 },
-    /// A number that means no type.
+    /// A number that encodes no type.
     Unknown,
 }
 
 /// A field's row (Java Card Virtual Machine Specification, Descriptor component: `field_descriptor_info`). The token in
-/// its first byte is no more than a repetition, and isn't looked at.
+/// its first byte is redundant and ignored.
 #[derive(Clone, Copy, Debug, PartialEq, Eq)]
 pub struct FieldRow {
     pub place: FieldPlace,
@@ -54,18 +54,18 @@ pub struct FieldRow {
 /// A method's row (Java Card Virtual Machine Specification, Descriptor component: `method_descriptor_info`).
 #[derive(Clone, Copy, Debug, PartialEq, Eq)]
 pub struct MethodRow {
-    /// The method's token. It counts for an interface's methods alone.
+    /// The method's token. It is used only for an interface's methods.
     pub token: u8,
     pub is_static: bool,
-    /// Where the method's header stands in the Method component. It counts for a class's methods alone.
+    /// The offset of the method's header in the Method component. It is used only for a class's methods.
     pub offset: u16,
-    /// Where the descriptor of the method's type begins.
+    /// The offset of the descriptor of the method's type.
     pub type_offset: u16,
-    /// How many bytes of code follow the header: none where the method is abstract.
+    /// How many bytes of code follow the header: none if the method is abstract.
     pub bytecode_count: u16,
-    /// How many of the handlers in the table are the method's.
+    /// How many handlers of the table belong to the method.
     pub handler_count: u16,
-    /// The first of them.
+    /// The index of the first of them.
     pub handler_index: u16,
 }
 
@@ -76,11 +76,11 @@ pub type FieldRows<'a> = Rows<Cursor<'a>, FieldRow>;
 pub type MethodRows<'a> = Rows<Cursor<'a>, MethodRow>;
 
 /// The row of a class or an interface (Java Card Virtual Machine Specification, Descriptor component:
-/// `class_descriptor_info`). Its token and the interfaces that it repeats aren't looked at.
+/// `class_descriptor_info`). Its token and its repeated interfaces are ignored.
 #[derive(Drop)]
 pub struct ClassRow<'a> {
     pub is_abstract: bool,
-    /// The class whose row this is.
+    /// The class that the row describes.
     pub this: ClassRef,
     pub fields: FieldRows<'a>,
     pub methods: MethodRows<'a>,
@@ -89,7 +89,7 @@ pub struct ClassRow<'a> {
 /// The rows of a package's classes and interfaces.
 pub type ClassRows<'a> = Rows<Cursor<'a>, ClassRow<'a>>;
 
-/// What the number in a field's row says of its type.
+/// The type that the number in a field's row encodes.
 fn stated_type_of(number: u16) -> StatedType
     ensures { result ≡ stated_type_of number }
 {

@@ -1,4 +1,4 @@
-//! The classes of a package: what their records say, and what their rows say.
+//! The classes of a package: their records joined with their rows.
 
 ghost use Rattle.std.specs.Prelude.{◌≡◌, ◌==◌, ◌∷◌, [], true, IfSome, IfNone};
 ghost use Rattle.std.specs.List.{find};
@@ -18,7 +18,7 @@ use jc_base::{ClassRef, Placed};
 use jc_cap::{MethodInfo, Record, RecordBody, Records};
 use std::marker::Model;
 
-/// A class or an interface: what its record says, and what its row says.
+/// A class or an interface: its record with its row.
 #[derive(Drop)]
 pub struct Class<'p, 'a> {
     types: &'p TypeDescriptors<'a>,
@@ -42,7 +42,7 @@ impl<'p, 'a> Model for Class<'p, 'a> {
 }
 
 impl<'p, 'a> Class<'p, 'a> {
-    /// Where its record stands in the Class component: its row says so.
+    /// The offset of its record in the Class component, as its row states it.
     pub fn offset(&self) -> u16
         ensures { result ≡ self.now.offset }
     {
@@ -52,7 +52,7 @@ impl<'p, 'a> Class<'p, 'a> {
         }
     }
 
-    /// What its record says.
+    /// The body of its record.
     pub fn body(&self) -> &RecordBody<'a>
         ensures { result.now ≡ self.now.body }
     {
@@ -89,7 +89,7 @@ impl<'p, 'a> Class<'p, 'a> {
     }
 }
 
-/// The row of the record at an offset, if there is one, looked for among all rows.
+/// The row of the record at an offset, if there is one. It searches all rows.
 fn row_among<'a>(offset: usize, rows: &ClassRows<'a>) -> Option<ClassRow<'a>>
     ensures found { result ≡ find (is_row_of offset) rows.now }
     ensures named { IfSome result (λ row. is_row_of offset row ≡ true) }
@@ -103,8 +103,8 @@ fn row_among<'a>(offset: usize, rows: &ClassRows<'a>) -> Option<ClassRow<'a>>
     None
 }
 
-/// The row of the record at an offset. The row that is ahead is looked at first: where rows stand in the order of their
-/// records, it is the record's.
+/// The row of the record at an offset. It tests the row `ahead` first: if rows stand in the order of their records,
+/// that is the row.
 #[tactic(auto, using(crate::proofs::Ahead::only_row))]
 fn row_of<'a>(
     offset: usize,
@@ -124,7 +124,7 @@ fn row_of<'a>(
     row_among(offset, rows)
 }
 
-/// The class or interface whose record this is, if it has a row.
+/// The class or interface of a record, if it has a row.
 #[tactic(auto, using(crate::proofs::Typing::row_typed))]
 fn class_of<'p, 'a>(
     info: &'p DescriptorInfo<'a>,
@@ -152,7 +152,7 @@ pub struct Classes<'p, 'a> {
     pub(crate) info: &'p DescriptorInfo<'a>,
     pub(crate) bodies: &'p MethodInfo<'a>,
     pub(crate) left: Records<'a>,
-    /// The rows of which none was tried first.
+    /// The rows that weren't tested first yet.
     pub(crate) ahead: ClassRows<'a>,
 }
 
@@ -172,7 +172,7 @@ impl<'p, 'a> Model for Classes<'p, 'a> {
 }
 
 impl<'p, 'a> Classes<'p, 'a> {
-    /// Takes the first class off, or answers `None` where there is none.
+    /// Takes the first class off, or returns `None` if there is none.
     pub fn next(&mut self) -> Option<Class<'p, 'a>>
         ensures some { IfSome result (λ class. self.old ≡ class ∷ self.new) }
         ensures none { IfNone result ((self.old ≡ []) × (self.new ≡ [])) }

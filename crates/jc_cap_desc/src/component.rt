@@ -1,4 +1,4 @@
-//! The component as a whole.
+//! The Descriptor component as a whole.
 
 ghost use Rattle.std.specs.Prelude.{◌≡◌, ◌≤◌, length, true, IfOk};
 ghost use Rattle.jc_base.specs.Cursor.{Gives};
@@ -16,9 +16,9 @@ use jc_base::{Cursor, LoadFault, Parts, Rows, U2s};
 pub struct DescriptorInfo<'a> {
     /// The rows of the package's classes and interfaces.
     pub classes: ClassRows<'a>,
-    /// For each entry of the constant pool where the descriptor of its type begins, `FFFF` where it has no type.
+    /// For each entry of the constant pool, the offset of the descriptor of its type, or `FFFF` if it has no type.
     pub pool_types: U2s<'a>,
-    /// The type descriptors. Their offsets count from the number of pool types.
+    /// The type descriptors. Their offsets count from the first byte of the number of pool types.
     pub types: TypeDescriptors<'a>,
 }
 
@@ -50,7 +50,7 @@ fn layout_of<'a>(info: &'a [u8]) -> Result<DescriptorInfo<'a>, LoadFault>
     })
 }
 
-/// Reads the Descriptor component as its layout says, whatever types its rows name. `Malformed(11)`.
+/// Reads the Descriptor component by its layout, whatever types its rows name. `Malformed(11)`.
 pub fn descriptor_layout<'a>(parts: &Parts<'a>) -> Result<DescriptorInfo<'a>, LoadFault>
     ensures layout { result ≡ layout_of parts.now.descriptor }
     ensures few { IfOk result (λ found. length found.classes ≤ 255) }

@@ -1,4 +1,4 @@
-//! Which of several faults is told.
+//! Which of several faults is reported.
 
 ghost use Rattle.std.specs.Prelude.{◌≡◌, ◌&&◌, List};
 ghost use Rattle.std.specs.Result.{result_ok};
@@ -20,7 +20,7 @@ use jc_base::tag::{APPLET, DESCRIPTOR, METHOD};
 use jc_base::{LoadFault, NumberSet};
 use jc_cap::{Applets, ConstantPool, MethodInfo, Records};
 
-/// Why something wasn't read.
+/// The fault of a read that failed.
 pub(crate) fn fault_of<T>(read: &Result<T, LoadFault>) -> Option<LoadFault>
     ensures { result ≡ fault_of read.now }
 {
@@ -30,7 +30,7 @@ pub(crate) fn fault_of<T>(read: &Result<T, LoadFault>) -> Option<LoadFault>
     }
 }
 
-/// The fault of a component that a test finds malformed.
+/// The fault of a component if a test finds it malformed.
 pub(crate) fn unless(fine: bool, tag: u8) -> Option<LoadFault>
     ensures { result ≡ unless fine tag }
 {
@@ -41,7 +41,7 @@ pub(crate) fn unless(fine: bool, tag: u8) -> Option<LoadFault>
     }
 }
 
-/// The one of two faults that is told.
+/// The one of two faults that is reported.
 pub(crate) fn told(a: Option<LoadFault>, b: Option<LoadFault>) -> Option<LoadFault>
     ensures { result ≡ told a b }
 {
@@ -54,7 +54,7 @@ pub(crate) fn told(a: Option<LoadFault>, b: Option<LoadFault>) -> Option<LoadFau
     }
 }
 
-/// The fault of the tests on methods, where the handler table fits.
+/// The fault of the tests on methods, if the handler table fits.
 fn methods_fault(
     interfaces: &NumberSet,
     info: &DescriptorInfo,
@@ -73,7 +73,7 @@ fn methods_fault(
     )
 }
 
-/// The fault of the test on applets, where there are some.
+/// The fault of the test on applets, if there are any.
 fn applets_fault(
     interfaces: &NumberSet,
     info: &DescriptorInfo,
@@ -92,7 +92,7 @@ fn applets_fault(
     }
 }
 
-/// The fault of the tests with classes, where the layout of the Class component is used up.
+/// The fault of the tests with classes, if the Class component follows its layout.
 fn classes_fault(
     records: &Result<Records, LoadFault>,
     info: &DescriptorInfo,
@@ -127,7 +127,7 @@ fn pool_fault(pool: &Result<ConstantPool, LoadFault>, info: &DescriptorInfo) -> 
     }
 }
 
-/// The fault of all tests across components, where the layout of the Descriptor component is used up.
+/// The fault of all tests across components, if the Descriptor component follows its layout.
 pub(crate) fn across_fault(
     layout: &Result<DescriptorInfo, LoadFault>,
     index: &TypeIndex,

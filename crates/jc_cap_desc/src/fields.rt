@@ -9,7 +9,7 @@ use crate::type_descriptors::TypeDescriptors;
 use jc_base::{ClassRef, DeclaredType};
 use std::marker::Model;
 
-/// The type that a field's row states, if it states one.
+/// The type that a field's row states, if it exists.
 fn type_of_field(types: &TypeDescriptors, stated: StatedType) -> Option<DeclaredType<ClassRef>>
     ensures { result ≡ type_of_field types.now stated }
 {
@@ -38,7 +38,7 @@ impl Model for Field {
 }
 
 impl Field {
-    /// Where it stands.
+    /// Its place.
     pub fn place(&self) -> FieldPlace
         ensures { result ≡ self.now.place }
     {
@@ -53,7 +53,7 @@ impl Field {
     }
 }
 
-/// The field that a row is of, if its type is there.
+/// The field of a row, if its type exists.
 fn field_of(types: &TypeDescriptors, row: &FieldRow) -> Option<Field>
     ensures { result ≡ field_shape types.now row.now }
 {
@@ -82,7 +82,7 @@ impl<'p, 'a> Model for Fields<'p, 'a> {
 }
 
 impl<'p, 'a> Fields<'p, 'a> {
-    /// Takes the first field off, or answers `None` where there is none.
+    /// Takes the first field off, or returns `None` if there is none.
     pub fn next(&mut self) -> Option<Field>
         ensures some { IfSome result (λ field. self.old ≡ field ∷ self.new) }
         ensures none { IfNone result ((self.old ≡ []) × (self.new ≡ [])) }

@@ -1,4 +1,4 @@
-//! Which class rows are interfaces'.
+//! Which class rows belong to interfaces.
 
 ghost use Rattle.std.specs.Prelude.{◌≡◌, List, not};
 ghost use Rattle.jc_base.specs.declared.placed_rows.Placed.{Placed};
@@ -26,13 +26,13 @@ pub(crate) fn is_interface(body: &RecordBody) -> bool
 /// The offsets at which records begin.
 #[derive(Drop)]
 pub(crate) struct RecordOffsets {
-    /// Those of all.
+    /// The offsets of all records.
     pub(crate) starts: NumberSet,
-    /// Those of interfaces' records.
+    /// The offsets of interfaces' records.
     pub(crate) interfaces: NumberSet,
 }
 
-/// The offsets at which records begin, in one pass over them.
+/// The offsets of records, from one pass over them.
 pub(crate) fn record_offsets(records: &Records) -> RecordOffsets
     ensures starts { HoldsRecords result.starts records.now }
     ensures interfaces { HoldsInterfaces result.interfaces records.now }
@@ -52,7 +52,7 @@ pub(crate) fn record_offsets(records: &Records) -> RecordOffsets
     RecordOffsets { starts, interfaces }
 }
 
-/// Whether a row is an interface's: its record is one.
+/// Whether a row is an interface's: whether it names an interface's record.
 pub(crate) fn is_interface_row(interfaces: &NumberSet, row: &ClassRow) -> bool
     ensures { (records : List (Placed Record)) → HoldsInterfaces interfaces.now records
         → result ≡ is_interface_row records row.now }

@@ -1,4 +1,4 @@
-//! What holds of packages that are read, by what it means to read one.
+//! What the definition of reading a package implies.
 
 ghost use Rattle.std.specs.Prelude.{◌≡◌, ◌<◌, ◌^◌, Ok, length};
 ghost use Rattle.jc_base.specs.Parts.{Infos};
@@ -6,8 +6,9 @@ ghost use Rattle.jc_cap_desc.specs.Package.{package_of};
 ghost use Rattle.jc_cap_desc.specs.Shape.{HaveBodies, HaveHeaders, InstallMethods, Package, StandApart};
 ghost use Rattle.jc_cap_desc.specs.Whole.{HasRows};
 
-/// What holds of each package as which the parts of an image are read: its methods stand apart, have headers, and have
-/// code where they have to; its applets have their install methods; and each class has a row. It does nothing.
+/// Laws of each package that is read from the parts of an image. Its methods with code have different offsets. The
+/// methods of its classes have headers, and those that aren't abstract have code. Its applets have install methods. It
+/// has at most as many classes as its Descriptor component has rows. It does nothing.
 pub fn read_packages_are_whole()
     ensures apart { (parts : Infos) (p : Package) → package_of parts ≡ Ok p → length parts.method < 2 ^ 16
         → StandApart p.body.methods }

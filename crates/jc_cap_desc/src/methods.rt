@@ -32,7 +32,7 @@ impl<'a> Model for ClassMethod<'a> {
 }
 
 impl<'a> ClassMethod<'a> {
-    /// Its token, which counts in an interface alone.
+    /// Its token, which is used only in an interface.
     pub fn token(&self) -> u8
         ensures { result ≡ self.now.token }
     {
@@ -46,7 +46,7 @@ impl<'a> ClassMethod<'a> {
         self.row.is_static
     }
 
-    /// Where its header stands in the Method component, which counts in a class alone.
+    /// The offset of its header in the Method component, which is used only in a class.
     pub fn offset(&self) -> u16
         ensures { result ≡ self.now.offset }
     {
@@ -60,7 +60,7 @@ impl<'a> ClassMethod<'a> {
         self.header
     }
 
-    /// What it takes and gives.
+    /// Its signature.
     pub fn signature(&self) -> &Descriptor<'a>
         ensures { result.now ≡ self.now.signature }
     {
@@ -68,7 +68,7 @@ impl<'a> ClassMethod<'a> {
     }
 }
 
-/// The header at an offset, if it counts.
+/// The header at an offset, if `counts` holds.
 fn header_if(counts: bool, methods: &MethodInfo, offset: u16) -> Option<MethodHeader>
     ensures { result ≡ header_if counts methods.now offset }
 {
@@ -79,7 +79,7 @@ fn header_if(counts: bool, methods: &MethodInfo, offset: u16) -> Option<MethodHe
     }
 }
 
-/// The method that a row is of, if its type is there.
+/// The method of a row, if its type exists.
 fn method_of<'a>(
     types: &TypeDescriptors<'a>,
     header: Option<MethodHeader>,
@@ -127,7 +127,7 @@ impl<'p, 'a> ClassMethods<'p, 'a> {
         self.left.count()
     }
 
-    /// Takes the first method off, or answers `None` where there is none.
+    /// Takes the first method off, or returns `None` if there is none.
     #[tactic(auto, using(crate::proofs::Typing::first_made, crate::proofs::Typing::rest_typed))]
     pub fn next(&mut self) -> Option<ClassMethod<'a>>
         ensures some { IfSome result (λ method. self.old ≡ method ∷ self.new) }

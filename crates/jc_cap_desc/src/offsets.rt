@@ -4,7 +4,7 @@ ghost use Rattle.jc_cap_desc.specs.PrivateOffsets.{HasPut, HasMarked};
 
 use jc_base::NumberSet;
 
-/// Puts an offset into a set; one that is no number of two bytes is passed over.
+/// Puts an offset into a set; an offset above 65,535 is ignored.
 pub(crate) fn put(set: &mut NumberSet, offset: usize)
     ensures { HasPut offset set.old set.new }
 {
@@ -13,7 +13,7 @@ pub(crate) fn put(set: &mut NumberSet, offset: usize)
     }
 }
 
-/// Puts the offset of a row that passes a test into a set, unless a row with the same offset was seen before.
+/// Puts the offset of a row that passes a test into a set, unless an earlier row has the same offset.
 pub(crate) fn mark(seen: &NumberSet, set: &mut NumberSet, offset: usize, passes: bool)
     ensures { HasMarked seen.now offset passes set.old set.new }
 {

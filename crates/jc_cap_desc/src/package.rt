@@ -25,7 +25,7 @@ use jc_cap::{
 };
 use std::marker::Model;
 
-/// A package, lent from its image.
+/// A package, borrowed from its image.
 #[derive(Drop)]
 pub struct Package<'a> {
     header: Header<'a>,
@@ -65,14 +65,14 @@ impl<'a> Package<'a> {
         self.header.package()
     }
 
-    /// The package's name in UTF-8, which isn't looked at. It is empty where there is none.
+    /// The package's name in UTF-8, unchecked. It is empty if there is none.
     pub fn name(&self) -> &'a [u8]
         ensures { result.now ≡ self.now.body.name }
     {
         self.header.name()
     }
 
-    /// The applets, or `None` where the package is a library.
+    /// The applets, or `None` if the package is a library.
     pub fn applets(&self) -> Option<Applets<'a>>
         ensures { result ≡ self.now.body.applets }
     {
@@ -97,7 +97,7 @@ impl<'a> Package<'a> {
         self.exports.again()
     }
 
-    /// The classes and interfaces, in the order of their records: each has a row, and a byte counts the rows.
+    /// The classes and interfaces, in the order of their records. Each has a row, and a byte counts the rows.
     #[tactic(auto, using(crate::proofs::Few::fewer))]
     pub fn classes(&self) -> Classes<'_, 'a>
         ensures classes { result ≡ self.now.shape.classes }
@@ -118,7 +118,7 @@ impl<'a> Package<'a> {
         self.pool.again()
     }
 
-    /// The type of the constant pool's entry at an index, or `None` where it has none.
+    /// The type of the constant pool's entry at an index, or `None` if it has none.
     pub fn pool_type(&self, index: u16) -> Option<Descriptor<'a>>
         ensures { result ≡ option_and_then (λ type. type) (slice_get self.now.body.pool_types index) }
     {
@@ -148,7 +148,7 @@ impl<'a> Package<'a> {
     }
 }
 
-/// Each component as it is read alone: of the Class and the Descriptor component what their layouts give.
+/// Each component, read alone; the Class and the Descriptor component are read by their layouts only.
 #[derive(Drop)]
 struct Components<'a> {
     header: Result<Header<'a>, LoadFault>,
@@ -162,7 +162,7 @@ struct Components<'a> {
     descriptor: Result<DescriptorInfo<'a>, LoadFault>,
 }
 
-/// The records as the layout of the Class component has them, remote ones too. It is of the Header's format.
+/// The records by the layout of the Class component, remote ones too. The Header states the format.
 fn read_records<'a>(
     parts: &Parts<'a>,
     header: &Result<Header, LoadFault>,
@@ -207,7 +207,7 @@ fn records_fault(records: &Result<Records, LoadFault>) -> Option<LoadFault>
     }
 }
 
-/// The fault of the Class component. Where the Header has one, that is told before.
+/// The fault of the Class component. If the Header has a fault, there is none, since the Header's comes first.
 fn class_fault(found: &Components) -> Option<LoadFault>
     ensures { result ≡ class_fault_in found.now.header found.now.records }
 {
@@ -217,7 +217,7 @@ fn class_fault(found: &Components) -> Option<LoadFault>
     }
 }
 
-/// The index of the type descriptors, where the layout of the Descriptor component was read.
+/// The index of the type descriptors, if the Descriptor component follows its layout.
 fn index_of(descriptor: &Result<DescriptorInfo, LoadFault>) -> TypeIndex
     ensures { IsIndexOf result descriptor.now }
 {
@@ -227,7 +227,7 @@ fn index_of(descriptor: &Result<DescriptorInfo, LoadFault>) -> TypeIndex
     }
 }
 
-/// The fault of the Descriptor component: of its layout, or of the test that all types are there.
+/// The fault of the Descriptor component: of its layout, or of the test that all types exist.
 fn descriptor_fault(
     descriptor: &Result<DescriptorInfo, LoadFault>,
     index: &TypeIndex,
@@ -240,7 +240,7 @@ fn descriptor_fault(
     }
 }
 
-/// The fault of one component that is told.
+/// The reported fault of single components.
 fn component_fault(found: &Components, index: &TypeIndex) -> Option<LoadFault>
     ensures { IsIndexOf index.now found.now.descriptor → result ≡ component_fault_in found.now }
 {
@@ -255,7 +255,7 @@ fn component_fault(found: &Components, index: &TypeIndex) -> Option<LoadFault>
     told(fault_of(&found.header), fault)
 }
 
-/// The fault that is told.
+/// The reported fault.
 fn package_fault(found: &Components) -> Option<LoadFault>
     ensures { result ≡ package_fault_in found.now }
 {
@@ -271,7 +271,7 @@ fn package_fault(found: &Components) -> Option<LoadFault>
     told(component_fault(found, &index), fault)
 }
 
-/// The package, where all components were read.
+/// The package, if all components were read.
 #[tactic(auto, unfolding(crate::specs::PrivatePackage::joined))]
 fn joined<'a>(found: Components<'a>) -> Result<Package<'a>, LoadFault>
     requires records { HasFewRecords found }
@@ -293,7 +293,7 @@ fn joined<'a>(found: Components<'a>) -> Result<Package<'a>, LoadFault>
     })
 }
 
-/// The package that an image has, or its refusal.
+/// The package of an image, or its refusal.
 fn package_in<'a>(parts: &Parts<'a>) -> Result<Package<'a>, LoadFault>
     ensures package { result ≡ package_of parts.now }
     ensures short { length parts.now.method < 2 ^ 16 }
@@ -305,8 +305,8 @@ fn package_in<'a>(parts: &Parts<'a>) -> Result<Package<'a>, LoadFault>
     }
 }
 
-/// Reads a whole package of an image: all components, and then what they say of one another. Of several refusals the
-/// one with the smallest number is told, and of `Malformed` the one with the least tag.
+/// Reads a whole package of an image: all components, and then the tests across them. Of several refusals the one with
+/// the smallest number is reported, and of `Malformed` the one with the least tag.
 pub fn read_package<'a>(parts: &Parts<'a>) -> Result<Package<'a>, LoadFault>
     ensures package { result ≡ package_of parts.now }
     ensures apart { IfOk result (λ p. StandApart p.body.methods) }

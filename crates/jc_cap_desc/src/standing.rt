@@ -1,4 +1,4 @@
-//! Where the headers, codes and handlers of methods stand, and how they are described.
+//! Where the headers, codes and handlers of methods stand, and whether their rows describe them.
 
 ghost use Rattle.std.specs.Prelude.{◌≡◌, ◌+◌, ◌&&◌, List};
 ghost use Rattle.std.specs.List.{list_all};
@@ -20,7 +20,7 @@ pub(crate) fn has_code(row: &MethodRow) -> bool
     row.bytecode_count > 0
 }
 
-/// Whether a handler stays inside code that is `count` bytes from `first` on.
+/// Whether a handler stays inside the `count` bytes of code from `first` on.
 fn stays_inside(first: usize, count: usize, handler: &Handler) -> bool
     ensures { result ≡ stays_inside first (first + count) handler.now }
 {
@@ -32,7 +32,7 @@ fn stays_inside(first: usize, count: usize, handler: &Handler) -> bool
         && target - first < count
 }
 
-/// Whether all handlers stay inside code that is `count` bytes from `first` on.
+/// Whether all handlers stay inside the `count` bytes of code from `first` on.
 fn all_stay_inside(first: usize, count: usize, handlers: &Handlers) -> bool
     ensures { result ≡ list_all (stays_inside first (first + count)) handlers.now }
 {
@@ -45,7 +45,7 @@ fn all_stay_inside(first: usize, count: usize, handlers: &Handlers) -> bool
     true
 }
 
-/// Whether the handlers that a method names, where the table has them, stay inside its code.
+/// Whether the handlers of a method, if the table has them, stay inside its code.
 fn handlers_are_inside(row: &MethodRow, found: &Method, handlers: &Option<Handlers>) -> bool
     ensures { result ≡ handlers_are_inside row.now found.now handlers.now }
 {
@@ -59,7 +59,7 @@ fn handlers_are_inside(row: &MethodRow, found: &Method, handlers: &Option<Handle
     }
 }
 
-/// Whether header, code and handlers of a class's method stand where they may.
+/// Whether the header, code and handlers of a class's method stand inside the component and its code.
 fn is_inside(row: &MethodRow, found: &Option<Method>, handlers: &Option<Handlers>) -> bool
     ensures { result ≡ is_inside row.now found.now handlers.now }
 {
@@ -72,7 +72,7 @@ fn is_inside(row: &MethodRow, found: &Option<Method>, handlers: &Option<Handlers
     }
 }
 
-/// Whether an abstract method has no code, and another has.
+/// Whether a method has code if and only if it isn't abstract.
 fn code_is_described(row: &MethodRow, found: &Option<Method>) -> bool
     ensures { result ≡ code_is_described row.now found.now }
 {
@@ -82,17 +82,17 @@ fn code_is_described(row: &MethodRow, found: &Option<Method>) -> bool
     }
 }
 
-/// What the tests say of methods that were looked at.
+/// The results of the tests on the methods so far.
 #[derive(Clone, Copy)]
 pub(crate) struct MethodTests {
     /// Header, code and handlers of each stand where they may.
     pub(crate) inside: bool,
-    /// Each has no code where it is abstract and some where it isn't, and the table has the handlers that it names.
+    /// Each has code if and only if it isn't abstract, and the table has the handlers that it names.
     pub(crate) described: bool,
 }
 
-/// What the tests say with one method more, whose header and handlers are looked up once. A test that failed before
-/// isn't made again.
+/// The results with one method more, whose header and handlers are looked up once. A test that failed before isn't
+/// repeated.
 fn with_method(before: MethodTests, methods: &MethodInfo, row: &MethodRow) -> MethodTests
     ensures inside { result.inside ≡ (before.inside && stands_inside methods.now row.now) }
     ensures described { result.described ≡ (before.described && is_described methods.now row.now) }
@@ -105,7 +105,7 @@ fn with_method(before: MethodTests, methods: &MethodInfo, row: &MethodRow) -> Me
     }
 }
 
-/// What the tests say with the methods of a class.
+/// The results with the methods of a class.
 fn with_methods(before: MethodTests, methods: &MethodInfo, rows: &MethodRows) -> MethodTests
     ensures { IsStandingOf before methods.now rows.now result }
 {
@@ -117,7 +117,7 @@ fn with_methods(before: MethodTests, methods: &MethodInfo, rows: &MethodRows) ->
     standing
 }
 
-/// What the tests say of all methods of classes; an interface's don't count.
+/// The results of the tests on all methods of classes; an interface's methods are ignored.
 pub(crate) fn methods_standing(
     interfaces: &NumberSet,
     rows: &ClassRows,

@@ -1,4 +1,4 @@
-//! Type descriptors that are found in one step.
+//! Type descriptors with access in one step.
 
 ghost use Rattle.std.specs.Prelude.{◌≡◌, ◌∷◌};
 ghost use Rattle.jc_base.specs.PlacedRows.{placed_rows, row_at};
@@ -11,7 +11,7 @@ use jc_base::{Cursor, LoadFault, NumberSet, Placed};
 use jc_cap::{Descriptor, Descriptors};
 use std::marker::Model;
 
-/// Type descriptors one behind the other, with the offsets at which they begin. They are read where they are asked for.
+/// Consecutive type descriptors, with the offsets at which they begin. They are read on demand.
 #[derive(Drop)]
 pub struct TypeDescriptors<'a> {
     rows: Descriptors<'a>,
@@ -28,7 +28,7 @@ impl<'a> Model for TypeDescriptors<'a> {
     ghost invariant = { λ t. HasStarts t.starts t.rows };
 }
 
-/// Puts in where a descriptor begins.
+/// Adds the offset of a descriptor.
 #[tactic(auto, using(crate::proofs::Passing::passed_more, crate::proofs::Passing::put_marks))]
 fn add_start(starts: &mut NumberSet, placed: &Placed<Descriptor>)
     ensures { (types left : PlacedTypes) → PassedSoFar is_any types starts.old starts.old (placed.now ∷ left)
@@ -37,7 +37,7 @@ fn add_start(starts: &mut NumberSet, placed: &Placed<Descriptor>)
     put(starts, placed.offset);
 }
 
-/// The offsets at which descriptors begin, in one pass over them.
+/// The offsets at which descriptors begin, from one pass over them.
 fn starts_of(types: &Descriptors) -> NumberSet
     ensures { HasStarts result types.now }
 {
@@ -59,14 +59,14 @@ impl<'a> TypeDescriptors<'a> {
         Ok(TypeDescriptors { rows, starts })
     }
 
-    /// The descriptors, to be taken one by one.
+    /// The descriptors, one by one.
     pub fn rows(&self) -> Descriptors<'a>
         ensures { result ≡ self.now }
     {
         self.rows.again()
     }
 
-    /// The descriptor that begins at an offset, or `None` where none begins, in one step.
+    /// The descriptor that begins at an offset, or `None` if none begins there, in one step.
     pub fn at(&self, offset: u16) -> Option<Descriptor<'a>>
         ensures { result ≡ row_at offset self.now }
     {

@@ -12,11 +12,11 @@ use jc_cap::Descriptor;
 /// The offsets at which type descriptors begin.
 #[derive(Drop)]
 pub(crate) struct TypeIndex {
-    /// Those of all.
+    /// The offsets of all descriptors.
     pub(crate) starts: NumberSet,
-    /// Those of the types of fields.
+    /// The offsets of the types of fields.
     pub(crate) fields: NumberSet,
-    /// Those of what an install method takes and gives.
+    /// The offsets of the signatures of install methods.
     pub(crate) installs: NumberSet,
 }
 
@@ -55,7 +55,7 @@ impl TypeIndex {
         }
     }
 
-    /// The index of descriptors, in one pass over them.
+    /// The index of descriptors, from one pass over them.
     pub(crate) fn of(types: &TypeDescriptors) -> TypeIndex
         ensures { IndexesTypes result types.now }
     {
@@ -67,7 +67,7 @@ impl TypeIndex {
         index
     }
 
-    /// Puts in where a descriptor begins.
+    /// Adds the offset of a descriptor.
     fn add(&mut self, placed: &Placed<Descriptor>)
         ensures { (types left : PlacedTypes) → IndexedSoFar types self.old (placed.now ∷ left)
             → IndexedSoFar types self.new left }

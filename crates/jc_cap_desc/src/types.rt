@@ -16,7 +16,7 @@ use jc_base::{ClassRef, U2s};
 /// The type offset of a pool entry that has no type.
 pub(crate) const NO_TYPE: u16 = 0xFFFF;
 
-/// Whether a field's row states a type.
+/// Whether the type of a field's row exists.
 fn is_typed(index: &TypeIndex, stated: StatedType) -> bool
     ensures { (types : PlacedTypes) → IndexesTypes index.now types → result ≡ is_some (type_of_field types stated) }
 {
@@ -27,7 +27,7 @@ fn is_typed(index: &TypeIndex, stated: StatedType) -> bool
     }
 }
 
-/// Whether a field is a class's own: static fields belong to none.
+/// Whether a field belongs to a class; every static field counts as its own.
 fn is_own_field(this: ClassRef, place: FieldPlace) -> bool
     ensures { result ≡ is_own_field this place }
 {
@@ -37,7 +37,7 @@ fn is_own_field(this: ClassRef, place: FieldPlace) -> bool
     }
 }
 
-/// Whether each field of a class is its own, and has a type.
+/// Whether each field of a class is its own, and its type exists.
 fn fields_are_typed(index: &TypeIndex, this: ClassRef, fields: &FieldRows) -> bool
     ensures { (types : PlacedTypes) → IndexesTypes index.now types → result ≡ fields_are_typed types this fields.now }
 {
@@ -50,7 +50,7 @@ fn fields_are_typed(index: &TypeIndex, this: ClassRef, fields: &FieldRows) -> bo
     true
 }
 
-/// Whether each method has a type.
+/// Whether each method's type exists.
 fn methods_are_typed(index: &TypeIndex, methods: &MethodRows) -> bool
     ensures { (types : PlacedTypes) → IndexesTypes index.now types → result ≡ methods_are_typed types methods.now }
 {
@@ -63,7 +63,7 @@ fn methods_are_typed(index: &TypeIndex, methods: &MethodRows) -> bool
     true
 }
 
-/// Whether each class's fields and methods have types.
+/// Whether the types of each class's fields and methods exist.
 fn classes_are_typed(index: &TypeIndex, rows: &ClassRows) -> bool
     ensures { (types : PlacedTypes) → IndexesTypes index.now types → result ≡ classes_are_typed types rows.now }
 {
@@ -78,7 +78,7 @@ fn classes_are_typed(index: &TypeIndex, rows: &ClassRows) -> bool
     true
 }
 
-/// Whether a pool entry's type is there, if it has one.
+/// Whether a pool entry's type exists, if it has one.
 fn is_entry_typed(index: &TypeIndex, offset: u16) -> bool
     ensures { (types : PlacedTypes) → IndexesTypes index.now types
         → result ≡ (offset == no_type || is_some (row_at offset types)) }
@@ -86,7 +86,7 @@ fn is_entry_typed(index: &TypeIndex, offset: u16) -> bool
     offset == NO_TYPE || index.starts.contains(offset)
 }
 
-/// Whether each pool entry's type is there, if it has one.
+/// Whether each pool entry's type exists, if it has one.
 fn pool_is_typed(index: &TypeIndex, offsets: &U2s) -> bool
     ensures { (types : PlacedTypes) → IndexesTypes index.now types → result ≡ pool_is_typed types offsets.now }
 {
@@ -99,7 +99,7 @@ fn pool_is_typed(index: &TypeIndex, offsets: &U2s) -> bool
     true
 }
 
-/// Whether all types that are named are there.
+/// Whether all types that are named exist.
 pub(crate) fn types_are_there(info: &DescriptorInfo, index: &TypeIndex) -> bool
     ensures { IndexesTypes index.now info.now.types → result ≡ types_are_there info.now }
 {

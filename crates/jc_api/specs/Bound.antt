@@ -1,4 +1,4 @@
--- What a binding says: the AIDs and versions of the packages, and the tokens of classes and members, by their numbers.
+-- A binding: the AIDs and versions of the packages, and the tokens of classes and members, by their numbers.
 use Rattle.std.specs.Prelude.{ℕ, List, [], ◌∷◌}
 use Rattle.jc_base.specs.declared.package_info.PackageInfo.{PackageInfo}
 use Rattle.jc_api.specs.declared.class.ApiPackage.{ApiPackage}
@@ -14,7 +14,7 @@ abbrev pub package_in : Bound → ApiPackage → PackageInfo
 package_in bound Lang = bound.lang
 package_in bound Framework = bound.framework
 
--- the table that holds where none is handed in
+-- the table that is used if none is given
 abbrev pub default_lang : PackageInfo
 default_lang = record { minor = 0; major = 1; aid = 0xF0 ∷ 0x4A ∷ 0x43 ∷ 0x01 ∷ 0x01 ∷ [] }
 

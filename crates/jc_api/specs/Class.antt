@@ -88,7 +88,7 @@ package_of Applet = Framework
 package_of JcSystem = Framework
 package_of Util = Framework
 
--- the class above a class
+-- the superclass of a class
 abbrev pub superclass_of : ApiClass → Option ApiClass
 superclass_of Object = None
 superclass_of Throwable = Some Object
@@ -113,7 +113,7 @@ superclass_of Applet = Some Object
 superclass_of JcSystem = Some Object
 superclass_of Util = Some Object
 
--- the interfaces among them; Shareable is the mark of shareable interfaces, and has no methods
+-- which classes are interfaces; Shareable marks shareable interfaces, and has no methods
 abbrev pub is_interface : ApiClass → Bool
 is_interface Object = false
 is_interface Throwable = false
@@ -138,7 +138,7 @@ is_interface Applet = false
 is_interface JcSystem = false
 is_interface Util = false
 
--- the abstract classes among them; the interface isn't counted
+-- which classes are abstract; the interface doesn't count
 abbrev pub is_abstract : ApiClass → Bool
 is_abstract Object = false
 is_abstract Throwable = false

@@ -1,4 +1,4 @@
--- What a text means as a binding, without any order in which its lines are read.
+-- What a text means as a binding, whatever the order of its lines.
 use Rattle.std.specs.Prelude.{◌≡◌, ℕ, not, List, map, filter, Some, IsSome, slice_get}
 use Rattle.jc_api.specs.Numbered.{numbered}
 use Rattle.jc_api.specs.Class.{number_of}
@@ -29,18 +29,18 @@ IsThere (ThePackage which) = Unit {0}
 IsThere (TheClass class) = Unit {0}
 IsThere (TheMember number) = IsSome (member_of number)
 
--- a statement says what a binding has
+-- a statement agrees with a binding
 abbrev pub Says : Bound → Statement → Type 0
 Says bound (Package which info) = package_in bound which ≡ info
 Says bound (Class class token) = numbered bound.classes (number_of class) ≡ Some token
 Says bound (Member number token) = numbered bound.members number ≡ Some token
 
--- the lines that aren't passed over
+-- the lines that aren't skipped
 abbrev pub told : List (List ℕ) → List (List ℕ)
 told lines = filter (λ line. not (is_skipped line)) lines
 
--- a text is a binding: each line that isn't passed over is a statement that says what the binding has, no two of them
--- name one thing, and each thing is named
+-- a text is a binding: each line that isn't skipped is a statement that agrees with it, no two of them name the same
+-- thing, and each thing is named
 pub record IsBinding (text : List ℕ) (bound : Bound) : Type 0 where
   pub statements : List Statement
   pub lines : map statement_of (told (lines_of text)) ≡ map Some statements

@@ -26,7 +26,7 @@ pub record ApiMember : Type 0 where
   pub is_abstract : Bool
   pub signature : Signature ApiClass
 
--- what the code calls a member
+-- the code's member as this record
 abbrev pub shown : Member → ApiMember
 shown m = record {
   class = m.class;

@@ -1,5 +1,5 @@
--- What every binding keeps to: each token in its range, and nothing called like something else where it would matter
--- (Java Card Virtual Machine Specification, Binary Compatibility: token assignment).
+-- An invariant of every binding: each token is in its range, and names that have to differ do (Java Card Virtual
+-- Machine Specification, Binary Compatibility: token assignment).
 use Rattle.std.specs.Prelude.{◌≡◌, ◌≢◌, ℕ, ◌≤◌, Bool, IsTrue, List, length, Some}
 use Rattle.jc_api.specs.Numbered.{numbered}
 use Rattle.jc_api.specs.Class.{last_class, numbered_classes}
@@ -7,7 +7,7 @@ use Rattle.jc_api.specs.Member.{ApiMember, last_member, members, member_of}
 use Rattle.jc_api.specs.Token.{class_token_limit, member_token_limit, classes_meet, members_meet}
 use Rattle.jc_api.specs.Bound.{Bound}
 
--- no two rows that meet have one token; rows and tokens go by the same numbers
+-- no two rows that meet have the same token; rows and tokens have the same numbers
 abbrev pub TokensDiffer : {A : Type 0} → (A → A → Bool) → List A → List ℕ → Type 0
 TokensDiffer {A = A} meets rows tokens =
     (i j t : ℕ) (x y : A) → numbered rows i ≡ Some x → numbered rows j ≡ Some y → IsTrue (meets x y)

@@ -6,7 +6,7 @@ abbrev pub numbered : {A : Type 0} → List A → ℕ → Option A
 numbered rows zero = None
 numbered rows (suc n) = slice_get rows n
 
--- the rows with another one at a number, where there is one
+-- the rows with the row at a number replaced, if there is one
 abbrev pub put : {A : Type 0} → List A → ℕ → A → List A
 put rows zero row = rows
 put rows (suc n) row = slice_set rows n row

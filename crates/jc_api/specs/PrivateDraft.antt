@@ -1,4 +1,4 @@
--- Private. What every draft keeps to, as a binding does of what it has.
+-- Private. An invariant of every draft: that of a binding, for what is named.
 use Rattle.std.specs.Prelude.{◌≡◌, ◌≢◌, ℕ, ◌≤◌, Bool, IsTrue, List, length, Option, Some}
 use Rattle.jc_base.specs.declared.package_info.PackageInfo.{PackageInfo}
 use Rattle.jc_api.specs.Numbered.{numbered}

@@ -1,4 +1,4 @@
--- What a line of a binding says.
+-- The statements of a binding's lines.
 use Rattle.std.specs.Prelude.{ℕ, List, [], ◌∷◌, Option, Some, None, bytes_eq, codes, if◌then◌else◌}
 use Rattle.jc_api.specs.Options.{◌>>=◌}
 use Rattle.jc_api.specs.Text.{words_of, decimal_up_to, spelled_aid}
@@ -8,7 +8,7 @@ use Rattle.jc_api.specs.Token.{class_token_limit, member_token_limit}
 use Rattle.jc_api.specs.declared.statement.Statement.{Statement}
 use Rattle.jc_api.specs.declared.statement.Statement.TheVariants.{Package, Class, Member}
 
--- the numbers in front are of one byte
+-- the greatest number of a package, class or member, and of a version
 abbrev pub greatest_number : ℕ
 greatest_number = 255
 
@@ -41,7 +41,7 @@ member_stated (number ∷ token ∷ []) = do
   Some (Member n t)
 member_stated _ = None
 
--- by the first word
+-- the keyword selects the statement
 unfoldable pub stated : List (List ℕ) → Option Statement
 stated [] = None
 stated (keyword ∷ words) =

@@ -9,28 +9,28 @@ use Rattle.hex.specs.declared.error.FromHexError.{FromHexError}
 use Rattle.jc_base.specs.Aid.{aid_of}
 use Rattle.jc_api.specs.Options.{◌>>=◌}
 
--- what stands in front of, between and behind the separators
+-- the pieces before, between and after the separators
 abbrev pub pieces : ℕ → List ℕ → List (List ℕ)
 pieces separator bytes = slice_split (λ b. b == separator) bytes
 
--- the lines of a text; where it ends with a line feed an empty one is the last
+-- the lines of a text; if it ends with a line feed, the last line is empty
 abbrev pub lines_of : List ℕ → List (List ℕ)
 lines_of text = pieces 10 text
 
--- the words of a line, with one space between them; two spaces have an empty word between them
+-- the words of a line, separated by one space; between two spaces stands an empty word
 abbrev pub words_of : List ℕ → List (List ℕ)
 words_of line = pieces 32 line
 
--- a line that says nothing: it is empty, or its first byte is #
+-- a line that is skipped: it is empty, or its first byte is #
 abbrev pub is_skipped : List ℕ → Bool
 is_skipped [] = true
 is_skipped (b ∷ bytes) = b == 35
 
--- the number that decimal digits spell
+-- the number that decimal digits encode
 abbrev pub value_of : List ℕ → ℕ
 value_of digits = fold (λ n digit. 10 * n + (digit - 48)) 0 digits
 
--- one decimal digit or more, leading zeros among them, as a number up to a limit
+-- one or more decimal digits, as a number up to a limit; leading zeros are allowed
 unfoldable pub decimal_up_to : ℕ → List ℕ → Option ℕ
 decimal_up_to limit word =
     if nat_lt 0 (length word) && list_all is_ascii_digit word && nat_le (value_of word) limit then Some (value_of word)

@@ -34,13 +34,13 @@ is_same_package Framework Framework = true
 abbrev pub is_same_class : ApiClass → ApiClass → Bool
 is_same_class a b = number_of a == number_of b
 
--- a class and those above it, in at most so many steps
+-- a class and its superclasses, in at most the given number of steps
 unfoldable pub chain : ℕ → Option ApiClass → List ApiClass
 chain zero class = []
 chain (suc n) None = []
 chain (suc n) (Some class) = class ∷ chain n (superclass_of class)
 
--- whether the first is the second or above it; no chain is longer than there are classes
+-- whether the first is the second or a superclass of it; no chain is longer than the number of classes
 unfoldable pub is_at_or_above : ApiClass → ApiClass → Bool
 is_at_or_above a b = list_any (is_same_class a) (chain last_class (Some b))
 
@@ -48,8 +48,8 @@ is_at_or_above a b = list_any (is_same_class a) (chain last_class (Some b))
 abbrev pub classes_meet : ApiClass → ApiClass → Bool
 classes_meet a b = is_same_package (package_of a) (package_of b)
 
--- whether the tokens of two members have to differ: virtual methods where one's class is the other's or above it, other
--- members within one class
+-- whether the tokens of two members have to differ: virtual methods if one's class is the other's or a superclass of
+-- it, other members within one class
 unfoldable pub members_meet : ApiMember → ApiMember → Bool
 members_meet a b =
     if is_virtual a.kind then is_virtual b.kind && (is_at_or_above a.class b.class || is_at_or_above b.class a.class)

@@ -18,7 +18,7 @@ use crate::numbered::numbered;
 use jc_base::{Aid, PackageInfo};
 use std::marker::Model;
 
-/// What the API's packages, classes and members are called by on a card: AIDs and versions, and tokens.
+/// The AIDs and versions of the API's packages, and the tokens of its classes and members, on a card.
 #[derive(Clone, Copy, Debug)]
 pub struct Binding {
     lang: PackageInfo,
@@ -63,7 +63,7 @@ const MEMBER_TOKENS: [u8; MEMBER_COUNT] = [
 ];
 
 impl Binding {
-    /// The table that holds where none is handed in.
+    /// The table that is used if none is given.
     pub fn default_table() -> Binding
         ensures { result ≡ default_binding }
     {
@@ -85,7 +85,7 @@ impl Binding {
         }
     }
 
-    /// The binding that a text says, or the first fault in the order of its lines.
+    /// The binding that a text encodes, or the first fault in the order of its lines.
     #[tactic(auto, unfolding(crate::specs::Binding::binding_of))]
     pub fn from_text(text: &str) -> Result<Binding, BindingFault>
         ensures { result ≡ binding_of text.now }
@@ -95,7 +95,7 @@ impl Binding {
         Binding::whole_of(&draft).ok_or(BindingFault::Missing)
     }
 
-    /// The binding, where all was named.
+    /// The binding, if everything was named.
     #[tactic(auto, unfolding(crate::specs::Draft::whole_of))]
     fn whole_of(draft: &Draft) -> Option<Binding>
         requires { IsSound draft.now }
@@ -113,7 +113,7 @@ impl Binding {
         })
     }
 
-    /// Every binding has no clash, and its tokens are in their ranges.
+    /// No binding has a clash, and the tokens of every binding are in their ranges.
     pub fn has_no_clash(&self)
         ensures { HasNoClash self.now }
     {
@@ -130,14 +130,14 @@ impl Binding {
         }
     }
 
-    /// The token of the class with a number, if it is one of 1 to [`CLASS_COUNT`].
+    /// The token of the class with a number of 1 to [`CLASS_COUNT`].
     pub fn class_token(&self, number: u8) -> Option<u8>
         ensures { result ≡ numbered self.now.classes number }
     {
         numbered(&self.classes, number)
     }
 
-    /// The token of the member with a number, if it is one of 1 to [`MEMBER_COUNT`].
+    /// The token of the member with a number of 1 to [`MEMBER_COUNT`].
     pub fn member_token(&self, number: u8) -> Option<u8>
         ensures { result ≡ numbered self.now.members number }
     {
@@ -145,7 +145,7 @@ impl Binding {
     }
 }
 
-/// A text is read as a binding exactly where it is one by what its lines say, in whatever order they stand.
+/// A text is read as a binding if and only if its lines, in whatever order, state that binding.
 pub fn read_texts_are_bindings()
     ensures { (text : List ℕ) (bound : Bound) → (binding_of text ≡ Ok bound) ↔ IsBinding text bound }
 {}

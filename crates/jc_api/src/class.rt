@@ -100,7 +100,7 @@ impl ApiClass {
         }
     }
 
-    /// The class with a number, if it is one of 1 to [`CLASS_COUNT`].
+    /// The class with a number of 1 to [`CLASS_COUNT`].
     pub fn from_number(number: u8) -> Option<ApiClass>
         ensures { result ≡ class_of number }
     {
@@ -137,7 +137,7 @@ impl ApiClass {
         }
     }
 
-    /// The class above it; `None` for `Object` and for the interface.
+    /// The superclass; `None` for `Object` and for the interface.
     pub fn superclass(self) -> Option<ApiClass>
         ensures { result ≡ superclass_of self }
     {
@@ -173,7 +173,7 @@ impl ApiClass {
         self == ApiClass::Shareable
     }
 
-    /// Whether it is a class of which no object is made: `Applet` is the only one. The interface isn't counted.
+    /// Whether it is an abstract class: `Applet` is the only one. The interface doesn't count.
     pub fn is_abstract(self) -> bool
         ensures { result ≡ is_abstract self }
     {

@@ -1,4 +1,4 @@
-//! A binding while its lines are read.
+//! A partial binding.
 
 ghost use Rattle.std.specs.Prelude.{◌≡◌, ◌&&◌, zip, IfErr, OnOk};
 ghost use Rattle.std.specs.List.{list_any};
@@ -20,7 +20,7 @@ use crate::text::{Pieces, is_skipped};
 use crate::token::{classes_meet, members_meet};
 use jc_base::PackageInfo;
 
-/// What lines have named so far.
+/// What the lines so far have named.
 #[derive(Clone, Copy)]
 pub(crate) struct Draft {
     pub(crate) lang: Option<PackageInfo>,
@@ -40,7 +40,7 @@ fn is_token(token: u8, named: Option<u8>) -> bool
     }
 }
 
-/// Whether one of the classes that a class meets was given this token.
+/// Whether a class whose token has to differ from this class's has this token.
 #[tactic(auto, unfolding(crate::specs::Draft::is_taken))]
 fn is_class_token_taken(class: ApiClass, token: u8, named: &[Option<u8>]) -> bool
     ensures { result ≡ is_taken classes_meet class token numbered_classes named.now }
@@ -49,7 +49,8 @@ fn is_class_token_taken(class: ApiClass, token: u8, named: &[Option<u8>]) -> boo
         && is_token(token, *named))
 }
 
-/// Whether one of these members, which are by their numbers, meets a member and was given this token.
+/// Whether one of these members, in the order of their numbers, has this token and its token has to differ from this
+/// member's.
 fn is_member_token_taken(
     member: Member,
     token: u8,
@@ -82,7 +83,7 @@ fn is_named(named: Option<Option<u8>>) -> bool
 }
 
 impl Draft {
-    /// Nothing is named.
+    /// A draft without names.
     pub(crate) fn empty() -> Draft
         ensures { result ≡ empty_draft }
     {
@@ -103,7 +104,7 @@ impl Draft {
         }
     }
 
-    /// Whether a statement names what was named before.
+    /// Whether a statement names something that was named before.
     #[tactic(auto, unfolding(crate::specs::Draft::is_repeated))]
     fn is_repeated(&self, statement: &Statement) -> bool
         ensures { result ≡ is_repeated self.now statement.now }
@@ -115,7 +116,7 @@ impl Draft {
         }
     }
 
-    /// Whether a statement gives an AID or a token that is taken.
+    /// Whether a statement assigns an AID or a token that is taken.
     #[tactic(auto, unfolding(crate::specs::Draft::clashes))]
     fn clashes(&self, statement: &Statement) -> bool
         ensures { result ≡ clashes self.now statement.now }
@@ -136,7 +137,7 @@ impl Draft {
         }
     }
 
-    /// Names what a statement says.
+    /// Adds a statement.
     #[tactic(auto, unfolding(crate::specs::Draft::drafted))]
     fn name(&mut self, statement: &Statement)
         ensures { self.new ≡ drafted self.old statement.now }
@@ -153,7 +154,7 @@ impl Draft {
         }
     }
 
-    /// Takes up what the line with a number says, or tells the line's fault.
+    /// Adds the line with a number, or reports its fault.
     #[tactic(auto, unfolding(crate::specs::Binding::with_line))]
     fn take_line(&mut self, number: usize, line: &[u8]) -> Result<(), BindingFault>
         ensures ok { OnOk result (with_line number self.old line.now ≡ Ok self.new) }
@@ -175,7 +176,7 @@ impl Draft {
         Ok(())
     }
 
-    /// Takes up what the lines of a text say, or tells the first fault.
+    /// Adds the lines of a text, or reports the first fault.
     pub(crate) fn take_text(&mut self, text: &[u8]) -> Result<(), BindingFault>
         ensures ok { OnOk result (with_lines 1 self.old (lines_of text.now) ≡ Ok self.new) }
         ensures err { IfErr result (λ fault. with_lines 1 self.old (lines_of text.now) ≡ Err fault) }
@@ -190,7 +191,7 @@ impl Draft {
     }
 }
 
-/// The tokens, where each is named.
+/// The tokens, if each is named.
 pub(crate) fn all_of<const N: usize>(named: &[Option<u8>; N]) -> Option<[u8; N]>
     ensures { result ≡ all_of named.now }
 {

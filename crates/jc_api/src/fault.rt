@@ -4,15 +4,15 @@ use std::error::Error;
 use std::fmt;
 
 /// Why a text isn't a binding: the first fault in the order of the lines, which are numbered from 1 on. Its `Display`
-/// is the words that are printed.
+/// prints the words.
 #[derive(Clone, Copy, Debug, PartialEq, Eq, Drop)]
 pub enum BindingFault {
-    /// The line with this number says nothing that a line may say.
+    /// The line with this number isn't a statement.
     BadLine(usize),
-    /// The line with this number names a package, class or member that a line before it named.
+    /// The line with this number names a package, class or member that an earlier line named.
     Repeated(usize),
-    /// The line with this number gives an AID or token that a line before it gave to something else, where they have to
-    /// differ.
+    /// The line with this number assigns an AID or token that an earlier line assigned to something else, and the two
+    /// have to differ.
     Clash(usize),
     /// A package, class or member isn't named.
     Missing,

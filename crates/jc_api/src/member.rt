@@ -11,7 +11,7 @@ use jc_base::{DeclaredType, ReturnType};
 /// How many members the API has: they are numbered from 1 on.
 pub const MEMBER_COUNT: usize = 55;
 
-/// What a member is.
+/// The kind of a member.
 #[derive(Clone, Copy, Debug, PartialEq, Eq)]
 pub enum MemberKind {
     /// A constructor. Its token is among those of the static methods, but it is called on an object.
@@ -35,7 +35,7 @@ pub struct Member {
 }
 
 impl Member {
-    /// The member with a number, if it is one of 1 to [`MEMBER_COUNT`].
+    /// The member with a number of 1 to [`MEMBER_COUNT`].
     pub fn from_number(number: u8) -> Option<Member>
         ensures { option_map shown result ≡ member_of number }
     {
@@ -57,7 +57,7 @@ pub(crate) fn all_members() -> &'static [Member]
     MEMBERS
 }
 
-/// A member that isn't abstract: its kind, its class, the types of its parameters, and of a result that isn't void.
+/// A member that isn't abstract: its kind, its class, the types of its parameters, and its result, unless it is void.
 macro_rules! row {
     ($kind:ident $class:ident ($($type:ident $(($of:ident))?),*)) => {
         Member {

@@ -3,7 +3,7 @@
 ghost use Rattle.std.specs.Prelude.{◌≡◌, slice_get};
 ghost use Rattle.jc_api.specs.Numbered.{numbered, put};
 
-/// The row with a number, or `None` where there is none.
+/// The row with a number, or `None` if there is none.
 pub(crate) fn numbered<T: Copy>(rows: &[T], number: u8) -> Option<T>
     ensures { result ≡ numbered rows.now number }
 {
@@ -13,7 +13,7 @@ pub(crate) fn numbered<T: Copy>(rows: &[T], number: u8) -> Option<T>
     row_at(rows, usize::from(number - 1))
 }
 
-/// Puts another row at a number, where there is one.
+/// Replaces the row with a number, if there is one.
 pub(crate) fn put<T: Copy + Drop>(rows: &mut [T], number: u8, row: T)
     ensures { rows.new ≡ put rows.old number row }
 {

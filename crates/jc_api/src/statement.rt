@@ -1,4 +1,4 @@
-//! What a line of a binding says.
+//! The statements of a binding's lines.
 
 ghost use Rattle.std.specs.Prelude.{◌≡◌};
 ghost use Rattle.jc_api.specs.Statement.{class_stated, member_stated, package_stated, statement_of};
@@ -9,7 +9,7 @@ use crate::text::{Pieces, decimal_up_to, spelled_aid};
 use crate::token::{CLASS_TOKEN_LIMIT, member_token_limit};
 use jc_base::PackageInfo;
 
-/// What a line says.
+/// The statement of a line.
 #[derive(Clone, Copy)]
 pub(crate) enum Statement {
     /// A package's AID and version.
@@ -77,7 +77,7 @@ fn member_stated(mut words: Pieces) -> Option<Statement>
     Some(Statement::Member { number, token })
 }
 
-/// What a line says, or `None` where that isn't a statement.
+/// The statement of a line, or `None` if it isn't one.
 #[tactic(auto, unfolding(crate::specs::Statement::statement_of, crate::specs::Statement::stated))]
 pub(crate) fn statement_of(line: &[u8]) -> Option<Statement>
     ensures { result ≡ statement_of line.now }

@@ -8,7 +8,7 @@ ghost use Rattle.jc_api.specs.PrivateText.{pieces_left};
 use jc_base::Aid;
 use std::marker::Model;
 
-/// What stands in front of, between and behind separators, to be taken one after the other.
+/// The pieces between separators, taken one by one.
 #[derive(Drop)]
 pub(crate) struct Pieces<'a> {
     left: Option<&'a [u8]>,
@@ -35,7 +35,7 @@ impl<'a> Pieces<'a> {
         }
     }
 
-    /// Takes the first piece off, or answers `None` where there is none.
+    /// Takes the first piece off, or returns `None` if there is none.
     pub(crate) fn next(&mut self) -> Option<&'a [u8]>
         ensures some { IfSome result (λ piece. self.old ≡ piece.now ∷ self.new) }
         ensures none { IfNone result ((self.old ≡ []) × (self.new ≡ [])) }
@@ -47,7 +47,7 @@ impl<'a> Pieces<'a> {
     }
 }
 
-/// Bytes up to the first separator, and what stands behind it where there is one.
+/// The bytes before the first separator, and those after it if there is one.
 #[derive(Drop)]
 struct Cut<'a> {
     before: &'a [u8],
@@ -69,14 +69,14 @@ fn cut_at(separator: u8, bytes: &[u8]) -> Cut<'_>
     }
 }
 
-/// Where the first separator stands.
+/// The index of the first separator.
 fn place_of(separator: u8, bytes: &[u8]) -> Option<usize>
     ensures { result ≡ position (λ b. b == separator) bytes.now }
 {
     bytes.iter().position(|b| *b == separator)
 }
 
-/// Whether a line says nothing: it is empty, or its first byte is `#`.
+/// Whether a line is skipped: it is empty, or its first byte is `#`.
 pub(crate) fn is_skipped(line: &[u8]) -> bool
     ensures { result ≡ is_skipped line.now }
 {
@@ -86,7 +86,7 @@ pub(crate) fn is_skipped(line: &[u8]) -> bool
     }
 }
 
-/// The number up to a limit that decimal digits spell. Zeros may lead.
+/// The number that decimal digits encode, up to a limit. Leading zeros are allowed.
 pub(crate) fn decimal_up_to(limit: u8, word: &[u8]) -> Option<u8>
     ensures { result ≡ decimal_up_to limit word.now }
 {
@@ -107,7 +107,7 @@ pub(crate) fn decimal_up_to(limit: u8, word: &[u8]) -> Option<u8>
     Some(value)
 }
 
-/// Puts down the bytes that hexadecimal digits spell, and says whether they do.
+/// Writes the bytes that hexadecimal digits encode, and returns whether they encode any.
 #[tactic(auto, unfolding(crate::specs::Text::hexadecimal))]
 fn decode(word: &[u8], out: &mut [u8]) -> bool
     requires { length out.old ≡ length word.now / 2 }
@@ -117,7 +117,7 @@ fn decode(word: &[u8], out: &mut [u8]) -> bool
     hex::decode_to_slice(word, out).is_ok()
 }
 
-/// The AID that hexadecimal digits of either case spell.
+/// The AID that hexadecimal digits of either case encode.
 pub(crate) fn spelled_aid(word: &[u8]) -> Option<Aid>
     ensures { result ≡ spelled_aid word.now }
 {
@@ -132,5 +132,5 @@ pub(crate) fn spelled_aid(word: &[u8]) -> Option<Aid>
     Aid::from_slice(&bytes[..len])
 }
 
-/// How many bytes an AID has at most.
+/// The greatest number of bytes of an AID.
 const LONGEST_AID: usize = 16;

@@ -33,7 +33,7 @@ fn is_same_class(one: ApiClass, other: ApiClass) -> bool
     one.number() == other.number()
 }
 
-/// Whether a class is another or above it.
+/// Whether a class is another or a superclass of it.
 pub fn is_at_or_above(above: ApiClass, class: ApiClass) -> bool
     ensures { result ≡ is_at_or_above above class }
 {

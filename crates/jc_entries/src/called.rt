@@ -1,8 +1,8 @@
-//! What calls lead to.
+//! The targets of calls.
 
 use crate::method_number::MethodNumber;
 
-/// What a call leads to.
+/// The target of a call.
 #[derive(Clone, Copy)]
 pub enum Called {
     /// A method with code.

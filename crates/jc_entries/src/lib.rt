@@ -1,4 +1,4 @@
-//! What an instruction needs of an entry of the constant pool when it runs.
+//! Resolved entries of constant pools, as instructions need them at run time.
 #![tactic(auto)]
 
 mod called;

@@ -4,7 +4,7 @@ ghost use Rattle.std.specs.Prelude.{◌≡◌};
 
 use std::marker::Model;
 
-/// The number of a method of a loaded package: its place among all of them.
+/// The number of a method of a loaded package: its index among all of them.
 #[derive(Clone, Copy, Debug)]
 pub struct MethodNumber {
     index: u32,

@@ -1,5 +1,5 @@
--- Names of classes and methods, which each has once in a world of packages, and where they stand there (Java Card
--- Virtual Machine Specification, CAP file format: class_ref; Linking).
+-- Names of classes and methods, which are unique in a world of packages, and their places there (Java Card Virtual
+-- Machine Specification, CAP file format: class_ref; Linking).
 use Rattle.std.specs.Prelude.{ℕ, zero, suc, ◌-◌, ◌==◌, Bool, false, ◌&&◌, Option, Some, None, nat_lt, if◌then◌else◌}
 use Rattle.std.specs.Option.{option_and_then, option_map}
 use Rattle.jc_api.specs.Class.{class_of, number_of, package_of}
@@ -11,14 +11,14 @@ use Rattle.jc_names.specs.declared.name.ClassName.TheVariants.{Api, Loaded}
 use Rattle.jc_names.specs.declared.name.MethodName.{MethodName}
 use Rattle.jc_names.specs.declared.name.MethodName.TheVariants as methods
 
--- ---- packages: those of the API stand first in a world, and the loaded ones behind them, with numbers from 1 on
+-- ---- packages: a world has those of the API first, and after them the loaded ones, with numbers from 1 on
 
--- where a package of the API stands
+-- the place of a package of the API
 abbrev pub api_home : ApiPackage → ℕ
 api_home Lang = 0
 api_home Framework = 1
 
--- where the loaded package with a number stands, and the number of the one that stands there, if it is a loaded one
+-- the place of the loaded package with a number, and the number of the package at a place, if it is a loaded one
 abbrev pub home_at : ℕ → ℕ
 home_at number = suc number
 
@@ -27,26 +27,26 @@ number_at home = if nat_lt home 2 then None else Some (home - 1)
 
 -- ---- classes
 
--- where a class's package stands
+-- the place of a class's package
 abbrev pub home_of : ClassName → ℕ
 home_of (Api class) = api_home (package_of class)
 home_of (Loaded number offset) = home_at number
 
--- where a class stands in its package: those of the API at their numbers
+-- the offset of a class in its package; for a class of the API, its number
 abbrev pub offset_of : ClassName → ℕ
 offset_of (Api class) = number_of class
 offset_of (Loaded number offset) = offset
 
--- the class of the API with a number, if it is in the package that stands there
+-- the class of the API with a number, if it is in the package at this place
 abbrev pub api_name : ℕ → ℕ → Option ClassName
 api_name home number =
     option_and_then (λ class. if api_home (package_of class) == home then Some (Api class) else None) (class_of number)
 
--- the name of the class at an offset of the package that stands there
+-- the name of the class at an offset of the package at this place
 abbrev pub name_in : ℕ → ℕ → Option ClassName
 name_in home offset = if nat_lt home 2 then api_name home offset else Some (Loaded (home - 1) offset)
 
--- whether two names are one
+-- whether two names are equal
 abbrev pub is_same_name : ClassName → ClassName → Bool
 is_same_name (Api a) (Api b) = number_of a == number_of b
 is_same_name (Loaded p m) (Loaded q n) = p == q && m == n
@@ -55,13 +55,13 @@ is_same_name (Loaded p m) (Api b) = false
 
 -- ---- methods
 
--- where a method's package stands, if there is one
+-- the place of a method's package, if it has one
 abbrev pub method_home : MethodName → Option ℕ
 method_home (methods.Api member) = option_map (λ m. api_home (package_of m.class)) (member_of member)
 method_home (methods.Loaded zero offset) = None
 method_home (methods.Loaded (suc n) offset) = Some (suc (suc n))
 
--- where a method stands in its package
+-- the offset of a method in its package; for a member of the API, its number
 abbrev pub method_offset : MethodName → ℕ
 method_offset (methods.Api member) = member
 method_offset (methods.Loaded number offset) = offset

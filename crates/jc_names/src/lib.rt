@@ -1,4 +1,4 @@
-//! Names that a world of packages gives: to classes and methods, and to those who own objects.
+//! Names in a world of packages: of classes, of methods, and of the owners of objects.
 #![tactic(auto)]
 
 mod name;

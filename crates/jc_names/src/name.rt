@@ -6,12 +6,12 @@ ghost use Rattle.jc_names.specs.Names.{api_name, home_of, is_same_name, method_h
 use crate::place::PackagePlace;
 use jc_api::{ApiClass, Member};
 
-/// A class or interface of a world: it has one name everywhere.
+/// A class or interface of a world: each has one name.
 #[derive(Clone, Copy, Debug, PartialEq, Eq)]
 pub enum ClassName {
     /// A class of the API.
     Api(ApiClass),
-    /// The class of the loaded package with a number, from 1 on, whose record stands at an offset of its Class
+    /// The class of the loaded package with this number, from 1 on, whose record stands at this offset of its Class
     /// component.
     Loaded { package: u8, offset: u16 },
 }
@@ -21,13 +21,13 @@ pub enum ClassName {
 pub enum MethodName {
     /// A member of the API, by its number, from 1 on.
     Api { member: u16 },
-    /// The method of the loaded package with a number, from 1 on, whose header stands at an offset of its Method
+    /// The method of the loaded package with this number, from 1 on, whose header stands at this offset of its Method
     /// component.
     Loaded { package: u8, offset: u16 },
 }
 
 impl ClassName {
-    /// Where the class's package stands in a world.
+    /// The place of the class's package in a world.
     pub fn home(self) -> PackagePlace
         ensures { result ≡ home_of self }
     {
@@ -37,7 +37,7 @@ impl ClassName {
         }
     }
 
-    /// Where the class stands in its package.
+    /// The offset of the class in its package; for a class of the API, its number.
     pub fn offset(self) -> u16
         ensures { result ≡ offset_of self }
     {
@@ -47,7 +47,7 @@ impl ClassName {
         }
     }
 
-    /// Whether it is the other name.
+    /// Whether two names are equal.
     pub fn is(self, other: ClassName) -> bool
         ensures { result ≡ is_same_name self other }
     {
@@ -67,7 +67,7 @@ impl ClassName {
 }
 
 impl MethodName {
-    /// Where the method's package stands in a world, if there is one.
+    /// The place of the method's package in a world, if it has one.
     #[tactic(auto, using(crate::proofs::Numbering::member_past))]
     pub fn home(self) -> Option<PackagePlace>
         ensures { result ≡ method_home self }
@@ -83,7 +83,7 @@ impl MethodName {
         }
     }
 
-    /// Where the method stands in its package.
+    /// The offset of the method in its package; for a member of the API, its number.
     pub fn offset(self) -> u16
         ensures { result ≡ method_offset self }
     {
@@ -94,7 +94,7 @@ impl MethodName {
     }
 }
 
-/// The class of the API with a number, if it is in the package that stands there.
+/// The class of the API with a number, if it is in the package at this place.
 fn api_name(home: PackagePlace, number: u16) -> Option<ClassName>
     ensures { result ≡ api_name home number }
 {
@@ -107,8 +107,8 @@ fn api_name(home: PackagePlace, number: u16) -> Option<ClassName>
     }
 }
 
-/// The name of the class at an offset of the package that stands there; an offset of the API's packages is the number
-/// of a class.
+/// The name of the class at an offset of the package at this place; an offset of the API's packages is the number of a
+/// class.
 pub fn name_in(home: PackagePlace, offset: u16) -> Option<ClassName>
     ensures { result ≡ name_in home offset }
 {

@@ -6,8 +6,8 @@ ghost use Rattle.jc_names.specs.Names.{api_home, home_at, number_at};
 use jc_api::ApiPackage;
 use std::marker::Model;
 
-/// Where a package stands in a world, from 0 to 256: the API's two at 0 and 1, and a loaded one right behind its
-/// number.
+/// The place of a package in a world, from 0 to 256: the API's two stand at 0 and 1, and the loaded package with number
+/// n at n + 1.
 #[derive(Clone, Copy, Debug)]
 pub struct PackagePlace {
     index: u16,
@@ -36,7 +36,7 @@ impl PackagePlace {
         }
     }
 
-    /// Where a package of the API stands.
+    /// The place of a package of the API.
     pub fn of_api(package: ApiPackage) -> PackagePlace
         ensures { result ≡ api_home «package» }
     {
@@ -46,7 +46,7 @@ impl PackagePlace {
         }
     }
 
-    /// Where the loaded package with a number stands.
+    /// The place of the loaded package with a number.
     pub fn of_loaded(number: u8) -> PackagePlace
         ensures { result ≡ home_at number }
     {
@@ -55,7 +55,7 @@ impl PackagePlace {
         }
     }
 
-    /// The number of the package that stands there, or `None` where it is one of the API's.
+    /// The number of the package at this place, or `None` if it is one of the API's.
     pub fn number(self) -> Option<u8>
         ensures { result ≡ number_at self }
     {

@@ -1,6 +1,6 @@
--- The packages of the API as shapes like all others, under a binding (Java Card API Specification; Java Card Virtual
--- Machine Specification, Binary Compatibility: Token-based linking). A class stands at its number, a method at its
--- member's number.
+-- The packages of the API as shapes, with a binding (Java Card API Specification; Java Card Virtual Machine
+-- Specification, Binary Compatibility: Token-based linking). The offset of a class is its number, and that of a method
+-- its member's number.
 use Rattle.std.specs.Prelude.{ℕ, ◌+◌, ◌==◌, ◌&&◌, Bool, true, false, not, List, [], ◌∷◌, length, Option, Some, None}
 use Rattle.std.specs.Prelude.{unwrap_or, if◌then◌else◌, map, max}
 use Rattle.std.specs.List.{filter_map, find, range_with_len}
@@ -30,24 +30,24 @@ use Rattle.jc_classes.specs.Methods.{declared_above}
 use Rattle.jc_classes.specs.declared.api.Tokens.{Tokens}
 use Rattle.jc_classes.specs.declared.api.Tokens.TheVariants as Of
 
--- what stands for 1 to a last number, in their order, where there is something
+-- the values of f at 1 to `last`, in order, without those that are missing
 unfoldable pub those_to : {A : Type 0} → ℕ → (ℕ → Option A) → List A
 those_to last f = filter_map f (range_with_len 1 last)
 
--- what stands for each token, so many from 0 on, in their order
+-- the values of f at each token below `room`, in order
 unfoldable pub each_below : {A : Type 0} → ℕ → (ℕ → A) → List A
 each_below room f = map f (range_with_len 0 room)
 
--- one more than the greatest of tokens; 0 where there are none
+-- one more than the greatest of these tokens, or 0 if there are none
 abbrev pub room_for : List ℕ → ℕ
 room_for [] = 0
 room_for (token ∷ tokens) = max (token + 1) (room_for tokens)
 
--- the room for the tokens that 1 to a last number have
+-- the room for the tokens of the numbers from 1 to `last`
 unfoldable pub room_to : ℕ → (ℕ → Option ℕ) → ℕ
 room_to last tokens = room_for (filter_map tokens (range_with_len 1 last))
 
--- the first of 1 to a last number that has a token
+-- the first number from 1 to `last` that has a token
 abbrev pub is_token : ℕ → Option ℕ → Bool
 is_token token None = false
 is_token token (Some found) = found == token
@@ -60,8 +60,8 @@ abbrev pub member_token : (ApiMember → Bool) → Bound → ℕ → Option ℕ
 member_token counts bound number =
     option_and_then (λ m. if counts m then numbered bound.members number else None) (member_of number)
 
--- the tokens by numbers: of the classes of a package; of the virtual methods of a class and of those above it, and of
--- its own; and of its constructors and static methods
+-- the token of a number: of a class of a package; of a virtual method of a class or of a superclass of it; of a virtual
+-- method of a class itself; of a constructor or static method of a class
 abbrev pub token_in : Bound → Tokens → ℕ → Option ℕ
 token_in bound (Of.Classes which) number =
     option_and_then (λ c. if is_same_package (package_of c) which then numbered bound.classes number else None)
@@ -73,27 +73,28 @@ token_in bound (Of.Declared class) number =
 token_in bound (Of.Called class) number =
     member_token (λ m. not (is_virtual m.kind) && is_same_class m.class class) bound number
 
--- one more than the greatest of these tokens, and the number that has a token; no class has a number above the members'
+-- one more than the greatest of these tokens, and the number with a token; no class has a number above the last
+-- member's
 abbrev pub room_of : Bound → Tokens → ℕ
 room_of bound tokens = room_to last_member (token_in bound tokens)
 
 abbrev pub number_with : Bound → Tokens → ℕ → Option ℕ
 number_with bound tokens token = number_to last_member (token_in bound tokens) token
 
--- the member that has a token, FFFF where none has, and those that have so many tokens from 0 on
+-- the member that has a token, or FFFF if none has it, and the members that have the tokens from 0 to below `room`
 abbrev pub entry_of : Bound → Tokens → ℕ → ℕ
 entry_of bound tokens token = unwrap_or (number_with bound tokens token) declared_above
 
 abbrev pub entries_of : Bound → Tokens → ℕ → List ℕ
 entries_of bound tokens room = each_below room (entry_of bound tokens)
 
--- a class as it is spelled in a package: the other one is its only import
+-- the reference to a class in a package of the API, whose only import is the other one
 abbrev pub spelled_in : Bound → ApiPackage → ApiClass → ClassRef
 spelled_in bound which class =
     if is_same_package (package_of class) which then Internal (number_of class)
     else External 0 (unwrap_or (numbered bound.classes (number_of class)) 0)
 
--- there are no package-visible methods
+-- the empty table: there are no package-visible methods
 abbrev pub no_table : VirtualTable
 no_table = record { base = 0; methods = [] }
 
@@ -124,7 +125,7 @@ is_static Virtual = false
 abbrev pub nargs_of : ApiMember → ℕ
 nargs_of m = if is_static m.kind then length m.signature.parameters else length m.signature.parameters + 1
 
--- a member's method
+-- the method of a member
 abbrev pub method_in : Bound → ℕ → ApiMember → MethodShape
 method_in bound number m = record {
   token = 0;
@@ -142,7 +143,7 @@ declared_by class number =
 abbrev pub method_of : Bound → ApiClass → ℕ → Option MethodShape
 method_of bound class number = option_map (method_in bound number) (declared_by class number)
 
--- a class with what its record and its members say
+-- the class of the API as a shape
 abbrev pub class_in_api : Bound → ApiClass → ClassShape
 class_in_api bound class = record {
   offset = number_of class;
@@ -160,7 +161,7 @@ class_with which number =
 abbrev pub class_shape_of : Bound → ApiPackage → ℕ → Option ClassShape
 class_shape_of bound which number = option_map (class_in_api bound) (class_with which number)
 
--- what a package exports under a token; no class stands at 0
+-- the export row of a token; no class stands at offset 0
 abbrev pub export_row : Bound → Option ApiClass → ExportedClass
 export_row bound None = record { class = 0; fields = []; methods = [] }
 export_row bound (Some class) =

@@ -1,4 +1,4 @@
--- A world that grows: packages behind the others change nothing of what is looked up in those before them.
+-- A world that grows: appending packages changes no look-up in those before them.
 use Rattle.std.specs.Prelude.{◌≡◌, ◌↔◌, ℕ, ◌<◌, ◌≤◌, List, [], ◌∷◌, ◌++◌, length, take, slice_get, true, Some}
 use Rattle.jc_base.specs.declared.class_ref.ClassRef.{ClassRef}
 use Rattle.jc_cap_desc.specs.Shape.{ClassShape, Shape}
@@ -11,7 +11,7 @@ use Rattle.jc_classes.specs.World.{class_at, class_named, superclass_of, interfa
 use Rattle.jc_names.specs.declared.name.ClassName.{ClassName}
 use Rattle.jc_names.specs.declared.name.MethodName.{MethodName}
 
--- a world with one more package
+-- a world with one more package appended
 abbrev pub grown : List Shape → Shape → List Shape
 grown world more = world ++ more ∷ []
 
@@ -19,7 +19,7 @@ grown world more = world ++ more ∷ []
 abbrev pub IsWithin : List Shape → ClassName → Type 0
 IsWithin world c = home_of c < length world
 
--- what is looked up from packages that are in the world is found as before, and what wasn't found isn't found
+-- every look-up from a package of the world gives the same result as before
 pub record KeepsLookups (world : List Shape) (more : Shape) : Type 0 where
   pub classes : (c : ClassName) → IsWithin world c → class_at (grown world more) c ≡ class_at world c
   pub references : (home : ℕ) (ref : ClassRef) → home < length world
@@ -41,12 +41,12 @@ pub record KeepsLookups (world : List Shape) (more : Shape) : Type 0 where
 abbrev pub IsMethodWithin : List Shape → MethodName → Type 0
 IsMethodWithin world m = (home : ℕ) → method_home m ≡ Some home → home < length world
 
--- a world lies within a later one: its packages are the first of that
+-- a world lies within a later one: it is a prefix of it
 abbrev pub LiesWithin : List Shape → List Shape → Type 0
 LiesWithin before after = take (length before) after ≡ before
 
--- what is looked up from packages of the earlier world is the same in the later one; and what is below a class stays
--- below it
+-- every look-up from a package of the earlier world gives the same result in the later one; and what is below a class
+-- stays below it
 pub record KeepsAllLookups (before after : List Shape) : Type 0 where
   pub count : length before ≤ length after
   pub packages : (home : ℕ) → home < length before → slice_get after home ≡ slice_get before home
@@ -69,8 +69,8 @@ pub record KeepsAllLookups (before after : List Shape) : Type 0 where
   pub implementations : (c i : ClassName) → IsWithin before c → Implements after c i ↔ Implements before c i
   pub methods : (m : MethodName) → IsMethodWithin before m → method_at after m ≡ method_at before m
 
--- what is there is of a package of the world: classes, methods, and the classes that declare these. So is the method at
--- an offset of a package of the world, where the API's two packages are there, and what a class of the world is below
+-- whatever the world has belongs to one of its packages: classes, methods, and the classes that declare them; and, if
+-- the API's two packages are there, the method names of its packages, and what a class of the world is below
 pub record StandWithin (world : List Shape) : Type 0 where
   pub classes : (c : ClassName) (k : ClassShape) → class_at world c ≡ Some k → IsWithin world c
   pub methods : (m : MethodName) (d : DeclaredMethod) → method_at world m ≡ Some d → IsMethodWithin world m

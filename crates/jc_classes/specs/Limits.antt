@@ -1,8 +1,8 @@
--- How large a world is at most.
+-- The limits of a world's size.
 use Rattle.std.specs.Prelude.{◌≡◌, ℕ, ◌≤◌, Some, List, length, slice_get}
 use Rattle.jc_cap_desc.specs.Shape.{Shape}
 
--- 64 loaded packages, one that is being bound to them, and those of the API
+-- 64 loaded packages, one more while it is bound to them, and the two of the API
 abbrev pub most_packages : ℕ
 most_packages = 67
 

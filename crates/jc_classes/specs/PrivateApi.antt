@@ -1,4 +1,4 @@
--- Private. Which members are looked at, and one more number.
+-- Private. Which members a set of tokens has, and steps of the loops over numbers.
 use Rattle.std.specs.Prelude.{ℕ, ◌+◌, ◌==◌, Bool, false, not, ◌&&◌, Option, Some, None, nat_lt, if◌then◌else◌}
 use Rattle.jc_api.specs.Member.{ApiMember}
 use Rattle.jc_api.specs.Token.{is_at_or_above, is_same_class, is_virtual}
@@ -11,7 +11,7 @@ counts (Inherited class) m = is_virtual m.kind && is_at_or_above m.class class
 counts (Declared class) m = is_virtual m.kind && is_same_class m.class class
 counts (Called class) m = not (is_virtual m.kind) && is_same_class m.class class
 
--- room for one more token
+-- the room for these tokens and one more
 abbrev pub with_room : ℕ → Option ℕ → ℕ
 with_room room None = room
 with_room room (Some token) = if nat_lt token room then room else token + 1

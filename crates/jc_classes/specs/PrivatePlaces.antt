@@ -1,4 +1,4 @@
--- Private. Where classes and methods stand, by their offsets.
+-- Private. Tables of classes and methods by their offsets.
 use Rattle.std.specs.Prelude.{◌≡◌, ℕ, ◌==◌, if◌then◌else◌, List, [], ◌∷◌, Option, None, slice_get, unwrap_or}
 use Rattle.std.specs.List.{position}
 use Rattle.std.specs.Option.{option_map, option_and_then, option_or}
@@ -7,11 +7,11 @@ use Rattle.jc_cap_desc.specs.Shape.{ClassShape, MethodShape}
 use Rattle.jc_classes.specs.Methods.{method_of_class}
 use Rattle.jc_classes.specs.declared.shape.MethodPlace.{MethodPlace}
 
--- what a table has at an offset; nothing behind its end
+-- the entry of a table at an offset; none past its end
 abbrev pub place_at : {A : Type 0} → List (Option A) → ℕ → Option A
 place_at places offset = unwrap_or (slice_get places offset) None
 
--- a table says which of the classes stands at an offset first
+-- a table has the index of the first class at each offset
 abbrev pub AreClassPlaces : List (Option ℕ) → List ClassShape → Type 0
 AreClassPlaces places classes = (offset : ℕ) → place_at places offset ≡ position (λ k. k.offset == offset) classes
 
@@ -29,7 +29,7 @@ first_method offset [] = None
 first_method offset (k ∷ classes) =
     option_or (option_map (placed k) (method_of_class offset k)) (first_method offset classes)
 
--- what a place leads to
+-- the method at a place
 abbrev pub led_to : List ClassShape → MethodPlace → Option PlacedMethod
 led_to classes place =
     option_and_then (λ k. option_map (placed k) (slice_get k.methods place.method)) (slice_get classes place.class)
@@ -45,10 +45,10 @@ pub record ArePlaces (class_places : List (Option ℕ)) (method_places : List (O
   pub first_class : AreClassPlaces class_places classes
   pub first_with : AreMethodPlaces method_places classes
 
--- a place of one of these methods, or what was there before
+-- the place of one of these methods, or the entry from before
 abbrev pub place_or : ℕ → Option ℕ → Option MethodPlace → Option MethodPlace
 place_or class found before = option_or (option_map (λ i. record { class = class; method = i }) found) before
 
--- which of a class's methods stands at an offset; an interface's have no header
+-- the index of a class's method at an offset; an interface's methods have no header
 abbrev pub position_in : ℕ → ClassShape → Option ℕ
 position_in offset k = if is_class k.body then position (λ m. m.offset == offset) k.methods else None

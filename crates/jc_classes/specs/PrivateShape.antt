@@ -1,4 +1,4 @@
--- Private. What is kept of a record.
+-- Private. The contents of a record.
 use Rattle.jc_cap.specs.declared.record.RecordBody.{RecordBody}
 use Rattle.jc_cap.specs.declared.record.RecordBody.TheVariants as Read
 use Rattle.jc_classes.specs.declared.shape.Body.{Body}

@@ -1,4 +1,4 @@
--- Private. Tables of the methods of classes, made from those of the classes above.
+-- Private. Tables of the methods of classes, made from those of their superclasses.
 use Rattle.std.specs.Prelude.{◌≡◌, ℕ, suc, ◌-◌, ◌<◌, ◌≤◌, ◌==◌, Bool, true, false, List, [], ◌∷◌, Option, Some, None}
 use Rattle.std.specs.Prelude.{◌||◌, length, nat_lt, not, slice_get, unwrap_or, if◌then◌else◌}
 use Rattle.std.specs.List.{position}
@@ -20,9 +20,9 @@ use Rattle.jc_names.specs.declared.name.ClassName.{ClassName}
 use Rattle.jc_names.specs.declared.name.MethodName.{MethodName}
 use Rattle.jc_classes.specs.declared.tables.Jump.{Jump}
 
--- a table of a class: within how many classes its superclasses come to an end, a superclass far above, its public
--- methods by their tokens, the package-visible ones for each package that may ask, by their tokens from 128 on, and
--- whether any class of the chain may list an interface
+-- the table of a class: the length of its superclass chain, a superclass far up, its public methods by their tokens,
+-- the package-visible ones for each package that may ask, by their tokens from 128 on, and whether any class of the
+-- chain may list an interface
 pub record Tabled : Type 0 where
   pub depth : ℕ
   pub jump : Jump
@@ -44,13 +44,13 @@ no_methods c = record {
 abbrev pub row_at : List (List (Option MethodName)) → ℕ → List (Option MethodName)
 row_at rows asker = unwrap_or (slice_get rows asker) []
 
--- what a table has at a token, asked for the package that stands there
+-- the method of a table at a token, for the package at place `asker`
 abbrev pub entry_in : Tabled → ℕ → ℕ → Option MethodName
 entry_in table token asker =
     if nat_lt token package_visible then place_at table.public token
     else place_at (row_at table.visible asker) (token - package_visible)
 
--- what the table of the class above has; where there is no class above, the same as an interface's, but for the depth
+-- the entries of the superclass's table; without a superclass they are those of an interface, and the depth is 0
 abbrev pub depth_above : Option Tabled → ℕ
 depth_above None = 0
 depth_above (Some table) = table.depth
@@ -63,16 +63,16 @@ abbrev pub lists_above : Option Tabled → Bool
 lists_above None = false
 lists_above (Some table) = table.lists
 
--- whether a class that lists these rows, or one above it, lists any
+-- whether a class with these rows, or a superclass of it, lists any interface
 abbrev pub lists_any : List Implemented → Bool → Bool
 lists_any rows above = not (length rows == 0) || above
 
--- a class that stands above another one, or that class itself: as far above it as its own superclass chain is shorter
+-- a superclass of a class, or the class itself: it is as many steps up as its own chain is shorter
 pub record LeadsUp (world : List Shape) (c : ClassName) (depth : ℕ) (jump : Jump) : Type 0 where
   pub within : jump.depth ≤ depth
   pub there : class_behind world (depth - jump.depth) c ≡ Some jump.to
 
--- a table has what the look-ups from its class find, and says within how many classes its superclass chain first ends
+-- a table has the results of its class's look-ups, and the least length at which its superclass chain ends
 pub record IsTabled (world : List Shape) (c : ClassName) (table : Tabled) : Type 0 where
   pub ends : comes_to_end world table.depth c ≡ true
   pub least : (n : ℕ) → comes_to_end world n c ≡ true → table.depth ≤ n
@@ -81,7 +81,7 @@ pub record IsTabled (world : List Shape) (c : ClassName) (table : Tabled) : Type
   pub methods : (token asker : ℕ) → token < 256 → entry_in table token asker ≡ virtual_method_of world c token asker
   pub nothing : table.lists ≡ false → ListNothing world c
 
--- a table has what the look-ups from the class above find
+-- a table has the results of the superclass's look-ups
 pub record IsTabledAbove (world : List Shape) (c : ClassName) (above : Option Tabled) : Type 0 where
   pub ends : comes_to_end world (suc (depth_above above)) c ≡ true
   pub least : (n : ℕ) → comes_to_end world n c ≡ true → suc (depth_above above) ≤ n
@@ -91,19 +91,19 @@ pub record IsTabledAbove (world : List Shape) (c : ClassName) (above : Option Ta
   pub tabled : (d : ClassName) (table : Tabled) → superclass_of world c ≡ Some d → above ≡ Some table
       → IsTabled world d table
 
--- what a table is to have at a token: what the record says, or what the table above has
+-- the entry of a table at a token: what the record answers, or the entry of the superclass's table
 abbrev pub entry_made : List Shape → Option Tabled → ℕ → RecordBody → ℕ → ℕ → Option MethodName
 entry_made world above home body token asker =
     found_from (record_visit world asker token home body) (entry_above above token asker)
 
--- what a row of methods is to have at a token: what a record's table says, or what the row above has
+-- the entry of a row at a token: what the record's table answers, or the entry of the superclass's row
 abbrev pub row_entry : List Shape → ℕ → VirtualTable → List (Option MethodName) → ℕ → Option MethodName
 row_entry world home table above token = found_from (table_visit world home table token) (place_at above token)
 
 abbrev pub IsRowOver : List Shape → ℕ → VirtualTable → List (Option MethodName) → List (Option MethodName) → Type 0
 IsRowOver world home table above made = (i : ℕ) → i < 128 → place_at made i ≡ row_entry world home table above i
 
--- what the row of a package that may ask is to have: other packages find what is above
+-- the entry of the row of a package that may ask: other packages find what the superclass has
 abbrev pub visible_entry : List Shape → ℕ → VirtualTable → List (Option MethodName) → ℕ → ℕ → Option MethodName
 visible_entry world home table above asker i =
     if home == asker then row_entry world home table above i else place_at above i
@@ -114,11 +114,11 @@ AreVisibleOver world home table above made =
     (asker i : ℕ) → i < 128
     → place_at (row_at made asker) i ≡ visible_entry world home table (row_at above asker) asker i
 
--- the same rows, and empty ones behind them
+-- the same rows, with empty ones appended
 abbrev pub AreSameRows : List (List (Option MethodName)) → List (List (Option MethodName)) → Type 0
 AreSameRows old new = (asker : ℕ) → row_at new asker ≡ row_at old asker
 
--- the table of a class's record, over that of the class above: the record's two tables of methods, and whether it lists
+-- the table of a class's record, over that of its superclass: the record's two tables of methods, and whether it lists
 -- any interface
 pub record IsTableOver (world : List Shape) (home : ℕ) (public visible : VirtualTable) (rows : List Implemented)
     (above : Tabled) (depth : ℕ) (jump : Jump) (made : Tabled) : Type 0 where
@@ -128,11 +128,11 @@ pub record IsTableOver (world : List Shape) (home : ℕ) (public visible : Virtu
   pub package_methods : AreVisibleOver world home visible above.visible made.visible
   pub any : made.lists ≡ lists_any rows above.lists
 
--- which of its package's classes a class is
+-- the index of a class among those of its package
 abbrev pub index_at : List Shape → ClassName → Option ℕ
 index_at world c = option_and_then (λ shape. position (λ k. k.offset == offset_of c) shape.classes) (package_at world c)
 
--- the table of the class with an index of the package that stands there
+-- the table of the class with an index in the package at place `home`
 abbrev pub table_in : List (List (Option Tabled)) → ℕ → ℕ → Option Tabled
 table_in tables home index =
     option_and_then (λ (row : List (Option Tabled)). place_at row index) (slice_get tables home)
@@ -141,28 +141,28 @@ table_in tables home index =
 abbrev pub table_of : List Shape → List (List (Option Tabled)) → ClassName → Option Tabled
 table_of world tables c = option_and_then (table_in tables (home_of c)) (index_at world c)
 
--- the tables of a world: each is right, and each class whose superclass chain comes to its end has one
+-- the tables of a world: each is right, and each class whose superclass chain ends has one
 pub record AreTables (world : List Shape) (tables : List (List (Option Tabled))) : Type 0 where
   pub count : length tables ≡ length world
   pub right : (c : ClassName) (table : Tabled) → table_of world tables c ≡ Some table → IsTabled world c table
   pub complete : (c : ClassName) → table_of world tables c ≡ None → has_whole_chain world c ≡ false
 
--- the tables of a world's packages but the last
+-- the tables of all of a world's packages except the last
 pub record AreBefore (world : List Shape) (tables : List (List (Option Tabled))) : Type 0 where
   pub count : length world ≡ suc (length tables)
   pub right : (c : ClassName) (table : Tabled) → table_of world tables c ≡ Some table → IsTabled world c table
   pub complete : (c : ClassName) → home_of c < length tables → table_of world tables c ≡ None
       → has_whole_chain world c ≡ false
 
--- the tables of a package: those of the packages but the last, or those of the last one, as far as they are made
+-- the tables of a package: those of an earlier package, or those of the last one made so far
 abbrev pub rows_so_far : List (List (Option Tabled)) → List (Option Tabled) → ℕ → List (Option Tabled)
 rows_so_far tables made home = unwrap_or (slice_get tables home) made
 
--- the table of a class, if it is made
+-- the table of a class, if it was made
 abbrev pub table_so_far : List Shape → List (List (Option Tabled)) → List (Option Tabled) → ClassName → Option Tabled
 table_so_far world tables made c = option_and_then (place_at (rows_so_far tables made (home_of c))) (index_at world c)
 
--- the last package's tables are being made: each is right, those of the other packages are all there, and there is room
+-- the last package's tables are being made: each is right, the other packages have all theirs, and there is room
 pub record AreInMaking (world : List Shape) (tables : List (List (Option Tabled)))
     (made : List (Option Tabled)) : Type 0 where
   pub small : IsSmall world
@@ -172,20 +172,20 @@ pub record AreInMaking (world : List Shape) (tables : List (List (Option Tabled)
       → has_whole_chain world c ≡ false
   pub room : (c : ClassName) (i : ℕ) → home_of c ≡ length tables → index_at world c ≡ Some i → i < length made
 
--- a class has a superclass, and that has no table
+-- a class has a superclass without a table
 abbrev pub LacksTableAbove : List Shape → List (List (Option Tabled)) → List (Option Tabled) → ClassName → Type 0
 LacksTableAbove world tables made c =
     (d : ClassName) × (superclass_of world c ≡ Some d) × (table_so_far world tables made d ≡ None)
 
--- a class whose superclass chain comes to its end can have no table yet: its superclass has none
+-- a class whose superclass chain ends can't have a table yet, since its superclass has none
 abbrev pub IsWaiting : List Shape → List (List (Option Tabled)) → List (Option Tabled) → ClassName → Type 0
 IsWaiting world tables made c = has_whole_chain world c ≡ true → LacksTableAbove world tables made c
 
--- a class has a table, or can have none yet
+-- a class has a table, or can't have one yet
 abbrev pub IsSettled : List Shape → List (List (Option Tabled)) → List (Option Tabled) → ClassName → Type 0
 IsSettled world tables made c = table_so_far world tables made c ≡ None → IsWaiting world tables made c
 
--- how many places are empty
+-- how many entries are empty
 abbrev pub empty_places : List (Option Tabled) → ℕ
 empty_places [] = 0
 empty_places (None ∷ made) = suc (empty_places made)
@@ -204,6 +204,6 @@ AreSettled world tables made first behind =
     (c : ClassName) (i : ℕ) → home_of c ≡ length tables → index_at world c ≡ Some i → first ≤ i → i < behind
     → IsSettled world tables made c
 
--- the name of the class with an index of the package that stands there
+-- the name of the class with an index in the package at place `home`
 abbrev pub name_placed : List Shape → ℕ → ℕ → Option ClassName
 name_placed world home index = option_and_then (λ k. name_in home k.offset) (class_placed world home index)

@@ -9,7 +9,7 @@ use Rattle.jc_classes.specs.declared.walk.WalkStep.TheVariants.{Gives, Ends, On}
 use Rattle.jc_classes.specs.declared.walk.Visit.{Visit}
 use Rattle.jc_classes.specs.declared.walk.Visit.TheVariants.{Has, Nothing, Above}
 
--- on to a class, if there is one
+-- go on to a class, if there is one
 abbrev pub step_to : {A : Type 0} → Option ClassName → WalkStep A
 step_to None = Ends
 step_to (Some c) = On c
@@ -17,17 +17,17 @@ step_to (Some c) = On c
 abbrev pub step_above : {A : Type 0} → List Shape → ClassName → WalkStep A
 step_above world c = step_to (superclass_of world c)
 
--- behind a class that was looked at
+-- the step after a class's answer
 abbrev pub step_from : {A : Type 0} → List Shape → ClassName → Visit A → WalkStep A
 step_from world c (Has a) = Gives a
 step_from world c Nothing = Ends
 step_from world c Above = step_above world c
 
--- behind the class with a name
+-- the step after the class with a name
 abbrev pub step_of : {A : Type 0} → (ClassName → ClassShape → Visit A) → List Shape → ClassName → WalkStep A
 step_of visit world c = option_map_or (λ k. step_from world c (visit c k)) (class_at world c) Ends
 
--- what was found, seen in another way
+-- a result, mapped
 abbrev pub visit_map : {A B : Type 0} → (A → B) → Visit A → Visit B
 visit_map f (Has a) = Has (f a)
 visit_map f Nothing = Nothing
@@ -38,8 +38,8 @@ step_map f (Gives a) = Gives (f a)
 step_map f Ends = Ends
 step_map f (On c) = On c
 
--- a class on the way up, with so many classes to go: what is found from here is the whole answer, and a look-up from an
--- anchor, with as many steps more as lie between the two, finds what one from here does
+-- a class on the way up, with n classes to go: the look-up from it gives the whole result, and a look-up from the
+-- anchor, with the steps between the two added, gives the same as one from it
 pub record IsOnWalk {A : Type 0} (look : ℕ → ClassName → A) (anchor at : ClassName) (n : ℕ) (total : A) : Type 0 where
   pub so_far : look n at ≡ total
   pub between : ℕ

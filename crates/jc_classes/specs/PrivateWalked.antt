@@ -10,18 +10,18 @@ use Rattle.jc_classes.specs.declared.found.Walked.{Walked}
 use Rattle.jc_classes.specs.declared.walk.Visit.{Visit}
 use Rattle.jc_classes.specs.declared.walk.Visit.TheVariants.{Has, Nothing, Above}
 
--- whether the superclass is still to be asked at a token
+-- whether a token is still open
 abbrev pub asks_above : Walked → ℕ → Bool
 asks_above walked token = slice_index_or walked.asks token false
 
--- there is a place for each token, and from the one told on none is still asked for
+-- there is an entry for each token, and no token from `most` on is open
 pub record IsFull (walked : Walked) : Type 0 where
   pub methods : length walked.methods ≡ 128
   pub asks : length walked.asks ≡ 128
   pub most : walked.most ≤ 128
   pub none : (place : ℕ) → walked.most ≤ place → place < 128 → asks_above walked place ≡ false
 
--- behind a class that was asked at a token
+-- the state of a token after a class's answer
 abbrev pub asks_behind : Visit MethodName → Bool → Bool
 asks_behind (Has m) asks = false
 asks_behind Nothing asks = false
@@ -41,8 +41,8 @@ pub record IsSameAt (old new : Walked) (token : ℕ) : Type 0 where
   pub asks : asks_above new token ≡ asks_above old token
   pub found : found_at new.methods token ≡ found_at old.methods token
 
--- a token on the way up, with so many classes to go: nothing is found yet, or the whole answer. Its place is told
--- beside it
+-- a token on the way up, with n classes to go: it is open and has no result yet, or has the whole result; `place` is
+-- its index
 pub record IsAsked (world : List Shape) (asker : ℕ) (anchor at : ClassName) (n : ℕ) (c : ClassName) (walked : Walked)
     (place token : ℕ) : Type 0 where
   pub none : asks_above walked place ≡ true → found_at walked.methods place ≡ None

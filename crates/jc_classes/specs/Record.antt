@@ -1,4 +1,4 @@
--- What a record says of its class. An interface declares no cells and no methods, and lists its superinterfaces.
+-- The contents of a class's record. An interface declares no cells and no methods, and lists its superinterfaces.
 use Rattle.std.specs.Prelude.{ℕ, List, []}
 use Rattle.jc_cap.specs.Interfaces.{Implemented}
 use Rattle.jc_cap.specs.declared.interfaces.Superinterface.{Superinterface}

@@ -1,5 +1,5 @@
--- Which class is below which (Java Card Virtual Machine Specification, Verification types; Java Language Specification,
--- Subtyping).
+-- Subtypes of classes and interfaces (Java Card Virtual Machine Specification, Verification types; Java Language
+-- Specification, Subtyping).
 use Rattle.std.specs.Prelude.{◌≡◌, ◌≢◌, ◌⊎◌, ℕ, zero, suc, ◌<◌, ◌≤◌, Bool, true, false, not, ◌&&◌, ◌||◌, Some, is_some}
 use Rattle.std.specs.Prelude.{List, [], ◌∷◌, if◌then◌else◌}
 use Rattle.std.specs.List.{list_any}
@@ -18,77 +18,76 @@ abbrev pub IsAmong : ClassName → List ClassName → Type 0
 IsAmong c [] = ⊥
 IsAmong c (d ∷ classes) = (d ≡ c) ⊎ IsAmong c classes
 
--- a class lists an interface, by its own record
+-- a class lists an interface in its own record
 abbrev pub Lists : List Shape → ClassName → ClassName → Type 0
 Lists world c i = IsAmong i (interfaces_of world c)
 
--- the least relation in which each class is below itself and below Object, and below all that its superclass and its
--- interfaces are below
+-- the least relation in which each class is below itself and below Object, and below everything that its superclass or
+-- an interface of it is below
 pub data IsSubtype (world : List Shape) : ClassName → ClassName → Type 0 where
   same : (c : ClassName) → IsSubtype world c c
   object : (c : ClassName) → IsSubtype world c (Api Object)
   by_superclass : (c d e : ClassName) → superclass_of world c ≡ Some d → IsSubtype world d e → IsSubtype world c e
   by_interface : (c i e : ClassName) → Lists world c i → IsSubtype world i e → IsSubtype world c e
 
--- the least relation in which a class implements what it lists, and what its superclass and its interfaces implement
+-- the least relation in which a class implements the interfaces that it lists, and those that its superclass or an
+-- interface of it implements
 pub data Implements (world : List Shape) : ClassName → ClassName → Type 0 where
   listed : (c i : ClassName) → Lists world c i → Implements world c i
   by_superclass : (c d i : ClassName) → superclass_of world c ≡ Some d → Implements world d i → Implements world c i
   by_interface : (c j i : ClassName) → Lists world c j → Implements world j i → Implements world c i
 
--- a class stands there, and no interface
+-- the name is a class's, and not an interface's
 abbrev pub is_class_at : List Shape → ClassName → Bool
 is_class_at world c = option_map_or (λ k. is_class k.body) (class_at world c) false
 
 abbrev pub is_interface_at : List Shape → ClassName → Bool
 is_interface_at world c = option_map_or (λ k. not (is_class k.body)) (class_at world c) false
 
--- the superclasses of a class come to an end within so many classes
+-- the superclass chain of a class ends within n classes, itself included
 abbrev pub comes_to_end : List Shape → ℕ → ClassName → Bool
 comes_to_end world zero c = false
 comes_to_end world (suc n) c = option_map_or (comes_to_end world n) (superclass_of world c) true
 
--- a class or an interface stands there, and its superclass chain comes to its end
+-- a class or an interface has this name, and its superclass chain ends
 abbrev pub has_whole_chain : List Shape → ClassName → Bool
 has_whole_chain world c = is_some (class_at world c) && comes_to_end world most_classes c
 
--- no superclass chain has a cycle, and what is listed as an interface is one
+-- no superclass chain has a cycle, and whatever is listed as an interface is one
 pub record IsOrderly (world : List Shape) : Type 0 where
   pub ends : (c : ClassName) → comes_to_end world most_classes c ≡ true
   pub interfaces : (c i : ClassName) → Lists world c i → is_interface_at world i ≡ true
 
--- whether a class is another one or a superclass of it, within so many classes
+-- whether a class is another one or a superclass of it, within n classes
 abbrev pub is_at_or_above : List Shape → ℕ → ClassName → ClassName → Bool
 is_at_or_above world zero d c = false
 is_at_or_above world (suc n) d c =
     is_same_name c d || option_map_or (is_at_or_above world n d) (superclass_of world c) false
 
--- whether a class is another one, or a superclass of it leads there; Object is above all
+-- whether a class is another one or below it, along superclasses; Object is above all
 abbrev pub is_class_below : List Shape → ClassName → ClassName → Bool
 is_class_below world c d = is_same_name (Api Object) d || is_at_or_above world most_classes d c
 
--- whether a class or an interface is another one or below it, within so many steps: its superclass is, or an interface
--- that it lists
+-- whether a class or an interface is another one or below it, within n steps: its superclass is, or an interface that
+-- it lists
 abbrev pub is_subtype_within : List Shape → ℕ → ClassName → ClassName → Bool
 is_subtype_within world zero c d = false
 is_subtype_within world (suc n) c d =
     is_same_name c d || option_map_or (λ e. is_subtype_within world n e d) (superclass_of world c) false
     || list_any (λ e. is_subtype_within world n e d) (interfaces_of world c)
 
--- whether a class or an interface is another one or below it; all are below Object. A shortest way up meets no class
--- twice, also where a chain has a cycle: so these steps find all in a world of no more classes
+-- whether a class or an interface is another one or below it; all are below Object. A shortest path upward visits no
+-- class twice, even if a chain has a cycle, so these steps suffice in a world of at most that many classes
 abbrev pub is_subtype : List Shape → ClassName → ClassName → Bool
 is_subtype world c d = is_same_name (Api Object) d || is_subtype_within world most_classes c d
 
--- an order of classes: each is below itself, two that are below one another are one, and what is below a class is below
--- all that this class is below
+-- an order of classes: reflexive, antisymmetric and transitive
 pub record IsOrder (below : ClassName → ClassName → Bool) : Type 0 where
   pub reflexive : (c : ClassName) → below c c ≡ true
   pub antisymmetric : (c d : ClassName) → below c d ≡ true → below d c ≡ true → c ≡ d
   pub transitive : (c d e : ClassName) → below c d ≡ true → below d e ≡ true → below c e ≡ true
 
--- the first of a class and its superclasses, within so many, that another class is below too; Object where there is
--- none
+-- the first of a class and its superclasses, within n of them, that another class is below too; Object if there is none
 abbrev pub common_within : List Shape → ℕ → ClassName → ClassName → ClassName
 common_within world zero c d = Api Object
 common_within world (suc n) c d =
@@ -99,7 +98,7 @@ common_within world (suc n) c d =
 abbrev pub common_class : List Shape → ClassName → ClassName → ClassName
 common_class world c d = common_within world most_classes c d
 
--- how many classes are above a class, along its superclasses up to Object, within so many
+-- how many classes are above a class, along its superclasses up to Object, within n of them
 abbrev pub above_within : List Shape → ℕ → ClassName → ℕ
 above_within world zero c = 0
 above_within world (suc n) c =
@@ -110,8 +109,8 @@ above_within world (suc n) c =
 abbrev pub classes_above : List Shape → ClassName → ℕ
 classes_above world c = above_within world most_classes c
 
--- an order of classes with Object above all, in which each two have a least class above both, and in which a number
--- falls with each step upward, which is at most this one
+-- an order of classes with Object above all, in which any two have a least class above both, and in which the number of
+-- classes above falls with each step upward and is at most `most`
 pub record IsClassLattice (below : ClassName → ClassName → Bool) (common : ClassName → ClassName → ClassName)
     (above : ClassName → ℕ) (most : ℕ) : Type 0 where
   pub order : IsOrder below

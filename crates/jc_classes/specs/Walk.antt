@@ -1,6 +1,6 @@
 -- Look-ups along superclasses (Java Card Virtual Machine Specification, Linking). A walk begins at a class, and goes
--- from superclass to superclass. Each look-up says what a class is for it: the class has what is looked for, or says
--- that there is nothing, or its superclass is asked.
+-- from superclass to superclass. A class answers a look-up with a result, with the end of the look-up, or by passing it
+-- to its superclass.
 use Rattle.std.specs.Prelude.{ℕ, zero, suc, ◌*◌, Option, Some, None, List}
 use Rattle.std.specs.Option.{option_and_then}
 use Rattle.jc_cap_desc.specs.Shape.{ClassShape, Shape}
@@ -10,17 +10,17 @@ use Rattle.jc_names.specs.declared.name.ClassName.{ClassName}
 use Rattle.jc_classes.specs.declared.walk.Visit.{Visit}
 use Rattle.jc_classes.specs.declared.walk.Visit.TheVariants.{Has, Nothing, Above}
 
--- no world has more classes and interfaces. A walk of more steps has come round to a class again
+-- the greatest number of classes and interfaces of a world; a longer walk has met a class twice
 unfoldable pub most_classes : ℕ
 most_classes = most_packages * most_classes_of_one
 
--- what a class gives, or what is found above it
+-- the result of a class's answer, given what is found above it
 abbrev pub found_from : {A : Type 0} → Visit A → Option A → Option A
 found_from (Has a) above = Some a
 found_from Nothing above = None
 found_from Above above = above
 
--- a walk of at most so many classes
+-- a walk of at most the given number of classes
 abbrev pub walk : {A : Type 0} → (ClassName → ClassShape → Visit A) → List Shape → ℕ → ClassName → Option A
 walk visit world zero c = None
 walk visit world (suc steps) c =

@@ -1,5 +1,5 @@
--- A world: the shapes of the API's two packages, and of the loaded packages in the order in which they were loaded.
--- Where classes stand in it, and what references to classes lead to (Java Card Virtual Machine Specification, CAP file
+-- A world: the shapes of the API's two packages, and of the loaded packages in the order in which they were loaded. The
+-- names of its classes, and the resolution of references to classes (Java Card Virtual Machine Specification, CAP file
 -- format: class_ref; Linking).
 use Rattle.std.specs.Prelude.{ℕ, zero, suc, ◌+◌, ◌==◌, Bool, ◌&&◌, List, [], map, take, drop, Option, Some, None}
 use Rattle.std.specs.Prelude.{is_some, slice_get, nat_le, bytes_eq, if◌then◌else◌}
@@ -26,23 +26,23 @@ package_at world (Api class) = slice_get world (api_home (package_of class))
 package_at world (Loaded zero offset) = None
 package_at world (Loaded (suc n) offset) = slice_get world (suc (suc n))
 
--- the class that has a name
+-- the class with a name
 abbrev pub class_at : List Shape → ClassName → Option ClassShape
 class_at world c = option_and_then (class_in (offset_of c)) (package_at world c)
 
--- whether a package meets an import: its AID and its major version are those, and its minor version isn't smaller
+-- whether a package meets an import: its AID and its major version are equal, and its minor version isn't smaller
 abbrev pub meets : PackageInfo → Shape → Bool
 meets wanted shape =
     bytes_eq wanted.aid shape.«package».aid && wanted.major == shape.«package».major
     && nat_le wanted.minor shape.«package».minor
 
--- where the package stands that meets the import with a token: among those before, the first
+-- the place of the package that meets the import with a token: the first before the importing one
 abbrev pub import_of : List Shape → ℕ → ℕ → Option ℕ
 import_of world home token =
     option_and_then (λ wanted. position (meets wanted) (take home world))
     (option_and_then (λ shape. slice_get shape.imports token) (slice_get world home))
 
--- where the loaded package with an AID stands, of those before a place; the API's two aren't loaded
+-- the place of the loaded package with an AID, before a place; the API's two aren't loaded
 abbrev pub loaded_with : List Shape → ℕ → List ℕ → Option ℕ
 loaded_with world home aid =
     option_map (λ n. 2 + n) (position (λ shape. bytes_eq aid shape.«package».aid) (drop 2 (take home world)))
@@ -53,17 +53,17 @@ exported_class world home token =
     option_and_then (λ row. name_in home row.class)
     (option_and_then (λ shape. slice_get shape.exports token) (slice_get world home))
 
--- what a reference spells in the package that stands there
+-- the name that a reference encodes in the package at place `home`
 abbrev pub class_spelled : List Shape → ℕ → ClassRef → Option ClassName
 class_spelled world home (Internal offset) = name_in home offset
 class_spelled world home (External import class) =
     option_and_then (λ there. exported_class world there class) (import_of world home import)
 
--- a name that a class has
+-- the name, if a class has it
 abbrev pub if_there : List Shape → ClassName → Option ClassName
 if_there world c = if is_some (class_at world c) then Some c else None
 
--- the class that a reference of the package that stands there finds
+-- the class that a reference of the package at place `home` resolves to
 abbrev pub class_named : List Shape → ℕ → ClassRef → Option ClassName
 class_named world home ref = option_and_then (if_there world) (class_spelled world home ref)
 
@@ -77,12 +77,12 @@ abbrev pub listed_refs : RecordBody → List ClassRef
 listed_refs (Interface r) = map (λ i. i.interface) r.superinterfaces
 listed_refs (Class r) = map (λ i. i.interface) r.interfaces
 
--- the superclass of a class, found anew
+-- the superclass of a class, resolved in the world
 abbrev pub superclass_of : List Shape → ClassName → Option ClassName
 superclass_of world c =
     option_and_then (class_named world (home_of c)) (option_and_then (λ k. superclass_ref k.body) (class_at world c))
 
--- the interfaces that a class or an interface lists, found anew
+-- the interfaces that a class or an interface lists, resolved in the world
 abbrev pub interfaces_of : List Shape → ClassName → List ClassName
 interfaces_of world c =
     option_map_or (λ k. filter_map (class_named world (home_of c)) (listed_refs k.body)) (class_at world c) []

@@ -11,7 +11,7 @@ use jc_cap_desc::Package;
 use std::alloc::{AllocError, Global};
 
 impl ClassTable {
-    /// Puts a package behind the others. Where no memory is left the table is as it was.
+    /// Appends a package. If memory runs out, the table is unchanged.
     pub fn add(&mut self, package: &Package) -> Result<(), AllocError>
         requires { length self.now < most_packages }
         ensures done { IfOk result (λ u. self.new ≡ grown self.old «package».now.shape) }
@@ -22,8 +22,7 @@ impl ClassTable {
         self.put_package(alloc, shape)
     }
 
-    /// Puts a shape behind the others, and makes the tables of its classes. Where no memory is left the table is as it
-    /// was.
+    /// Appends a shape, and makes the tables of its classes. If memory runs out, the table is unchanged.
     pub(crate) fn put_package(
         &mut self,
         alloc: Global,

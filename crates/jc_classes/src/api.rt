@@ -29,24 +29,24 @@ use std::alloc::{AllocError, Global};
 const LAST_CLASS: u8 = CLASS_COUNT as u8;
 /// The greatest number of a member.
 const LAST_MEMBER: u8 = MEMBER_COUNT as u8;
-/// What stands in a table where no member has the token.
+/// The entry of a table for a token that no member has.
 const NO_MEMBER: u16 = 0xFFFF;
 
-/// Whose tokens are looked at.
+/// A set of members or classes, whose tokens are used.
 #[derive(Clone, Copy)]
 pub(crate) enum Tokens {
-    /// Those of the classes of a package.
+    /// The classes of a package.
     Classes(ApiPackage),
-    /// Those of the virtual methods of a class and of the classes above it.
+    /// The virtual methods of a class and of its superclasses.
     Inherited(ApiClass),
-    /// Those of the virtual methods that a class itself declares.
+    /// The virtual methods that a class itself declares.
     Declared(ApiClass),
-    /// Those of a class's constructors and static methods.
+    /// The constructors and static methods of a class.
     Called(ApiClass),
 }
 
 impl Tokens {
-    /// Whether a member counts.
+    /// Whether a member is in the set.
     fn counts(self, member: Member) -> bool
         ensures { result ≡ counts self (shown member) }
     {
@@ -71,7 +71,7 @@ impl Tokens {
         }
     }
 
-    /// The token of the member with a number, if it counts.
+    /// The token of the member with a number, if it is in the set.
     fn of_member(self, binding: &Binding, number: u8) -> Option<u8>
         ensures { result ≡ member_token (counts self) binding.now number }
     {
@@ -83,7 +83,7 @@ impl Tokens {
         }
     }
 
-    /// The token that a number has among these.
+    /// The token of a number, if what it numbers is in the set.
     fn token(self, binding: &Binding, number: u8) -> Option<u8>
         ensures { result ≡ token_in binding.now self number }
     {
@@ -95,7 +95,7 @@ impl Tokens {
         }
     }
 
-    /// One more than the greatest of these tokens; 0 where there are none.
+    /// One more than the greatest of these tokens, or 0 if there are none.
     #[tactic(auto, using(crate::proofs::Numbering::room_more, crate::proofs::Numbering::room_none))]
     fn room(self, binding: &Binding) -> u16
         ensures room { result ≡ room_of binding.now self }
@@ -121,7 +121,7 @@ impl Tokens {
         found
     }
 
-    /// The number of the member that has a token, FFFF where none has.
+    /// The number of the member that has a token, or FFFF if none has it.
     fn entry(self, binding: &Binding, token: u16) -> u16
         ensures { result ≡ entry_of binding.now self token }
     {
@@ -131,7 +131,7 @@ impl Tokens {
         }
     }
 
-    /// The members that have so many tokens from 0 on.
+    /// The members that have the tokens from 0 to below `room`.
     #[tactic(auto, using(crate::proofs::Numbering::each_more, crate::proofs::Numbering::each_none))]
     fn entries(self, alloc: Global, binding: &Binding, room: u16) -> Result<Vec<u16>, AllocError>
         ensures { IfOk result (λ entries. entries.items ≡ entries_of binding.now self room) }
@@ -164,7 +164,7 @@ fn if_token(token: u16, number: u8, found: Option<u8>) -> Option<u8>
     }
 }
 
-/// A class as it is spelled in a package.
+/// A reference to a class, as a package of the API spells it.
 fn spelled_in(binding: &Binding, which: ApiPackage, class: ApiClass) -> ClassRef
     ensures { result ≡ spelled_in binding.now which class }
 {
@@ -239,7 +239,7 @@ fn is_static(kind: MemberKind) -> bool
     }
 }
 
-/// How many words of arguments a member takes, `this` among them.
+/// How many words of arguments a member takes, `this` included.
 fn nargs_of(member: Member) -> u8
     requires { length member.parameters.now < 255 }
     ensures { result ≡ nargs_of (shown member) }
@@ -291,7 +291,7 @@ fn declared_by(class: ApiClass, number: u8) -> Option<Member>
     }
 }
 
-/// Puts the method with a number in, if a class declares it.
+/// Appends the method with a number, if a class declares it.
 fn put_method(
     methods: &mut Vec<Method>,
     binding: &Binding,
@@ -322,7 +322,7 @@ fn methods_in(alloc: Global, binding: &Binding, class: ApiClass) -> Result<Vec<M
     Ok(methods)
 }
 
-/// A class's public methods.
+/// The table of a class's public methods.
 fn public_table(alloc: Global, binding: &Binding, class: ApiClass) -> Result<Table, AllocError>
     ensures { IfOk result (λ table. table ≡ public_table binding.now class) }
 {
@@ -331,7 +331,7 @@ fn public_table(alloc: Global, binding: &Binding, class: ApiClass) -> Result<Tab
     Ok(Table { base: 0, methods })
 }
 
-/// The superclass, as it is spelled in a class's package.
+/// The reference to the superclass, as the class's package spells it.
 fn superclass_in(binding: &Binding, class: ApiClass) -> Option<ClassRef>
     ensures { result ≡ option_map (spelled_in binding.now (package_of class)) (superclass_of class) }
 {
@@ -384,7 +384,7 @@ fn class_with(which: ApiPackage, number: u8) -> Option<ApiClass>
     }
 }
 
-/// Puts the class with a number in, if a package has it.
+/// Appends the class with a number, if a package has it.
 fn put_class(
     classes: &mut Vec<Class>,
     binding: &Binding,
@@ -414,7 +414,7 @@ fn classes_in(alloc: Global, binding: &Binding, which: ApiPackage) -> Result<Vec
     Ok(classes)
 }
 
-/// What is exported of a class.
+/// The export row of a class.
 fn export_row(
     alloc: Global,
     binding: &Binding,
@@ -438,7 +438,7 @@ fn export_row(
     })
 }
 
-/// The class of a package with a token.
+/// The class of a package with a token, if there is one.
 fn exported_with(binding: &Binding, which: ApiPackage, token: u16) -> Option<ApiClass>
     ensures { result ≡ option_and_then class_of (number_with binding.now (Of.Classes which) token) }
 {
@@ -446,7 +446,7 @@ fn exported_with(binding: &Binding, which: ApiPackage, token: u16) -> Option<Api
     ApiClass::from_number(number)
 }
 
-/// What a package exports.
+/// The exports of a package.
 #[tactic(auto, using(crate::proofs::Numbering::each_more, crate::proofs::Numbering::each_none))]
 fn exports_in(
     alloc: Global,
@@ -465,7 +465,7 @@ fn exports_in(
     Ok(rows)
 }
 
-/// What a package imports.
+/// The imports of a package.
 fn imports_in(
     alloc: Global,
     binding: &Binding,
@@ -496,7 +496,7 @@ fn api_shape(
 }
 
 impl ClassTable {
-    /// The classes of the API, under a binding; no package is loaded.
+    /// The classes of the API, with a binding; no package is loaded.
     pub fn new(alloc: Global, binding: &Binding) -> Result<ClassTable, AllocError>
         ensures { IfOk result (λ table. table ≡ api_world binding.now) }
     {

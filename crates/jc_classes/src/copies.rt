@@ -1,4 +1,4 @@
-//! Lists of what is shared, and tables, once more.
+//! Copies of tables and of lists of shared values.
 
 ghost use Rattle.std.specs.Prelude.{◌≡◌, ◌++◌, IfOk};
 
@@ -6,7 +6,7 @@ use crate::table::ClassTable;
 use jc_base::Shared;
 use std::alloc::{AllocError, Global};
 
-/// Puts each of these behind others, shared.
+/// Appends each of these items, shared.
 pub(crate) fn put_shared<T: Drop>(
     others: &mut Vec<Shared<T>>,
     items: &[Shared<T>],
@@ -19,7 +19,7 @@ pub(crate) fn put_shared<T: Drop>(
     Ok(())
 }
 
-/// The same list, each of it shared.
+/// A copy of a list that shares its items.
 pub(crate) fn all_shared<T: Drop>(
     alloc: Global,
     items: &[Shared<T>],
@@ -32,8 +32,8 @@ pub(crate) fn all_shared<T: Drop>(
 }
 
 impl ClassTable {
-    /// A table with the same packages, which it shares with this one: it takes memory for one pointer a package, and
-    /// not for what they have.
+    /// A table that shares its packages with this one. It takes memory for one pointer a package, and not for the
+    /// contents.
     pub fn copy(&self, alloc: Global) -> Result<ClassTable, AllocError>
         ensures { IfOk result (λ copy. copy ≡ self.now) }
     {

@@ -1,4 +1,4 @@
-//! Copies of a package's shape, which lends from its image.
+//! Owned copies of a package's shape, which borrows from its image.
 
 ghost use Rattle.std.specs.Prelude.{◌≡◌, ◌<◌, ◌≤◌, ◌^◌, length, vec_capacity, IfOk};
 ghost use Rattle.jc_cap.specs.declared.record.RecordBody.TheVariants as Read;
@@ -184,7 +184,7 @@ fn exports_of(alloc: Global, from: &Package) -> Result<Vec<Export>, AllocError>
     Ok(copied)
 }
 
-/// A package's shape.
+/// An owned copy of a package's shape.
 pub(crate) fn shape_of(alloc: Global, from: &Package) -> Result<PackageShape, AllocError>
     ensures copied { IfOk result (λ copied. copied ≡ from.now.shape) }
     ensures few { IfOk result (λ u. length from.now.shape.classes ≤ most_classes_of_one) }

@@ -1,4 +1,4 @@
-//! How far the tables of classes go, and whether they may list interfaces: for those who make tables of their own from
+//! Bounds on the tables of classes, and whether classes may list interfaces, for crates that make their own tables from
 //! them.
 
 ghost use Rattle.std.specs.Prelude.{◌≡◌, ◌+◌, ◌≤◌, ◌<◌, ℕ, None, false, true};
@@ -9,17 +9,17 @@ use crate::table::ClassTable;
 use crate::walk::{MOST_CLASSES, anchor_behind};
 use jc_names::{ClassName, PackagePlace};
 
-/// Places of packages, from the first to in front of the end.
+/// Places of packages, from `first` to before `end`.
 #[derive(Clone, Copy)]
 pub struct Places {
-    /// The first of them.
+    /// The first place.
     pub first: usize,
-    /// The one behind the last.
+    /// The place after the last.
     pub end: usize,
 }
 
 impl Places {
-    /// These and one more, and all between.
+    /// A range that has these places and one more.
     fn and(self, place: PackagePlace) -> Places
         ensures has { is_among result place ≡ true }
         ensures more { (other : ℕ) → is_among result other ≡ false → is_among self other ≡ false }
@@ -30,7 +30,7 @@ impl Places {
         }
     }
 
-    /// Whether a place is one of these.
+    /// Whether a place is in the range.
     pub fn has(self, place: usize) -> bool
         ensures { result ≡ is_among self place }
     {
@@ -39,7 +39,8 @@ impl Places {
 }
 
 impl ClassTable {
-    /// A number of tokens, at most 128: no public token from there on leads to a virtual method of a class.
+    /// A number of public tokens, at most 128: no public token from this number on resolves to a virtual method of a
+    /// class.
     #[tactic(auto, using(crate::proofs::Extending::none_public))]
     pub fn public_tokens(&self, class: ClassName) -> u8
         ensures most { result ≤ 128 }
@@ -52,7 +53,7 @@ impl ClassTable {
         }
     }
 
-    /// Where the packages of a class and of its superclasses stand, by a walk along these.
+    /// The places of the packages of a class and of its superclasses, by a walk along these.
     fn walked_places(&self, class: ClassName) -> Places
         ensures { FindsNothingElse self.now class result }
     {
@@ -76,7 +77,7 @@ impl ClassTable {
         places
     }
 
-    /// Places of packages: no other package finds a package-visible method of a class.
+    /// A range of places: no package outside it finds a package-visible method of a class.
     #[tactic(auto, using(crate::proofs::Extending::none_else))]
     pub fn visible_places(&self, class: ClassName) -> Places
         ensures { FindsNothingElse self.now class result }
@@ -90,8 +91,8 @@ impl ClassTable {
         }
     }
 
-    /// A number of tokens from 128 on, at most 128: none behind them leads to a method of a class for the package that
-    /// stands there.
+    /// A number of package-visible tokens, at most 128: for the package at a place, no token after them resolves to a
+    /// method of a class.
     #[tactic(auto, using(crate::proofs::Extending::none_visible))]
     pub fn visible_tokens(&self, class: ClassName, place: usize) -> u8
         ensures most { result ≤ 128 }
@@ -104,7 +105,7 @@ impl ClassTable {
         }
     }
 
-    /// Whether a class or a superclass of it may list an interface in its own record.
+    /// Whether a class or a superclass of it may list an interface in its own record. If it returns false, none does.
     pub fn may_list(&self, class: ClassName) -> bool
         ensures { result ≡ false → ListNothing self.now class }
     {

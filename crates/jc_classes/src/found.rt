@@ -1,4 +1,4 @@
-//! What the look-ups from a class find at all public tokens, or at all package-visible ones, gathered at once.
+//! The results of a class's look-ups at all public tokens, or at all package-visible ones, from one walk.
 
 ghost use Rattle.std.specs.Prelude.{◌≡◌, ◌⊎◌, ◌+◌, ◌<◌, ◌≤◌, ℕ, List, None, Some, false, true, slice_index_or};
 ghost use Rattle.jc_cap_desc.specs.Shape.{ClassShape, Shape};
@@ -18,7 +18,7 @@ use crate::walk::{MOST_CLASSES, Visit, anchor_behind};
 use jc_names::{ClassName, MethodName, PackagePlace};
 use std::marker::Model;
 
-/// How many public tokens there are, and how many package-visible ones.
+/// The number of public tokens, and of package-visible ones.
 const TOKENS: u8 = 128;
 /// The first public token.
 const PUBLIC: u8 = 0;
@@ -40,7 +40,7 @@ impl Model for FoundMethods {
 }
 
 impl FoundMethods {
-    /// The method at a place.
+    /// The method at an index.
     pub fn at(&self, place: u8) -> Option<MethodName>
         ensures { result ≡ found_at self.now place }
     {
@@ -48,7 +48,7 @@ impl FoundMethods {
     }
 }
 
-/// What a walk has found so far, and at which tokens the superclass is still to be asked.
+/// What a walk has found so far, and the tokens that it still looks up in superclasses.
 #[derive(Drop)]
 pub(crate) struct Walked {
     methods: [Option<MethodName>; 128],
@@ -57,7 +57,7 @@ pub(crate) struct Walked {
 }
 
 impl Walked {
-    /// Nothing was asked yet.
+    /// A walk at its start.
     fn new() -> Walked
         ensures full { IsFull result }
         ensures asks { (token : ℕ) → token < 128 → asks_above result token ≡ true }
@@ -70,7 +70,7 @@ impl Walked {
         }
     }
 
-    /// Puts what a class says at a place, if it is still asked for there.
+    /// Records what a class answers at an index, if that is still open.
     fn put(&mut self, place: u8, visit: Visit<MethodName>)
         requires place { place < 128 }
         requires full { IsFull self.old }
@@ -93,7 +93,7 @@ impl Walked {
     }
 }
 
-/// A number of the first places: of these, none from there on is still asked for.
+/// A bound on the open indices: below `count`, no index from it on is open.
 fn still_asked(asks: &[bool; 128], count: u8) -> u8
     requires { count ≤ 128 }
     ensures most { result ≤ count }
@@ -108,7 +108,7 @@ fn still_asked(asks: &[bool; 128], count: u8) -> u8
     0
 }
 
-/// Whether a record leaves the 128 tokens from one on to the superclass, asked for the package that stands there.
+/// Whether a record passes the 128 tokens from `first` on to the superclass, for the package at place `asker`.
 fn passes_all(first: u8, asker: usize, home: PackagePlace, body: &Body) -> bool
     requires { (first ≡ 0) ⊎ (first ≡ 128) }
     ensures { result ≡ true → (world : List Shape) (i : ℕ) → i < 128
@@ -126,7 +126,7 @@ fn passes_all(first: u8, asker: usize, home: PackagePlace, body: &Body) -> bool
     }
 }
 
-/// The methods of a class's table at the 128 tokens from one on, as the package that stands there finds them.
+/// The methods of a class's table at the 128 tokens from `first` on, as the package at place `asker` finds them.
 fn tabled_methods(table: &MethodTable, first: u8, asker: usize) -> FoundMethods
     requires { first ≤ 128 }
     ensures { (i : ℕ) → i < 128 → found_at result i ≡ entry_in table.now (first + i) asker }
@@ -139,7 +139,7 @@ fn tabled_methods(table: &MethodTable, first: u8, asker: usize) -> FoundMethods
 }
 
 impl Shapes {
-    /// Asks a record at the 128 tokens from one on, for the package that stands there.
+    /// Looks up the 128 tokens from `first` on in a record, for the package at place `asker`.
     fn ask_record(
         &self,
         first: u8,
@@ -167,7 +167,7 @@ impl Shapes {
 }
 
 impl ClassTable {
-    /// Asks a class at the 128 tokens from one on. What is above it, if a class stands there.
+    /// Looks up the 128 tokens from `first` on in a class, and returns its superclass.
     fn ask_class(
         &self,
         at: ClassName,
@@ -189,8 +189,8 @@ impl ClassTable {
         self.superclass_of(at)
     }
 
-    /// What a class finds at the 128 tokens from one on, by a walk along the superclasses. Where it comes again to a
-    /// class that it remembers, nothing more is found.
+    /// The methods that a class has at the 128 tokens from `first` on, by a walk along the superclasses. If the walk
+    /// meets its anchor again, the chain has a cycle, and it finds nothing more.
     fn walked_methods(&self, class: ClassName, first: u8, asker: usize) -> FoundMethods
         requires { (first ≡ 0) ⊎ (first ≡ 128) }
         ensures { AreMethodsOf self.now class first asker result }
@@ -217,7 +217,7 @@ impl ClassTable {
         }
     }
 
-    /// What a class finds at the 128 tokens from one on, for the package that stands there.
+    /// The methods that a class has at the 128 tokens from `first` on, for the package at place `asker`.
     fn methods_from(&self, class: ClassName, first: u8, asker: usize) -> FoundMethods
         requires { (first ≡ 0) ⊎ (first ≡ 128) }
         ensures { AreMethodsOf self.now class first asker result }
@@ -228,14 +228,14 @@ impl ClassTable {
         }
     }
 
-    /// What a class finds at each public token, whichever package asks.
+    /// The method that a class has at each public token, whichever package asks.
     pub fn public_methods(&self, class: ClassName) -> FoundMethods
         ensures { (asker : ℕ) → AreMethodsOf self.now class 0 asker result }
     {
         self.methods_from(class, PUBLIC, 0)
     }
 
-    /// What a class finds at each package-visible token, asked for the package that stands there.
+    /// The method that a class has at each package-visible token, for the package at place `asker`.
     pub fn visible_methods(&self, class: ClassName, asker: usize) -> FoundMethods
         ensures { AreMethodsOf self.now class 128 asker result }
     {

@@ -1,18 +1,18 @@
-//! Worlds that grow.
+//! Laws of worlds that grow.
 
 ghost use Rattle.std.specs.Prelude.{ℕ, List, take};
 ghost use Rattle.jc_cap_desc.specs.Shape.{Shape};
 ghost use Rattle.jc_classes.specs.Growth.{KeepsAllLookups, KeepsLookups, LiesWithin, StandWithin};
 ghost use Rattle.jc_classes.specs.Limits.{IsSmall};
 
-/// A package that is put behind the others of a world changes no look-up, no subtype and no reference of those before
-/// it: what was found is found as before, and what wasn't isn't.
+/// Appending a package to a world changes no look-up, no subtype and no reference of the packages before it. It does
+/// nothing.
 pub fn adding_keeps_lookups()
     ensures { (world : List Shape) (more : Shape) → KeepsLookups world more }
 {}
 
-/// Nor do many packages. The first packages of a world, however many, lie within it, a world within a small one is
-/// small, and what is there in a world is of its packages.
+/// Nor does appending several packages. The first packages of a world lie within it. A world within a small one is
+/// small. Whatever a world has belongs to one of its packages. It does nothing.
 pub fn growing_keeps_lookups()
     ensures kept { (before after : List Shape) → LiesWithin before after → KeepsAllLookups before after }
     ensures first { (world : List Shape) (count : ℕ) → LiesWithin (take count world) world }

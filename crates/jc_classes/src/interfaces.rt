@@ -17,7 +17,7 @@ use jc_base::ClassRef;
 use jc_names::{ClassName, MethodName, PackagePlace};
 
 impl ClassTable {
-    /// Whether a reference, as it is spelled in the package that stands there, names a class.
+    /// Whether a reference, as the package at place `home` spells it, names a class.
     fn names(&self, class: ClassName, home: PackagePlace, reference: ClassRef) -> bool
         ensures { result ≡ is_this class (class_named self.now home reference) }
     {
@@ -40,7 +40,7 @@ impl ClassTable {
             .find(|row| self.names(interface, home, row.interface))
     }
 
-    /// A record at an interface.
+    /// What a record answers to the look-up of an interface.
     fn listing_visit<'a>(
         &self,
         interface: ClassName,
@@ -76,8 +76,8 @@ impl ClassTable {
         }
     }
 
-    /// The row for an interface of the nearest class that lists it, by a walk along the superclasses. Where it comes
-    /// again to a class that it remembers, there is none.
+    /// The row for an interface of the nearest class that lists it, by a walk along the superclasses. If the walk meets
+    /// its anchor again, the chain has a cycle, and there is none.
     fn walked_row(&self, class: ClassName, interface: ClassName) -> Option<&ImplementedInterface>
         ensures { option_map (λ row. row.now.indexes) result
             ≡ found (interface_visit self.now interface) self.now class }
@@ -99,18 +99,18 @@ impl ClassTable {
     }
 
     /// The virtual method of a class at a token (Java Card Virtual Machine Specification, Linking). A token from 128 on
-    /// is package-visible, and is looked up for the loaded package with the number `asker`, from 1 on: classes of other
-    /// packages are passed over. `None` where there is none, or where the superclass chain has a cycle.
+    /// is package-visible: it is looked up for the loaded package with the number `asker`, from 1 on, and classes of
+    /// other packages are skipped. It returns `None` if there is no method, or if the superclass chain has a cycle.
     pub fn virtual_method(&self, class: ClassName, token: u8, asker: u8) -> Option<MethodName>
         ensures { result ≡ virtual_method_of self.now class token (asker + 1) }
     {
         self.virtual_method_for(class, token, PackagePlace::of_loaded(asker).index())
     }
 
-    /// The method of an object's class that the token of an interface's method leads to (Java Card Virtual Machine
-    /// Specification, Linking and `invokeinterface`): the nearest class of its chain that lists the interface says
-    /// under which virtual token, and that is looked up from the object's class. `None` where no class lists it, or
-    /// where the token leads to no method.
+    /// The method of an object's class for the token of an interface's method (Java Card Virtual Machine Specification,
+    /// Linking and `invokeinterface`). The nearest class of its chain that lists the interface gives the virtual token,
+    /// which is looked up from the object's class. It returns `None` if no class lists the interface, or if the token
+    /// leads to no method.
     pub fn interface_method(
         &self,
         class: ClassName,

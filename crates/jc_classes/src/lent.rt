@@ -26,7 +26,7 @@ impl PackageShape {
         &self.imports
     }
 
-    /// What it exports, by class tokens.
+    /// Its exports, by class tokens.
     pub fn exports(&self) -> &[Export]
         ensures { result.now ≡ self.now.exports }
     {
@@ -42,7 +42,7 @@ impl PackageShape {
 }
 
 impl Export {
-    /// Where the class's record stands.
+    /// The offset of the class's record.
     pub fn class(&self) -> u16
         ensures { result ≡ self.now.class }
     {
@@ -65,14 +65,14 @@ impl Export {
 }
 
 impl Class {
-    /// Where its record stands in the Class component; a class of the API stands at its number.
+    /// The offset of its record in the Class component; for a class of the API, its number.
     pub fn offset(&self) -> u16
         ensures { result ≡ self.now.offset }
     {
         self.offset
     }
 
-    /// Whether it is a class, and not an interface.
+    /// Whether it is a class rather than an interface.
     pub fn is_class(&self) -> bool
         ensures { result ≡ is_class self.now.body }
     {
@@ -82,7 +82,7 @@ impl Class {
         }
     }
 
-    /// Whether its row says that it is abstract.
+    /// Whether its row states that it is abstract.
     pub fn is_abstract(&self) -> bool
         ensures { result ≡ self.now.is_abstract }
     {
@@ -96,7 +96,7 @@ impl Class {
         self.body.superclass()
     }
 
-    /// How many cells of an object it declares itself; none where it is an interface.
+    /// How many cells of an object it declares itself; 0 if it is an interface.
     pub fn declared_size(&self) -> u8
         ensures { result ≡ declared_size self.now.body }
     {
@@ -106,7 +106,7 @@ impl Class {
         }
     }
 
-    /// The entries of its table of public and protected methods; none where it is an interface.
+    /// The entries of its table of public and protected methods; none if it is an interface.
     pub fn public_entries(&self) -> &[u16]
         ensures { result.now ≡ public_entries self.now.body }
     {
@@ -116,7 +116,7 @@ impl Class {
         }
     }
 
-    /// The entries of its table of package-visible methods; none where it is an interface.
+    /// The entries of its table of package-visible methods; none if it is an interface.
     pub fn package_entries(&self) -> &[u16]
         ensures { result.now ≡ package_entries self.now.body }
     {
@@ -126,8 +126,8 @@ impl Class {
         }
     }
 
-    /// The interface that its record lists at an index: a class those that it implements, an interface those that it
-    /// extends.
+    /// The interface that its record lists at an index: a class lists those that it implements, an interface those that
+    /// it extends.
     pub fn listed(&self, index: usize) -> Option<ClassRef>
         ensures { result ≡ slice_get (listed_refs self.now.body) index }
     {
@@ -137,7 +137,7 @@ impl Class {
         }
     }
 
-    /// The interfaces that it extends; none where it is a class.
+    /// The interfaces that it extends; none if it is a class.
     pub fn superinterfaces(&self) -> &[Superinterface]
         ensures { result.now ≡ superinterfaces self.now.body }
     {
@@ -147,7 +147,7 @@ impl Class {
         }
     }
 
-    /// The rows of the interfaces that it implements; none where it is an interface.
+    /// The rows of the interfaces that it implements; none if it is an interface.
     pub fn interface_rows(&self) -> &[ImplementedInterface]
         ensures { result.now ≡ interface_rows self.now.body }
     {
@@ -173,14 +173,14 @@ impl Class {
 }
 
 impl ImplementedInterface {
-    /// The interface, as it is spelled.
+    /// The reference to the interface.
     pub fn interface(&self) -> ClassRef
         ensures { result ≡ self.now.interface }
     {
         self.interface
     }
 
-    /// The class's virtual tokens of the interface's methods, by the interface's tokens.
+    /// The class's virtual tokens for the interface's methods, by the interface's tokens.
     pub fn indexes(&self) -> &[u8]
         ensures { result.now ≡ self.now.indexes }
     {
@@ -189,14 +189,14 @@ impl ImplementedInterface {
 }
 
 impl Field {
-    /// Where it stands.
+    /// Its place.
     pub fn place(&self) -> FieldPlace
         ensures { result ≡ self.now.place }
     {
         self.place
     }
 
-    /// Its type, classes as they are spelled in its package.
+    /// Its type, with classes as its package spells them.
     pub fn declared_type(&self) -> DeclaredType<ClassRef>
         ensures { result ≡ self.now.type }
     {
@@ -205,7 +205,7 @@ impl Field {
 }
 
 impl Method {
-    /// Its token, which counts in an interface alone.
+    /// Its token, which is used only in an interface.
     pub fn token(&self) -> u8
         ensures { result ≡ self.now.token }
     {
@@ -219,7 +219,7 @@ impl Method {
         self.is_static
     }
 
-    /// Where its header stands in the Method component; a member of the API stands at its number.
+    /// The offset of its header in the Method component; for a member of the API, its number.
     pub fn offset(&self) -> u16
         ensures { result ≡ self.now.offset }
     {
@@ -233,14 +233,14 @@ impl Method {
         self.header
     }
 
-    /// The types of its parameters, without `this`, classes as they are spelled in its package.
+    /// The types of its parameters, without `this`, with classes as its package spells them.
     pub fn parameters(&self) -> &[DeclaredType<ClassRef>]
         ensures { result.now ≡ self.now.signature.parameters }
     {
         &self.parameters
     }
 
-    /// What it gives.
+    /// Its result.
     pub fn result(&self) -> ReturnType<ClassRef>
         ensures { result ≡ self.now.signature.result }
     {

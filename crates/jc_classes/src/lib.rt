@@ -1,4 +1,4 @@
-//! The classes of a world of packages, and what is looked up in them.
+//! The classes of a world of packages, and look-ups in them.
 #![tactic(auto)]
 
 mod adding;

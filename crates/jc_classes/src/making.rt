@@ -1,4 +1,4 @@
-//! The tables of a package's classes, made when it is put in.
+//! Making the tables of a package's classes when it is added.
 
 ghost use Rattle.std.specs.Prelude.{◌≡◌, ◌+◌, ◌≤◌, ◌++◌, ◌∷◌, [], true, false, length, suc, Some, IfOk, IfErr};
 ghost use Rattle.std.specs.Prelude.{IfSome, IfNone};
@@ -19,8 +19,8 @@ use jc_names::{ClassName, PackagePlace, name_in};
 use std::alloc::{AllocError, Global};
 
 impl ClassTable {
-    /// The table of a class or an interface. There is none only where neither stands there, or where the superclass
-    /// chain doesn't come to its end.
+    /// The table of a class or an interface. There is none only if neither has this name, or if the superclass chain
+    /// doesn't end.
     pub(crate) fn table_of(&self, class: ClassName) -> Option<&MethodTable>
         ensures right { IfSome result (λ table. IsTabled self.now class table.now) }
         ensures none { IfNone result (has_whole_chain self.now class ≡ false) }
@@ -30,7 +30,7 @@ impl ClassTable {
 }
 
 impl Shapes {
-    /// Which of its package's classes a class is.
+    /// The index of a class among those of its package.
     fn index_of(&self, class: ClassName) -> Option<usize>
         ensures { result ≡ index_at self.now class }
     {
@@ -50,7 +50,7 @@ impl Shapes {
         tables.get(class.home().index())?.get().at(index)
     }
 
-    /// The table of a class, if it is made: of one of the packages before, or of the last one.
+    /// The table of a class, if it was made: of an earlier package, or of the last one.
     fn table_so_far<'t>(
         &self,
         tables: &'t [Shared<PackageTables>],
@@ -66,7 +66,7 @@ impl Shapes {
         }
     }
 
-    /// The table of the class above a class, if there is a class above. `None` where that has no table yet.
+    /// The table of a class's superclass, if it has one. `None` if the superclass has no table yet.
     fn table_above<'t>(
         &self,
         tables: &'t [Shared<PackageTables>],
@@ -86,9 +86,9 @@ impl Shapes {
         }
     }
 
-    /// Where the jump of a class leads, from what its superclass has: as far as the superclass's jump and the next one,
-    /// where both pass as many classes, and else to the superclass. So a walk of jumps passes any number of classes in
-    /// few steps.
+    /// The jump of a class, computed from its superclass `above`. It joins the jump of `above` and the next one, if
+    /// both skip as many classes, and otherwise leads to `above`. So a walk of jumps skips any number of classes in few
+    /// steps.
     fn jump_from(
         &self,
         tables: &[Shared<PackageTables>],
@@ -109,7 +109,7 @@ impl Shapes {
         }
     }
 
-    /// The jump of a class that stands so deep; at the top it leads to the class itself.
+    /// The jump of a class with this depth; without a superclass it leads to the class itself.
     fn jump_of(
         &self,
         tables: &[Shared<PackageTables>],
@@ -133,8 +133,8 @@ impl Shapes {
         }
     }
 
-    /// The table of a class or an interface. `None` where neither stands there, or where the class above has no table
-    /// yet. A chain of as many classes as there can be has a cycle.
+    /// The table of a class or an interface. `None` if neither has this name, or if the superclass has no table yet. A
+    /// chain of as many classes as there can be has a cycle.
     fn table_made(
         &self,
         alloc: Global,
@@ -161,7 +161,7 @@ impl Shapes {
         Ok(Some(table))
     }
 
-    /// Makes the table of a class of the last package, if it has none. Whether it was made.
+    /// Makes the table of a class of the last package, if it has none, and returns whether it did.
     fn fill_class(
         &self,
         alloc: Global,
@@ -189,7 +189,7 @@ impl Shapes {
         }
     }
 
-    /// The name of the class with an index of the package that stands there.
+    /// The name of the class with an index in the package at a place.
     fn name_placed(&self, home: PackagePlace, index: usize) -> Option<ClassName>
         ensures { result ≡ name_placed self.now home index }
     {
@@ -197,7 +197,7 @@ impl Shapes {
         name_in(home, found.offset)
     }
 
-    /// The same of the class with an index of the last package.
+    /// The same for the class with an index in the last package.
     fn fill(
         &self,
         alloc: Global,
@@ -216,7 +216,7 @@ impl Shapes {
         }
     }
 
-    /// The same of each of so many classes. Whether any table was made.
+    /// The same for each of the first `count` classes. It returns whether it made any table.
     fn fill_each(
         &self,
         alloc: Global,
@@ -237,7 +237,7 @@ impl Shapes {
         Ok(changed)
     }
 
-    /// The same again until no table is made: a class's table is made behind that of the class above it.
+    /// Repeats this until no table is made: a class's table is made after its superclass's.
     fn fill_all(
         &self,
         alloc: Global,
@@ -273,7 +273,7 @@ impl Shapes {
         Ok(made)
     }
 
-    /// Puts the tables of the last package behind those of the others.
+    /// Appends the tables of the last package.
     pub(crate) fn put_tables(
         &self,
         alloc: Global,
@@ -289,7 +289,7 @@ impl Shapes {
     }
 }
 
-/// Within how many classes the superclasses of the class above come to an end.
+/// The length of the superclass's chain, or 0 if there is no superclass.
 fn depth_of(above: Option<&MethodTable>) -> u16
     ensures { result ≡ depth_above (option_map (λ t. t.now) above.entry) }
 {

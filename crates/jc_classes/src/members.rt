@@ -1,4 +1,4 @@
-//! Methods where they are declared.
+//! Methods with their declaring classes.
 
 ghost use Rattle.std.specs.Prelude.{◌≡◌, ◌≤◌, IfSome};
 ghost use Rattle.jc_names.specs.Names.{method_home, method_offset};
@@ -25,7 +25,7 @@ impl<'t> Model for DeclaredMethod<'t> {
 }
 
 impl Class {
-    /// Its name, where its package stands there.
+    /// Its name, if its package stands at this place.
     pub fn name(&self, home: PackagePlace) -> Option<ClassName>
         ensures { result ≡ name_of home self.now }
     {
@@ -34,7 +34,7 @@ impl Class {
 }
 
 impl PackageShape {
-    /// The method at an offset, where the package stands there.
+    /// The method at an offset, if the package stands at this place.
     #[tactic(auto, using(crate::proofs::Placing::declared_is))]
     fn declared_in(&self, home: PackagePlace, offset: u16) -> Option<DeclaredMethod<'_>>
         ensures { result ≡ declared_in home offset self.now }
@@ -49,7 +49,7 @@ impl PackageShape {
 }
 
 impl ClassTable {
-    /// The method that has a name, where it is declared.
+    /// The method with a name, in the class that declares it.
     pub fn method_at(&self, name: MethodName) -> Option<DeclaredMethod<'_>>
         ensures { result ≡ method_at self.now name }
     {

@@ -12,12 +12,12 @@ use crate::table::ClassTable;
 use crate::walk::{MOST_CLASSES, Visit, WalkStep, anchor_behind};
 use jc_names::{ClassName, MethodName, PackagePlace};
 
-/// Tokens from here on are package-visible.
+/// Tokens from this one on are package-visible.
 pub(crate) const PACKAGE_VISIBLE: u8 = 128;
-/// What stands in a table in place of a method that another package's class declares.
+/// The entry of a table for a method that another package's class declares.
 const DECLARED_ABOVE: u16 = 0xFFFF;
 
-/// The name of the method at an offset of the package that stands there.
+/// The name of the method at an offset of the package at a place.
 pub fn method_name(home: PackagePlace, offset: u16) -> MethodName
     ensures { result ≡ method_name home offset }
 {
@@ -38,7 +38,7 @@ impl PackageShape {
 }
 
 impl Shapes {
-    /// The method that stands there, if one does.
+    /// The method at an offset of the package at a place, if there is one.
     fn method_there(&self, home: PackagePlace, offset: u16) -> Visit<MethodName>
         ensures { result ≡ method_there self.now home offset }
     {
@@ -48,7 +48,7 @@ impl Shapes {
         }
     }
 
-    /// An entry of a table.
+    /// What an entry of a table answers.
     fn entry_visit(&self, home: PackagePlace, entry: Option<u16>) -> Visit<MethodName>
         ensures { result ≡ entry_visit self.now home entry }
     {
@@ -59,7 +59,7 @@ impl Shapes {
         }
     }
 
-    /// A table at a token.
+    /// What a table answers at a token.
     pub(crate) fn table_visit(
         &self,
         home: PackagePlace,
@@ -75,7 +75,7 @@ impl Shapes {
         self.entry_visit(home, entry)
     }
 
-    /// A record at a virtual token, asked for the package that stands there.
+    /// What a record answers at a virtual token, for the package at place `asker`.
     pub(crate) fn record_visit(
         &self,
         asker: usize,
@@ -121,8 +121,8 @@ impl ClassTable {
         }
     }
 
-    /// The virtual method of a class at a token, asked for the package that stands there: what its table has. Where it
-    /// has none, no class stands there or its superclass chain has a cycle: then it is what a walk finds.
+    /// The virtual method of a class at a token, for the package at place `asker`. It is read from the class's table.
+    /// If there is no table, no class has this name or its superclass chain has a cycle; then a walk finds the method.
     pub fn virtual_method_for(
         &self,
         class: ClassName,
@@ -137,7 +137,8 @@ impl ClassTable {
         }
     }
 
-    /// The same by a walk along the superclasses. Where it comes again to a class that it remembers, there is none.
+    /// The same by a walk along the superclasses. If the walk meets its anchor again, the chain has a cycle, and there
+    /// is none.
     fn walked_method(&self, class: ClassName, token: u8, asker: usize) -> Option<MethodName>
         ensures { result ≡ virtual_method_of self.now class token asker }
     {

@@ -1,4 +1,4 @@
-//! Tables of where the classes and methods of a package stand, by their offsets.
+//! Tables of a package's classes and methods by their offsets.
 
 ghost use Rattle.std.specs.Prelude.{◌≡◌, ℕ, ◌==◌, ◌<◌, ◌≤◌, ◌^◌, Some, if◌then◌else◌, length, IfOk};
 ghost use Rattle.std.specs.List.{position};
@@ -11,7 +11,7 @@ use jc_base::PackageInfo;
 use std::alloc::{AllocError, Global};
 use std::marker::Model;
 
-/// What a table has at an offset; nothing behind its end.
+/// The entry of a table at an offset, or `None` past its end.
 pub(crate) fn place_at<T: Copy>(places: &[Option<T>], offset: usize) -> Option<T>
     ensures { result ≡ place_at places.now offset }
 {
@@ -32,7 +32,7 @@ pub(crate) fn make_room<T: Drop>(
     Ok(())
 }
 
-/// Puts a place at an offset.
+/// Puts an entry at an offset.
 fn put<T: Copy>(places: &mut Vec<Option<T>>, offset: usize, place: T) -> Result<(), AllocError>
     ensures { IfOk result (λ u. (i : ℕ)
         → place_at places.new.items i ≡ (if offset == i then Some place else place_at places.old.items i)) }
@@ -42,7 +42,7 @@ fn put<T: Copy>(places: &mut Vec<Option<T>>, offset: usize, place: T) -> Result<
     Ok(())
 }
 
-/// Which class stands at each offset; of two the first.
+/// The index of the class at each offset; of two the first.
 fn class_places(alloc: Global, classes: &[Class]) -> Result<Vec<Option<u8>>, AllocError>
     requires { length classes.now ≤ most_classes_of_one }
     ensures { IfOk result (λ places. AreClassPlaces places.items classes.now) }
@@ -80,7 +80,8 @@ fn put_methods(
     Ok(())
 }
 
-/// Puts the methods of a class or an interface at their offsets; an interface's have no header.
+/// Puts the methods of a class or an interface at their offsets; an interface's methods are ignored, since they have no
+/// header.
 fn put_class(
     places: &mut Vec<Option<MethodPlace>>,
     class: u8,
@@ -95,7 +96,7 @@ fn put_class(
     }
 }
 
-/// Where the first method with a header stands at each offset.
+/// The place of the first method with a header at each offset.
 fn method_places(alloc: Global, classes: &[Class]) -> Result<Vec<Option<MethodPlace>>, AllocError>
     requires { length classes.now ≤ most_classes_of_one }
     ensures { IfOk result (λ places. AreMethodPlaces places.items classes.now) }
@@ -125,7 +126,7 @@ impl<'t> Model for PlacedMethod<'t> {
 }
 
 impl PackageShape {
-    /// A package with the tables of its places.
+    /// A package with the tables of its offsets.
     pub(crate) fn new(
         alloc: Global,
         package: PackageInfo,

@@ -1,4 +1,4 @@
-//! Shapes of packages, owned.
+//! Owned shapes of packages.
 
 use jc_base::{ClassRef, DeclaredType, PackageInfo, ReturnType};
 use jc_cap::{MethodHeader, Superinterface};
@@ -8,11 +8,11 @@ use std::marker::Model;
 /// What a package exports of a class.
 #[derive(Drop)]
 pub struct Export {
-    /// Where the class stands.
+    /// The offset of the class.
     pub(crate) class: u16,
-    /// Its static fields by their tokens.
+    /// The offsets of its static fields by their tokens.
     pub(crate) fields: Vec<u16>,
-    /// Its static methods and constructors by their tokens.
+    /// The offsets of its static methods and constructors by their tokens.
     pub(crate) methods: Vec<u16>,
 }
 
@@ -45,7 +45,7 @@ impl Model for Table {
 #[derive(Drop)]
 pub struct ImplementedInterface {
     pub(crate) interface: ClassRef,
-    /// The class's virtual tokens of the interface's methods.
+    /// The class's virtual tokens for the interface's methods.
     pub(crate) indexes: Vec<u8>,
 }
 
@@ -67,7 +67,7 @@ pub(crate) struct ClassBody {
     pub(crate) interfaces: Vec<ImplementedInterface>,
 }
 
-/// What a record says.
+/// The contents of a record.
 #[derive(Drop)]
 pub(crate) enum Body {
     Interface(Vec<Superinterface>),
@@ -142,7 +142,7 @@ impl Model for Class {
     ghost invariant = { λ k. length k.methods.items < 2 ^ 16 };
 }
 
-/// Where a method stands: which of the package's classes it belongs to, and which of that class's methods it is.
+/// The index of a method's class among those of its package, and the method's index in that class.
 #[derive(Clone, Copy)]
 pub(crate) struct MethodPlace {
     pub(crate) class: u8,
@@ -156,9 +156,9 @@ pub struct PackageShape {
     pub(crate) imports: Vec<PackageInfo>,
     pub(crate) exports: Vec<Export>,
     pub(crate) classes: Vec<Class>,
-    /// By an offset: the first class that stands there.
+    /// By an offset: the first class at it.
     pub(crate) class_places: Vec<Option<u8>>,
-    /// By an offset: the first method with a header there.
+    /// By an offset: the first method with a header at it.
     pub(crate) method_places: Vec<Option<MethodPlace>>,
 }
 

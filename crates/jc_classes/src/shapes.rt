@@ -39,7 +39,7 @@ impl Model for Shapes {
 }
 
 impl PackageShape {
-    /// Which of its classes stands at an offset.
+    /// The index of the first of its classes at an offset.
     #[tactic(auto, using(crate::proofs::Placing::position_within))]
     pub(crate) fn index_of(&self, offset: u16) -> Option<usize>
         ensures found { result ≡ position (λ k. k.offset == offset) self.now.classes }
@@ -65,7 +65,7 @@ impl PackageShape {
         self.class_with(index)
     }
 
-    /// Whether it meets an import: the AID and the major version are those, and the minor version isn't smaller.
+    /// Whether it meets an import: the AID and the major version are equal, and the minor version isn't smaller.
     fn meets(&self, wanted: &PackageInfo) -> bool
         ensures { result ≡ meets wanted.now self.now }
     {
@@ -93,7 +93,7 @@ impl Body {
     }
 }
 
-/// Where the first of these packages stands that meets an import.
+/// The index of the first of these packages that meets an import.
 fn first_that_meets(packages: &[Shared<PackageShape>], wanted: &PackageInfo) -> Option<usize>
     ensures found { result ≡ position (meets wanted.now) packages.now }
     ensures within { IfSome result (λ there. there < length packages.now) }
@@ -101,7 +101,7 @@ fn first_that_meets(packages: &[Shared<PackageShape>], wanted: &PackageInfo) -> 
     packages.iter().position(|p| p.get().meets(wanted))
 }
 
-/// Where the first of these packages stands that has an AID.
+/// The index of the first of these packages that has an AID.
 fn first_with(packages: &[Shared<PackageShape>], aid: &Aid) -> Option<usize>
     ensures found { result ≡ position (λ shape. bytes_eq aid.now shape.«package».aid) packages.now }
     ensures within { IfSome result (λ there. there < length packages.now) }
@@ -119,7 +119,7 @@ impl Shapes {
         }
     }
 
-    /// The same packages, shared with these.
+    /// A copy that shares the packages.
     pub(crate) fn shared(&self, alloc: Global) -> Result<Shapes, AllocError>
         ensures { IfOk result (λ copy. copy ≡ self.now) }
     {
@@ -128,12 +128,12 @@ impl Shapes {
         })
     }
 
-    /// Where its memory is from.
+    /// Its allocator.
     pub(crate) fn allocator(&self) -> Global {
         *self.packages.allocator()
     }
 
-    /// Puts a package behind the others.
+    /// Appends a package.
     #[tactic(auto, using(crate::proofs::Small::small_grown))]
     pub(crate) fn put(&mut self, shape: PackageShape) -> Result<(), AllocError>
         requires room { length self.now < most_packages }
@@ -153,7 +153,7 @@ impl Shapes {
         self.packages.pop();
     }
 
-    /// How many packages there are, those of the API among them.
+    /// How many packages there are, those of the API included.
     pub(crate) fn len(&self) -> usize
         ensures count { result ≡ length self.now }
         ensures most { result ≤ most_packages }
@@ -162,7 +162,7 @@ impl Shapes {
         self.packages.len()
     }
 
-    /// The package that stands there.
+    /// The package at a place.
     pub(crate) fn shape(&self, home: PackagePlace) -> Option<&PackageShape>
         ensures found { option_map (λ s. s.now) result ≡ slice_get self.now home }
         ensures few { IfSome result (λ s. length s.now.classes ≤ most_classes_of_one) }
@@ -186,7 +186,7 @@ impl Shapes {
         }
     }
 
-    /// The class that has a name.
+    /// The class with a name.
     pub(crate) fn class_at(&self, class: ClassName) -> Option<&Class>
         ensures { option_map (λ k. k.now) result ≡ class_at self.now class }
     {
@@ -194,7 +194,7 @@ impl Shapes {
         shape.class_in(class.offset())
     }
 
-    /// Where the package stands that meets the import with a token: among those before, the first.
+    /// The place of the package that meets the import with a token: the first before the importing one.
     pub(crate) fn import_of(&self, home: PackagePlace, token: u8) -> Option<PackagePlace>
         ensures found { result ≡ import_of self.now home token }
         ensures before { IfSome result (λ there. there < home) }
@@ -205,7 +205,7 @@ impl Shapes {
         Some(PackagePlace::new(there))
     }
 
-    /// Where the loaded package with an AID stands, of those before a place.
+    /// The place of the loaded package with an AID, before a place.
     pub(crate) fn loaded_with(&self, home: PackagePlace, aid: &Aid) -> Option<PackagePlace>
         requires { home ≤ length self.now }
         ensures found { result ≡ loaded_with self.now home aid.now }
@@ -225,7 +225,7 @@ impl Shapes {
         name_in(home, row.class)
     }
 
-    /// What a reference spells in the package that stands there.
+    /// The name that a reference encodes in the package at place `home`.
     fn class_spelled(&self, home: PackagePlace, reference: ClassRef) -> Option<ClassName>
         ensures { result ≡ class_spelled self.now home reference }
     {
@@ -238,7 +238,7 @@ impl Shapes {
         }
     }
 
-    /// A name that a class has.
+    /// The name, if a class has it.
     fn if_there(&self, class: ClassName) -> Option<ClassName>
         ensures { result ≡ if_there self.now class }
     {
@@ -249,7 +249,7 @@ impl Shapes {
         }
     }
 
-    /// The class that a reference of the package that stands there finds.
+    /// The class that a reference of the package at place `home` resolves to.
     pub(crate) fn class_named(&self, home: PackagePlace, reference: ClassRef) -> Option<ClassName>
         ensures { result ≡ class_named self.now home reference }
     {
@@ -266,14 +266,14 @@ impl Shapes {
         self.class_named(class.home(), reference)
     }
 
-    /// The class with an index in the package that stands there.
+    /// The class with an index in the package at a place.
     pub(crate) fn class_placed(&self, home: PackagePlace, index: usize) -> Option<&Class>
         ensures { option_map (λ k. k.now) result ≡ class_placed self.now home index }
     {
         self.shape(home)?.class_with(index)
     }
 
-    /// How many classes the package has that stands there.
+    /// How many classes the package at a place has.
     pub(crate) fn class_count(&self, home: PackagePlace) -> usize
         ensures count { result ≡ option_map_or (λ s. length s.classes) (slice_get self.now home) 0 }
         ensures few { result ≤ most_classes_of_one }

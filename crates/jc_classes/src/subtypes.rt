@@ -1,4 +1,4 @@
-//! Which class is below which.
+//! Subtypes of classes and interfaces.
 
 ghost use Rattle.std.specs.Prelude.{◌≡◌, ◌↔◌, true, None, IfSome, List};
 ghost use Rattle.jc_cap_desc.specs.Shape.{Shape};
@@ -13,13 +13,12 @@ use crate::walk::{MOST_CLASSES, anchor_behind};
 use jc_api::ApiClass;
 use jc_names::ClassName;
 
-/// What is above all classes and interfaces.
+/// The class above all classes and interfaces.
 const OBJECT: ClassName = ClassName::Api(ApiClass::Object);
 
 impl ClassTable {
-    /// Whether a class is another one or a superclass of it, by jumps: each leads as far up as it can without passing
-    /// the other one's depth, and there the two are one class or the other one isn't above. `None` where a class has no
-    /// table.
+    /// Whether a class is another one or a superclass of it, by jumps. Each goes as far up as it can without passing
+    /// the other one's depth; there the two are equal, or the other one isn't above. `None` if a class has no table.
     fn jumps_to(&self, above: ClassName, class: ClassName) -> Option<bool>
         ensures { IfSome result (λ found. found ≡ is_at_or_above self.now most_classes above class) }
     {
@@ -39,8 +38,8 @@ impl ClassTable {
         None
     }
 
-    /// The same by a walk along superclasses. The chain may have a cycle: where the walk comes again to a class that it
-    /// remembers, the other one isn't above.
+    /// The same by a walk along superclasses. The chain may have a cycle: if the walk meets its anchor again, the other
+    /// one isn't above.
     fn walks_to(&self, above: ClassName, class: ClassName) -> bool
         ensures { result ≡ is_at_or_above self.now most_classes above class }
     {
@@ -62,7 +61,7 @@ impl ClassTable {
         false
     }
 
-    /// Whether a class is another one or a superclass of it: by jumps, or by a walk where a class has no table.
+    /// Whether a class is another one or a superclass of it: by jumps, or by a walk if a class has no table.
     pub fn is_at_or_above(&self, above: ClassName, class: ClassName) -> bool
         ensures { result ≡ is_at_or_above self.now most_classes above class }
     {
@@ -82,8 +81,8 @@ impl ClassTable {
         OBJECT.is(above) || self.is_at_or_above(above, class)
     }
 
-    /// The nearest class above both of two, by jumps: where a class isn't above the other one, none that a jump to it
-    /// passes is. `None` where a class has no table, or Object a superclass.
+    /// The nearest class above both of two, by jumps: if a class isn't above the other one, no class that a jump to it
+    /// passes is. `None` if a class has no table, or Object has a superclass.
     fn common_by_jumps(&self, one: ClassName, other: ClassName) -> Option<ClassName>
         ensures { IfSome result (λ found. found ≡ common_class self.now one other) }
     {
@@ -126,8 +125,8 @@ impl ClassTable {
         OBJECT
     }
 
-    /// The nearest class above both of two, along superclasses: the first on the way up from the one that the other is
-    /// below too, or Object. It is found by jumps, or by a walk where a class has no table.
+    /// The nearest class above both of two, along superclasses: the first on the way up from the one that is also above
+    /// the other, or Object. It is found by jumps, or by a walk if a class has no table.
     pub fn common_class(&self, one: ClassName, other: ClassName) -> ClassName
         ensures { result ≡ common_class self.now one other }
     {
@@ -155,9 +154,9 @@ impl ClassTable {
     }
 }
 
-/// Where classes are in order and Object has no superclass, `is_class_below` is an order, and a class is above another
-/// one by it exactly where that one is its subtype; each two classes have a least one above both, and the number of
-/// classes above falls with each step upward.
+/// If classes are in order and Object has no superclass, `is_class_below` is an order. A class is then above another
+/// one by it if and only if that one is its subtype. Any two classes have a least class above both, and the number of
+/// classes above falls with each step upward. It does nothing.
 pub fn superclass_laws()
     ensures subtypes { (world : List Shape) → IsOrderly world
         → superclass_of world (ClassName.Api ApiClass.Object) ≡ None → (c d : ClassName) → is_class_at world d ≡ true
@@ -169,9 +168,9 @@ pub fn superclass_laws()
         → IsClassLattice (is_class_below world) (common_class world) (classes_above world) most_classes }
 {}
 
-/// What the steps of `is_subtype` find is a subtype, and in a world of no more classes than there may be they find all.
-/// What is below another class along superclasses is found so; and where classes are in order and Object has no
-/// superclass, of a class the steps find nothing else.
+/// What the steps of `is_subtype` find is a subtype, and in a small world they find all subtypes. They find what is
+/// below another class along superclasses. If classes are in order and Object has no superclass, they find nothing else
+/// below a class.
 pub fn found_subtypes_are_subtypes()
     ensures found { (world : List Shape) (c d : ClassName) → is_subtype world c d ≡ true → IsSubtype world c d }
     ensures all { (world : List Shape) → IsSmall world → (c d : ClassName)

@@ -13,12 +13,11 @@ use jc_base::{Aid, ClassRef, Shared};
 use jc_names::{ClassName, PackagePlace};
 use std::marker::Model;
 
-/// The classes of a world: of the API's two packages, and of the loaded packages in the order in which they were put
-/// in.
+/// The classes of a world: of the API's two packages, and of the loaded packages in the order in which they were added.
 #[derive(Drop)]
 pub struct ClassTable {
     pub(crate) shapes: Shapes,
-    /// By packages: the tables of their classes.
+    /// The tables of the classes of each package.
     pub(crate) tables: Vec<Shared<PackageTables>>,
 }
 
@@ -35,7 +34,7 @@ impl Model for ClassTable {
 }
 
 impl ClassTable {
-    /// How many packages there are, those of the API among them.
+    /// How many packages there are, those of the API included.
     pub fn len(&self) -> usize
         ensures count { result ≡ length self.now }
         ensures most { result ≤ most_packages }
@@ -44,14 +43,14 @@ impl ClassTable {
         self.shapes.len()
     }
 
-    /// Where the last package stands.
+    /// The place of the last package.
     pub fn last(&self) -> PackagePlace
         ensures { result ≡ length self.now - 1 }
     {
         PackagePlace::new(self.len().saturating_sub(1))
     }
 
-    /// The package that stands there.
+    /// The package at a place.
     pub fn shape(&self, home: PackagePlace) -> Option<&PackageShape>
         ensures found { option_map (λ s. s.now) result ≡ slice_get self.now home }
         ensures few { IfSome result (λ s. length s.now.classes ≤ most_classes_of_one) }
@@ -69,14 +68,14 @@ impl ClassTable {
         self.shapes.package_at(class)
     }
 
-    /// The class that has a name.
+    /// The class with a name.
     pub fn class_at(&self, class: ClassName) -> Option<&Class>
         ensures { option_map (λ k. k.now) result ≡ class_at self.now class }
     {
         self.shapes.class_at(class)
     }
 
-    /// Where the package stands that meets the import with a token: among those before, the first.
+    /// The place of the package that meets the import with a token: the first before the importing one.
     pub fn import_of(&self, home: PackagePlace, token: u8) -> Option<PackagePlace>
         ensures found { result ≡ import_of self.now home token }
         ensures before { IfSome result (λ there. there < home) }
@@ -84,7 +83,7 @@ impl ClassTable {
         self.shapes.import_of(home, token)
     }
 
-    /// Where the loaded package with an AID stands, of those before a place.
+    /// The place of the loaded package with an AID, before a place.
     pub fn loaded_with(&self, home: PackagePlace, aid: &Aid) -> Option<PackagePlace>
         requires { home ≤ length self.now }
         ensures found { result ≡ loaded_with self.now home aid.now }
@@ -93,7 +92,7 @@ impl ClassTable {
         self.shapes.loaded_with(home, aid)
     }
 
-    /// The class that a reference of the package that stands there finds.
+    /// The class that a reference of the package at place `home` resolves to.
     pub fn class_named(&self, home: PackagePlace, reference: ClassRef) -> Option<ClassName>
         ensures { result ≡ class_named self.now home reference }
     {

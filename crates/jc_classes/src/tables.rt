@@ -1,4 +1,4 @@
-//! Tables of the methods of classes, made from those of the classes above.
+//! Tables of the methods of classes, made from those of their superclasses.
 
 ghost use Rattle.std.specs.Prelude.{◌≡◌, ℕ, suc, ◌-◌, ◌<◌, ◌≤◌, List, Some, None, [], length, set, unwrap_or};
 ghost use Rattle.std.specs.Prelude.{IfOk};
@@ -22,7 +22,7 @@ use jc_names::{ClassName, MethodName, PackagePlace};
 use std::alloc::{AllocError, Global};
 use std::marker::Model;
 
-/// How many tokens there are for public methods, and as many for package-visible ones.
+/// The number of tokens of public methods, and of package-visible ones.
 const TOKENS: u8 = 128;
 
 /// Methods by their tokens.
@@ -55,27 +55,27 @@ impl Model for VisibleRows {
     ghost view = { λ r. r.rows.items };
 }
 
-/// A class far above another one, or that class itself.
+/// A superclass of a class, any number of steps up, or the class itself.
 #[derive(Clone, Copy)]
 pub(crate) struct Jump {
     /// The class.
     pub(crate) to: ClassName,
-    /// Within how many classes its superclasses come to an end.
+    /// The length of its superclass chain, itself included.
     pub(crate) depth: u16,
 }
 
-/// What the look-ups from a class find. Rows that are those of the class above are shared with it.
+/// The results of the look-ups from a class. It shares with its superclass the rows that are equal.
 #[derive(Drop)]
 pub(crate) struct MethodTable {
-    /// Within how many classes its superclasses come to an end.
+    /// The length of its superclass chain, itself included.
     depth: u16,
-    /// A class far above.
+    /// A superclass far up.
     jump: Jump,
     /// The public methods.
     public: Shared<MethodRow>,
     /// The package-visible methods.
     visible: Shared<VisibleRows>,
-    /// Whether the class or one above it may list any.
+    /// Whether the class or a superclass of it may list an interface.
     lists: bool,
 }
 
@@ -93,7 +93,7 @@ impl Model for MethodTable {
     } };
 }
 
-/// The tables of the classes of a package, as far as they are made.
+/// The tables of a package's classes that were made so far.
 #[derive(Drop)]
 pub(crate) struct PackageTables {
     tables: Vec<Option<MethodTable>>,
@@ -126,7 +126,7 @@ impl MethodRow {
         place_at(&self.methods, usize::from(token))
     }
 
-    /// How many tokens it goes up to, of the 128 that a row can have.
+    /// A bound on its tokens, at most 128: no token of a row from it on has a method.
     fn count(&self) -> u8
         ensures most { result ≤ 128 }
         ensures none { (i : ℕ) → result ≤ i → i < 128 → place_at self.now i ≡ None }
@@ -158,28 +158,28 @@ impl MethodTable {
         })
     }
 
-    /// Within how many classes the superclasses come to an end.
+    /// The length of the superclass chain, the class included.
     pub(crate) fn depth(&self) -> u16
         ensures { result ≡ self.now.depth }
     {
         self.depth
     }
 
-    /// A class far above.
+    /// A superclass far up.
     pub(crate) fn jump(&self) -> Jump
         ensures { result ≡ self.now.jump }
     {
         self.jump
     }
 
-    /// How many classes up its jump leads.
+    /// How many classes up its jump goes.
     pub(crate) fn jump_length(&self) -> u16
         ensures { result ≡ self.now.depth - self.now.jump.depth }
     {
         self.depth.saturating_sub(self.jump.depth)
     }
 
-    /// The virtual method at a token, asked for the package that stands there.
+    /// The virtual method at a token, for the package at place `asker`.
     pub(crate) fn method(&self, token: u8, asker: usize) -> Option<MethodName>
         ensures { result ≡ entry_in self.now token asker }
     {
@@ -192,7 +192,7 @@ impl MethodTable {
         }
     }
 
-    /// How many public tokens may lead to a method.
+    /// A bound on the public tokens that have methods.
     pub(crate) fn public_count(&self) -> u8
         ensures most { result ≤ 128 }
         ensures none { (i : ℕ) → result ≤ i → i < 128 → place_at self.now.public i ≡ None }
@@ -200,14 +200,14 @@ impl MethodTable {
         self.public.get().count()
     }
 
-    /// For how many places of packages there is a row of package-visible methods.
+    /// The number of places of packages that have a row of package-visible methods.
     pub(crate) fn visible_count(&self) -> usize
         ensures { result ≡ length self.now.visible }
     {
         self.visible.get().rows.len()
     }
 
-    /// How many package-visible tokens may lead to a method for the package that stands there.
+    /// A bound on the package-visible tokens that have methods for the package at a place.
     pub(crate) fn visible_tokens(&self, place: usize) -> u8
         ensures most { result ≤ 128 }
         ensures none { (i : ℕ) → result ≤ i → i < 128 → place_at (row_at self.now.visible place) i ≡ None }
@@ -218,7 +218,7 @@ impl MethodTable {
         }
     }
 
-    /// Whether the class or a superclass may list an interface.
+    /// Whether the class or a superclass of it may list an interface.
     pub(crate) fn lists(&self) -> bool
         ensures { result ≡ self.now.lists }
     {
@@ -227,7 +227,7 @@ impl MethodTable {
 }
 
 impl PackageTables {
-    /// No tables, with room for so many.
+    /// An empty table, with room for more than `count` classes.
     pub(crate) fn new(alloc: Global, count: usize) -> Result<PackageTables, AllocError>
         ensures none { IfOk result (λ made. (i : ℕ) → place_at made i ≡ None) }
         ensures room { IfOk result (λ made. count < length made) }
@@ -247,7 +247,7 @@ impl PackageTables {
         }
     }
 
-    /// Puts the table of the class with an index.
+    /// Sets the table of the class with an index.
     pub(crate) fn put(&mut self, index: usize, table: MethodTable)
         requires { index < length self.old }
         ensures { self.new ≡ set self.old index (Some table) }
@@ -256,7 +256,7 @@ impl PackageTables {
     }
 }
 
-/// The table of the class above; where there is no class above, one without methods.
+/// The table of the superclass, or one without methods if there is no superclass.
 fn above_or<'t>(above: Option<&'t MethodTable>, none: &'t MethodTable) -> &'t MethodTable
     ensures { result.now ≡ unwrap_or (option_map (λ t. t.now) above.entry) none.now }
 {
@@ -266,7 +266,7 @@ fn above_or<'t>(above: Option<&'t MethodTable>, none: &'t MethodTable) -> &'t Me
     }
 }
 
-/// Up to which token a record's table, or the row of the class above, may have a method.
+/// A bound on the tokens at which a record's table, or the row of the superclass, has a method.
 #[tactic(auto, using(crate::proofs::Tabling::row_ends))]
 fn tokens_over(table: &Table, above: &MethodRow) -> u8
     ensures most { result ≤ 128 }
@@ -280,7 +280,7 @@ fn tokens_over(table: &Table, above: &MethodRow) -> u8
     }
 }
 
-/// Puts empty rows behind others, so that there are so many at least.
+/// Appends empty rows until there are at least `count`.
 fn widen(alloc: Global, rows: &mut Vec<Shared<MethodRow>>, count: usize) -> Result<(), AllocError>
     ensures wide { IfOk result (λ u. count ≤ length rows.new.items) }
     ensures same { IfOk result (λ u. AreSameRows rows.old.items rows.new.items) }
@@ -292,7 +292,7 @@ fn widen(alloc: Global, rows: &mut Vec<Shared<MethodRow>>, count: usize) -> Resu
 }
 
 impl Shapes {
-    /// What the row of a class is to have at a token.
+    /// The method that a class's row has at a token.
     fn row_entry(
         &self,
         home: PackagePlace,
@@ -327,7 +327,7 @@ impl Shapes {
         Ok(MethodRow { methods })
     }
 
-    /// The same, shared with the class above where the record's table has no methods.
+    /// The same, shared with the superclass if the record's table has no methods.
     #[tactic(auto, using(crate::proofs::Tabling::row_shared))]
     fn row_over(
         &self,
@@ -344,7 +344,7 @@ impl Shapes {
         Shared::new(alloc, self.row_made(alloc, home, table, above.get())?)
     }
 
-    /// Puts the package-visible methods of a class into the row of its own package.
+    /// Makes the row of a class's own package, with its package-visible methods.
     fn put_own_row(
         &self,
         alloc: Global,
@@ -360,8 +360,8 @@ impl Shapes {
         Ok(())
     }
 
-    /// The package-visible methods of a class for each package that may find any: those of the class above, but for its
-    /// own package.
+    /// The package-visible methods of a class for each package that may find any: the same as in the superclass, except
+    /// for the class's own package.
     #[tactic(auto, using(crate::proofs::Tabling::visible_right))]
     fn visible_made(
         &self,
@@ -378,7 +378,7 @@ impl Shapes {
         Ok(VisibleRows { rows })
     }
 
-    /// The same, shared with the class above where the record's table has no methods.
+    /// The same, shared with the superclass if the record's table has no methods.
     #[tactic(auto, using(crate::proofs::Tabling::visible_shared))]
     fn visible_over(
         &self,
@@ -395,7 +395,7 @@ impl Shapes {
         Shared::new(alloc, self.visible_made(alloc, home, table, above.get())?)
     }
 
-    /// The table of a class's record, over that of the class above.
+    /// The table of a class's record, over that of its superclass.
     fn table_over(
         &self,
         alloc: Global,
@@ -417,7 +417,7 @@ impl Shapes {
         })
     }
 
-    /// The table of a class or an interface, where that of the class above is known.
+    /// The table of a class or an interface, from that of its superclass.
     pub(crate) fn table_from(
         &self,
         alloc: Global,

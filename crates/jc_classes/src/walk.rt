@@ -4,34 +4,34 @@ ghost use Rattle.std.specs.Prelude.{◌≡◌, ◌⊎◌};
 
 use jc_names::ClassName;
 
-/// How many classes and interfaces there are at most.
+/// The greatest number of classes and interfaces.
 pub(crate) const MOST_CLASSES: u16 = 17_085;
 
-/// The class that a walk remembers behind so many steps: where it stands at each power of two, and else the one before.
-/// A walk that goes round meets it again.
+/// The anchor of a walk after this many steps: the current class at each power of two, and otherwise the anchor before.
+/// A walk along a cycle meets its anchor again.
 pub fn anchor_behind(steps: u16, at: ClassName, anchor: ClassName) -> ClassName
     ensures { (result ≡ at) ⊎ (result ≡ anchor) }
 {
     if steps.is_power_of_two() { at } else { anchor }
 }
 
-/// What a class is for a look-up.
+/// The answer of a class to a look-up.
 #[derive(Drop)]
 pub(crate) enum Visit<A> {
-    /// It has what is looked for.
+    /// It has the result.
     Has(A),
-    /// It says that there is nothing.
+    /// The look-up ends without a result.
     Nothing,
-    /// Its superclass is asked.
+    /// The superclass is asked.
     Above,
 }
 
-/// Where a look-up stands behind a class.
+/// How a look-up goes on after a class.
 #[derive(Drop)]
 pub(crate) enum WalkStep<A> {
-    /// This was found.
+    /// It ends with this result.
     Gives(A),
-    /// There is nothing.
+    /// It ends without a result.
     Ends,
     /// It goes on with this class.
     On(ClassName),

@@ -1,4 +1,4 @@
--- What code may do to a state, or the reason why it may not.
+-- Changes of a state, or the reasons against them.
 use Rattle.std.specs.Prelude.{⊤, ◌≡◌, ℕ, ◌+◌, max, Bool, List, ◌∷◌, length, take, drop, reverse, Option, Some, None}
 use Rattle.std.specs.Prelude.{Result, Ok, Err, nat_lt, if◌then◌else◌, slice_get, slice_set}
 use Rattle.jc_base.specs.declared.reason.Reason.{Reason}
@@ -8,7 +8,7 @@ use Rattle.jc_names.specs.declared.name.ClassName.{ClassName}
 use Rattle.jc_types.specs.declared.ty.Ty.{Ty}
 use Rattle.jc_types.specs.State.{Types, all_below}
 
--- an answer of the code, with the types that it leaves, is this one
+-- the code's result, with the types that it leaves, is this one
 abbrev pub Became : Result ⊤ Reason → Types → Result Types Reason → Type 0
 Became (Ok _) new effect = effect ≡ Ok new
 Became (Err reason) new effect = effect ≡ Err reason
@@ -21,7 +21,7 @@ with_operands s operands = record { locals = s.locals; operands = operands }
 abbrev pub with_local : Types → ℕ → Ty → Types
 with_local s i t = record { locals = slice_set s.locals i t; operands = s.operands }
 
--- what is known of a local that is looked for
+-- the type of a local that is looked up, or the fault
 abbrev pub local_or_fault : Option Ty → Result Ty Reason
 local_or_fault None = Err BadLocal
 local_or_fault (Some t) = Ok t
@@ -30,16 +30,16 @@ local_or_fault (Some t) = Ok t
 unfoldable pub local_type : ℕ → Types → Result Ty Reason
 local_type i s = local_or_fault (slice_get s.locals i)
 
--- a local gets a type
+-- sets the type of a local
 unfoldable pub set_local_type : ℕ → Ty → Types → Result Types Reason
 set_local_type i t s = if nat_lt i (length s.locals) then Ok (with_local s i t) else Err BadLocal
 
--- an operand more, of so many at max_stack
+-- pushes an operand, up to max_stack of them
 unfoldable pub push_type : ℕ → Ty → Types → Result Types Reason
 push_type max_stack t s =
     if nat_lt (length s.operands) max_stack then Ok (with_operands s (t ∷ s.operands)) else Err StackOver
 
--- operands that lie below these types are taken, the last of them from the top
+-- takes operands that are below these types, the last of them from the top
 unfoldable pub take_types : (ClassName → ClassName → Bool) → List Ty → Types → Result Types Reason
 take_types below wanted s =
     if nat_lt (length s.operands) (length wanted) then Err StackUnder
@@ -47,19 +47,19 @@ take_types below wanted s =
     then Ok (with_operands s (drop (length wanted) s.operands))
     else Err WrongType
 
--- so many operands are dropped
+-- drops the top `count` operands
 unfoldable pub drop_types : ℕ → Types → Result Types Reason
 drop_types count s =
     if nat_lt (length s.operands) count then Err StackUnder else Ok (with_operands s (drop count s.operands))
 
--- the top operands are put again below so many
+-- copies the top `count` operands below the top `below`
 unfoldable pub duplicate_types : ℕ → ℕ → ℕ → Types → Result Types Reason
 duplicate_types max_stack count below s =
     if nat_lt (length s.operands) (max count below) then Err StackUnder
     else if nat_lt max_stack (length s.operands + count) then Err StackOver
     else Ok (with_operands s (duplicated count below s.operands))
 
--- the top operands and those below them change places
+-- swaps the top `upper` operands with the `lower` below them
 unfoldable pub swap_types : ℕ → ℕ → Types → Result Types Reason
 swap_types upper lower s =
     if nat_lt (length s.operands) (upper + lower) then Err StackUnder

@@ -18,7 +18,7 @@ is_known known ByteArray = true
 is_known known ShortArray = true
 is_known known (ReferenceArray c) = known c
 
--- so it is of each type of a state
+-- each type of a state is known
 pub record AreKnown (known : ClassName → Bool) (s : Types) : Type 0 where
   pub locals : list_all (is_known known) s.locals ≡ true
   pub operands : list_all (is_known known) s.operands ≡ true

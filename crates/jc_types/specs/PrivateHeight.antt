@@ -1,5 +1,5 @@
--- Private. That the heights of types fall upward, and are bounded, beside a lattice of classes. It stands here since
--- the impl of `Lattice` cites nothing else of its crate.
+-- Private. The heights of types fall upward and are bounded, for a lattice of classes. It stands here since the impl of
+-- `Lattice` cites nothing else of its crate.
 use Rattle.std.proofs.Common.{◌≡◌, ℕ, ◌+◌, ◌<◌, ◌≤◌, ◌⊎◌, inl, inr, Bool, true, false, ap, ◌∙◌, arith}
 use Rattle.std.proofs.lemmas.Bool.{cases_lt}
 use Rattle.jc_api.specs.declared.class.ApiClass.TheVariants.{Object}
@@ -30,7 +30,7 @@ module _ (below : ClassName → ClassName → Bool) (common : ClassName → Clas
           omega (arith, less, down)
       by_case (inr le) = le
 
-  -- what is above Object is Object
+  -- whatever is above Object is Object
   above_object : (d : ClassName) → below (Api Object) d ≡ true → above d ≡ above (Api Object)
   above_object d h = ap above (lattice.order.antisymmetric d (Api Object) (lattice.object d) h)
 
@@ -38,6 +38,6 @@ module _ (below : ClassName → ClassName → Bool) (common : ClassName → Clas
       → height_of above most b < height_of above most a
   height_falls a b h k = grind (arith, lattice.bounded, class_falls, object_lowest, above_object)
 
-  -- upward no height grows
+  -- heights don't grow upward
   pub height_no_more : (a b : Ty) → is_below below a b ≡ true → height_of above most b ≤ height_of above most a
   height_no_more a b h = grind (arith, height_falls, below_both below lattice.order)

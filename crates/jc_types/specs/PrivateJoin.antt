@@ -1,5 +1,5 @@
--- Private. That the join of two types is above both, beside a lattice of classes. It stands here since the impl of
--- `Lattice` cites nothing else of its crate.
+-- Private. The join of two types is above both, for a lattice of classes. It stands here since the impl of `Lattice`
+-- cites nothing else of its crate.
 use Rattle.std.proofs.Common.{◌≡◌, ℕ, Bool, true, arith}
 use Rattle.jc_classes.specs.Subtype.{IsClassLattice}
 use Rattle.jc_names.specs.declared.name.ClassName.{ClassName}

@@ -1,5 +1,5 @@
--- Private. That the order of types is a partial order beside an order of classes: the laws that the impl of `Lattice`
--- carries. They stand here since an impl cites nothing else of its crate.
+-- Private. The order of types is a partial order for an order of classes: the laws of the impl of `Lattice`. They stand
+-- here since an impl cites nothing else of its crate.
 use Rattle.std.proofs.Common.{◌≡◌, Bool, true, arith}
 use Rattle.jc_classes.specs.Subtype.{IsOrder}
 use Rattle.jc_names.specs.declared.name.ClassName.{ClassName}

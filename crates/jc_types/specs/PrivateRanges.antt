@@ -1,9 +1,9 @@
--- Private. Locals that two states have in common but for a range of them.
+-- Private. Locals that two states have in common outside of a range.
 use Rattle.std.specs.Prelude.{◌≡◌, ◌≤◌, List, length, take, drop}
 use Rattle.jc_types.specs.declared.ranges.LocalRange.{LocalRange}
 use Rattle.jc_types.specs.declared.ty.Ty.{Ty}
 
--- as many types in both, the same ones in front of a range and behind it
+-- as many types in both, equal before a range and after it
 pub record AgreeOutside (range : LocalRange) (old new : List Ty) : Type 0 where
   pub count : length old ≡ length new
   pub ordered : range.first ≤ range.behind

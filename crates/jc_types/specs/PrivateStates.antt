@@ -1,6 +1,5 @@
--- Private. That lists of types and states, point by point, are ordered and joined as types are, and that their heights
--- fall upward, beside a lattice of classes: the laws that the impl of `Lattice` carries. They stand here since an impl
--- cites nothing else of its crate.
+-- Private. Lists of types and states are ordered and joined element by element, and their heights fall upward, for a
+-- lattice of classes: the laws of the impl of `Lattice`. They stand here since an impl cites nothing else of its crate.
 use Rattle.std.proofs.Common.{◌≡◌, ℕ, suc, ◌<◌, ◌≤◌, ◌==◌, ◌⊎◌, inl, inr, Bool, true, false, ◌&&◌, List, [], ◌∷◌}
 use Rattle.std.proofs.Common.{length, refl, ap, ◌∙◌, arith}
 use Rattle.std.proofs.lemmas.Bool.{eqb-true, eq-eqb}
@@ -58,7 +57,7 @@ module _ (below : ClassName → ClassName → Bool) (order : IsOrder below) wher
   pub types_below_self : (s : Types) → types_below below s s ≡ true
   types_below_self s = rw (all_below_self s.locals, all_below_self s.operands) refl
 
-  -- the state that these locals and operands are
+  -- the state with these locals and operands
   abbrev state_of : List Ty → List Ty → Types
   state_of locals operands = record { locals = locals; operands = operands }
 
@@ -89,7 +88,7 @@ same_lengths below (a ∷ ts) [] h = absurd cc
 same_lengths below (a ∷ ts) (b ∷ us) h =
     ap (λ n. suc n) (same_lengths below ts us (both_true (is_below below a b) (all_below below ts us) h).1)
 
--- two lists below one have one length
+-- two lists below one list have one length
 one_length : (below : ClassName → ClassName → Bool) (ts us vs : List Ty) → all_below below ts vs ≡ true
     → all_below below us vs ≡ true → (length ts == length us) ≡ true
 one_length below ts us vs h k = grind (arith, eq-eqb, same_lengths)
@@ -156,11 +155,11 @@ module _ (below : ClassName → ClassName → Bool) (common : ClassName → Clas
   pub is_join : (s t : Types) → has_shape_of s t ≡ true → IsJoin below s t (joined_types common s t)
   is_join s t h = record { first = types_above_one s t h; second = types_above_other s t h; least = types_least s t }
 
-  -- how many steps upward there are from a list
+  -- the height of a list
   abbrev steps : List Ty → ℕ
   steps ts = sum_by (height_of above most) ts
 
-  -- upward no sum of heights grows
+  -- sums of heights don't grow upward
   all_no_more : (ts us : List Ty) → all_below below ts us ≡ true → steps us ≤ steps ts
   all_no_more [] [] h = omega arith
   all_no_more [] (b ∷ us) h = absurd cc

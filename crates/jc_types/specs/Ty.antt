@@ -11,7 +11,7 @@ use Rattle.jc_types.specs.declared.ty.Ty.{Ty}
 use Rattle.jc_types.specs.declared.ty.Ty.TheVariants.{Top, Word, Null, Class, BooleanArray, ByteArray, ShortArray}
 use Rattle.jc_types.specs.declared.ty.Ty.TheVariants.{ReferenceArray}
 
--- the type of what is declared so: boolean, byte and short are words
+-- the verification type of a declared type: boolean, byte and short are words
 abbrev pub type_of_declared : DeclaredType ClassName → Ty
 type_of_declared Declared.Boolean = Word
 type_of_declared Declared.Byte = Word
@@ -22,7 +22,7 @@ type_of_declared Declared.ByteArray = ByteArray
 type_of_declared Declared.ShortArray = ShortArray
 type_of_declared (Declared.ReferenceArray c) = ReferenceArray c
 
--- the class of the objects of a type: that of arrays is Object
+-- the class of the objects of a type: for arrays it is Object
 abbrev pub class_of_objects : Ty → Option ClassName
 class_of_objects Top = None
 class_of_objects Word = None
@@ -99,9 +99,8 @@ is_short_array ByteArray = false
 is_short_array ShortArray = true
 is_short_array (ReferenceArray c) = false
 
--- whatever is of the first type is also of the second, beside an order of classes. Top is above all, Word is below Top
--- alone, Null is below each type of references; an array is below what Object is below, and arrays of references are
--- ordered as their components
+-- the order of types, for an order of classes. Top is above all, Word is below Top alone, Null is below each type of
+-- references; an array is below what Object is below, and arrays of references are ordered as their components
 abbrev pub is_below : (ClassName → ClassName → Bool) → Ty → Ty → Bool
 is_below below t Top = true
 is_below below t Word = is_word t
@@ -131,7 +130,7 @@ join_of_word u = if is_word u then Word else Top
 abbrev pub join_of_null : Ty → Ty
 join_of_null u = if is_reference u then u else Top
 
--- the least type above a class and another type, beside the least class above two
+-- the least type above a class and another type, for the least class above two
 abbrev pub join_of_class : (ClassName → ClassName → ClassName) → ClassName → Ty → Ty
 join_of_class common c Top = Top
 join_of_class common c Word = Top
@@ -175,7 +174,7 @@ join_of_short_array ByteArray = Class (Api Object)
 join_of_short_array ShortArray = ShortArray
 join_of_short_array (ReferenceArray d) = Class (Api Object)
 
--- the least type above arrays of references and another type, beside the least class above two
+-- the least type above arrays of references and another type, for the least class above two
 abbrev pub join_of_reference_array : (ClassName → ClassName → ClassName) → ClassName → Ty → Ty
 join_of_reference_array common c Top = Top
 join_of_reference_array common c Word = Top
@@ -186,7 +185,7 @@ join_of_reference_array common c ByteArray = Class (Api Object)
 join_of_reference_array common c ShortArray = Class (Api Object)
 join_of_reference_array common c (ReferenceArray d) = ReferenceArray (common c d)
 
--- the least type above two, beside the least class above two
+-- the least type above two, for the least class above two
 abbrev pub join_of : (ClassName → ClassName → ClassName) → Ty → Ty → Ty
 join_of common Top u = Top
 join_of common Word u = join_of_word u
@@ -197,8 +196,8 @@ join_of common ByteArray u = join_of_byte_array u
 join_of common ShortArray u = join_of_short_array u
 join_of common (ReferenceArray c) u = join_of_reference_array common c u
 
--- how many steps upward there are from a type at most, beside the number of classes above each one, and the most that
--- any has
+-- the height of a type: a bound on the steps upward from it, from the number of classes above each class, and the
+-- greatest such number
 abbrev pub height_of : (ClassName → ℕ) → ℕ → Ty → ℕ
 height_of above most Top = 0
 height_of above most Word = 1

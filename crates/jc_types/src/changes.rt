@@ -1,4 +1,4 @@
-//! What code may do to a state.
+//! Changes of a state.
 
 ghost use Rattle.std.specs.Prelude.{◌≡◌, ◌<◌, ◌≤◌, ◌&&◌, ◌==◌, ◌+◌, [], ◌∷◌, length, take, drop, reverse, slice_get};
 ghost use Rattle.std.specs.Prelude.{true, IfErr};
@@ -16,7 +16,8 @@ use jc_base::Reason;
 use jc_base::stack::{duplicate_top, swap_top};
 use jc_classes::ClassTable;
 
-/// Whether lists of one length lie point by point one below the other, beside an order of classes.
+/// Whether one list of types is below another, element by element, for an order of classes. Lists of different lengths
+/// aren't.
 pub fn are_below<C: ClassOrder>(lower: &[Ty], upper: &[Ty], classes: &C) -> bool
     ensures { result ≡ all_below (C.lies_below classes.now) lower.now upper.now }
 {
@@ -53,7 +54,7 @@ impl State {
         }
     }
 
-    /// Gives a local a type, or `BadLocal`; the state is unchanged then.
+    /// Sets the type of a local, or reports `BadLocal`; then the state is unchanged.
     #[tactic(auto, unfolding(crate::specs::Changes::set_local_type))]
     pub fn set_local(&mut self, index: u8, ty: Ty) -> Result<(), Reason>
         ensures became { Became result self.new.types (set_local_type index ty self.old.types) }
@@ -70,7 +71,7 @@ impl State {
         }
     }
 
-    /// Puts an operand on top, of at most `max_stack`, or `StackOver`; the state is unchanged then.
+    /// Pushes an operand, of at most `max_stack`, or reports `StackOver`; then the state is unchanged.
     #[tactic(auto, unfolding(crate::specs::Changes::push_type))]
     pub fn push(&mut self, max_stack: u8, ty: Ty) -> Result<(), Reason>
         requires { max_stack ≤ self.old.room }
@@ -87,8 +88,8 @@ impl State {
         Ok(())
     }
 
-    /// Takes operands that lie below these types, the last of them from the top: `StackUnder`, then `WrongType`; the
-    /// state is unchanged then.
+    /// Takes operands that are below these types, the last of them from the top. It reports `StackUnder`, then
+    /// `WrongType`; then the state is unchanged.
     #[tactic(auto, unfolding(crate::specs::Changes::take_types))]
     pub fn take<C: ClassOrder>(&mut self, wanted: &[Ty], classes: &C) -> Result<(), Reason>
         ensures became { Became result self.new.types
@@ -108,7 +109,7 @@ impl State {
         Ok(())
     }
 
-    /// Drops the top operands, or `StackUnder`; the state is unchanged then.
+    /// Drops the top operands, or reports `StackUnder`; then the state is unchanged.
     #[tactic(auto, unfolding(crate::specs::Changes::drop_types))]
     pub fn drop_top(&mut self, count: u8) -> Result<(), Reason>
         ensures became { Became result self.new.types (drop_types count self.old.types) }
@@ -124,8 +125,8 @@ impl State {
         Ok(())
     }
 
-    /// Puts the top `count` operands again below the top `below`: `StackUnder`, then `StackOver`;
-    /// the state is unchanged then.
+    /// Copies the top `count` operands below the top `below`. It reports `StackUnder`, then `StackOver`; then the state
+    /// is unchanged.
     #[tactic(auto, unfolding(crate::specs::Changes::duplicate_types))]
     pub fn duplicate(&mut self, max_stack: u8, count: u8, below: u8) -> Result<(), Reason>
         requires { max_stack ≤ self.old.room }
@@ -147,8 +148,8 @@ impl State {
         Ok(())
     }
 
-    /// Lets the top `upper` operands and the `lower` below them change places, or `StackUnder`; the
-    /// state is unchanged then.
+    /// Swaps the top `upper` operands with the `lower` below them, or reports `StackUnder`; then the state is
+    /// unchanged.
     #[tactic(auto, unfolding(crate::specs::Changes::swap_types))]
     pub fn swap(&mut self, upper: u8, lower: u8) -> Result<(), Reason>
         ensures became { Became result self.new.types (swap_types upper lower self.old.types) }
@@ -205,7 +206,7 @@ impl State {
         self.locals.len() == other.locals.len() && self.depth == other.depth
     }
 
-    /// Joins it with another one of its shape.
+    /// Replaces it with its join with another one of the same shape.
     pub(crate) fn join_with(&mut self, other: &State, table: &ClassTable)
         requires { has_shape_of self.old.types other.now.types ≡ true }
         ensures types { self.new.types ≡ joined_types (common_class table.now) self.old.types other.now.types }
@@ -224,7 +225,7 @@ impl State {
         &self.slots[self.depth - count..self.depth]
     }
 
-    /// Drops the top operands, of which there are so many.
+    /// Drops the top `count` operands, of which there are enough.
     #[inline]
     pub fn drop_operands(&mut self, count: usize)
         requires { count ≤ length self.old.types.operands }
@@ -235,7 +236,7 @@ impl State {
         self.depth -= count;
     }
 
-    /// Puts an operand on top, for which there is room.
+    /// Pushes an operand, for which there is room.
     #[inline]
     pub fn put(&mut self, ty: Ty)
         requires { length self.old.types.operands < self.old.room }
@@ -247,7 +248,7 @@ impl State {
         self.depth += 1;
     }
 
-    /// Gives a local a type, where there is one with that index.
+    /// Sets the type of a local that exists.
     #[inline]
     pub fn put_local(&mut self, index: u8, ty: Ty)
         requires { index < length self.old.types.locals }
@@ -258,7 +259,7 @@ impl State {
         self.locals[usize::from(index)] = ty;
     }
 
-    /// Takes over the types that a certificate states, the bottom operand first.
+    /// Replaces the types with those that a certificate states, the bottom operand first.
     pub fn load(&mut self, locals: &[Ty], operands: &[Ty])
         requires locals { length locals.now ≡ length self.old.types.locals }
         requires operands { length operands.now ≤ self.old.room }
@@ -270,7 +271,7 @@ impl State {
         self.depth = operands.len();
     }
 
-    /// Whether it lies below the types that a certificate states, the bottom operand first.
+    /// Whether it is below the types that a certificate states, the bottom operand first.
     #[tactic(auto, using(crate::proofs::Turned::reversed))]
     pub fn is_below<C: ClassOrder>(&self, locals: &[Ty], operands: &[Ty], classes: &C) -> bool
         ensures { result ≡ types_below (C.lies_below classes.now) self.now.types
@@ -280,7 +281,7 @@ impl State {
             && are_below(&self.slots[..self.depth], operands, classes)
     }
 
-    /// Whether its locals, with a type as the one operand, lie below the types that a certificate states.
+    /// Whether its locals, with one operand of a type, are below the types that a certificate states.
     #[tactic(auto, using(crate::proofs::Turned::reversed))]
     pub fn is_below_with<C: ClassOrder>(
         &self,

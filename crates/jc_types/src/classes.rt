@@ -8,11 +8,11 @@ use jc_api::ApiClass;
 use jc_classes::ClassTable;
 use jc_names::ClassName;
 
-/// Classes in an order: those of a table, or none.
+/// An order of classes: that of a table, or that without classes.
 pub trait ClassOrder {
     ghost lies_below: { Self → ClassName → ClassName → Bool };
 
-    /// Whether a class is the other one or lies below it.
+    /// Whether a class is the other one or below it.
     fn is_class_below(&self, class: ClassName, above: ClassName) -> bool
         ensures { result ≡ lies_below self.now class above };
 }
@@ -25,7 +25,7 @@ impl ClassOrder for ClassTable {
     }
 }
 
-/// Where there are no classes, as with code alone: each name is below itself and below Object.
+/// The order without classes, as for code alone: each name is below itself and below Object.
 #[derive(Clone, Copy, Debug, PartialEq, Eq)]
 pub struct NoClasses;
 

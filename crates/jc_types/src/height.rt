@@ -1,4 +1,4 @@
-//! How many steps upward there are from types.
+//! Heights of types: bounds on the steps upward from them.
 
 ghost use Rattle.std.specs.Prelude.{◌≡◌, ◌≤◌, ◌*◌, ◌^◌, length};
 ghost use Rattle.std.specs.List.{sum_by};
@@ -11,12 +11,12 @@ use jc_api::ApiClass;
 use jc_classes::ClassTable;
 use jc_names::ClassName;
 
-/// How many classes and interfaces there are at most.
+/// The greatest number of classes and interfaces.
 const MOST_CLASSES: u32 = 17_085;
-/// What is above all classes and interfaces.
+/// The class above all classes and interfaces.
 const OBJECT: ClassName = ClassName::Api(ApiClass::Object);
 
-/// How many steps upward there are from a type at most.
+/// The greatest number of steps upward from a type.
 #[tactic(auto, using(crate::proofs::NoWorld::most_is))]
 pub(crate) fn height_of(ty: Ty, table: &ClassTable) -> u32
     ensures { result ≡ height_of (classes_above table.now) most_classes ty }
@@ -33,7 +33,7 @@ pub(crate) fn height_of(ty: Ty, table: &ClassTable) -> u32
     }
 }
 
-/// How many steps upward there are from types together at most.
+/// The sum of the heights of types.
 pub(crate) fn height_of_all(types: &[Ty], table: &ClassTable) -> u128
     ensures sum { result ≡ sum_by (height_of (classes_above table.now) most_classes) types.now }
     ensures small { result ≤ length types.now * 2 ^ 32 }

@@ -11,7 +11,7 @@ use jc_api::ApiClass;
 use jc_classes::ClassTable;
 use jc_names::ClassName;
 
-/// Any object.
+/// The type of all objects.
 const OBJECT: Ty = Ty::Class(ClassName::Api(ApiClass::Object));
 
 fn join_of_word(other: Ty) -> Ty
@@ -94,7 +94,7 @@ pub(crate) fn join_of(one: Ty, other: Ty, table: &ClassTable) -> Ty
     }
 }
 
-/// Puts the joins of the first types with others in place of these first ones.
+/// Replaces the first types with their joins with others.
 pub(crate) fn join_front(types: &mut [Ty], others: &[Ty], table: &ClassTable)
     requires { length others.now ≤ length types.old }
     ensures front { take (length others.now) types.new ≡ joined_all (common_class table.now) types.old others.now }

@@ -9,8 +9,9 @@ ghost use Rattle.jc_types.specs.Known.{AreKnown, is_known};
 ghost use Rattle.jc_types.specs.State.{Types, entry_types, joined_types};
 ghost use Rattle.jc_types.specs.declared.ty.Ty.{Ty};
 
-/// Where Object is known, and the class above two of which the first is known, a join of states names known classes if
-/// both do; and what a method begins with does if its arguments do. It does nothing.
+/// Suppose that Object is known, and that the common class of two is known if the first is. Then a join of two states
+/// names only known classes if both states do, and the state at a method's entry does if its arguments do. It does
+/// nothing.
 pub fn known_laws()
     ensures joins { (known : ClassName → Bool) (common : ClassName → ClassName → ClassName) → known (Api Object) ≡ true
         → ((c d : ClassName) → known c ≡ true → known (common c d) ≡ true)

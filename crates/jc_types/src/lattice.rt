@@ -25,9 +25,9 @@ use crate::ty::Ty;
 use jc_classes::{ClassTable, superclass_laws};
 use std::alloc::{AllocError, Global};
 
-/// Values in an order, read beside a table, as types are beside one of classes. Each two of one shape have a least
-/// value above both, and their heights fall with each step upward. The laws hold beside a sound table: one whose
-/// classes have both, too. `order_laws` says which are.
+/// Values in an order that depends on a table, as the order of types depends on a table of classes. Any two values of
+/// one shape have a least value above both, and heights fall with each step upward. The laws hold for a sound table.
+/// `order_laws` says which tables are sound for types and states.
 pub trait Lattice: Sized {
     type Table;
 
@@ -35,32 +35,32 @@ pub trait Lattice: Sized {
 
     ghost is_sound: { Self.Table → Type 0 };
 
-    // Of one shape.
+    // Whether two values have one shape.
     ghost fits: { Self → Self → Bool };
 
     ghost join_of: { Self.Table → Self → Self → Self };
 
     ghost height_of: { Self.Table → Self → ℕ };
 
-    // The same but for what the order doesn't see.
+    // Whether two values are equal as far as the order sees.
     ghost is_alike: { Self → Self → Type 0 };
 
-    /// Whether whatever is of this type is also of the other.
+    /// Whether this value is below the other.
     fn below(&self, other: &Self, table: &Self::Table) -> bool
         ensures { result ≡ lies_below table.now self.now other.now };
 
-    /// Puts the least value above both in place of this one. Where the two aren't of one shape it answers false and
-    /// nothing changes.
+    /// Replaces this value with the least value above both. If the two have different shapes, it returns false and
+    /// changes nothing.
     fn join(&mut self, other: &Self, table: &Self::Table) -> bool
         ensures fits { result ≡ fits self.old other.now }
         ensures joined { fits self.old other.now ≡ true → self.new ≡ join_of table.now self.old other.now }
         ensures kept { fits self.old other.now ≡ false → self.new ≡ self.old };
 
-    /// How many steps upward there are from it at most.
+    /// The greatest number of steps upward from it.
     fn height(&self, table: &Self::Table) -> u128
         ensures { result ≡ height_of table.now self.now };
 
-    /// The same value once more.
+    /// A copy.
     fn copy(&self, alloc: Global) -> Result<Self, AllocError>
         ensures { IfOk result (λ copied. copied ≡ self.now) };
 
@@ -202,9 +202,9 @@ impl Lattice for State {
         (classes_above table) most_classes sound s.types t.types };
 }
 
-/// The order of states, point by point, is a partial order beside an order of classes; beside a lattice of classes each
-/// two states of one shape have a least one above both, and the heights of states fall upward and are bounded. The
-/// classes of a table are such a lattice where no superclass chain has a cycle, every listed interface is an interface,
+/// The order of states, element by element, is a partial order for an order of classes. For a lattice of classes, any
+/// two states of one shape have a least state above both, and the heights of states fall upward and are bounded. The
+/// classes of a table are such a lattice if no superclass chain has a cycle, every listed interface is an interface,
 /// and Object has no superclass. It does nothing.
 pub fn order_laws()
     ensures tables { (world : List Shape) → IsOrderly world → superclass_of world (Api Object) ≡ None

@@ -8,7 +8,7 @@ use crate::classes::ClassOrder;
 use crate::ty::Ty;
 use jc_names::ClassName;
 
-/// Whether there is a class, and it is the other one or lies below it.
+/// Whether there is a class, and it is the other one or below it.
 fn is_some_below<C: ClassOrder>(class: Option<ClassName>, above: ClassName, classes: &C) -> bool
     ensures { result ≡ option_map_or (λ c. C.lies_below classes.now c above) class false }
 {
@@ -18,7 +18,7 @@ fn is_some_below<C: ClassOrder>(class: Option<ClassName>, above: ClassName, clas
     }
 }
 
-/// Whether whatever is of a type is also of the other, beside an order of classes.
+/// Whether a type is below another, for an order of classes.
 pub fn is_below<C: ClassOrder>(lower: Ty, upper: Ty, classes: &C) -> bool
     ensures { result ≡ is_below (C.lies_below classes.now) lower upper }
 {

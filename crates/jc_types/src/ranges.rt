@@ -9,14 +9,14 @@ use crate::changes::are_below;
 use crate::classes::ClassOrder;
 use crate::ty::Ty;
 
-/// Some locals of a method: from the index `first` on, up to the one before `behind`.
+/// A range of a method's locals: from the index `first` to before `after`.
 #[derive(Clone, Copy)]
 pub struct LocalRange {
     pub first: usize,
     pub behind: usize,
 }
 
-/// How many types in front are the same in both lists.
+/// How many types at the front are equal in both lists.
 fn same_in_front(old: &[Ty], new: &[Ty]) -> usize
     requires { length old.now ≡ length new.now }
     ensures within { result ≤ length new.now }
@@ -29,7 +29,7 @@ fn same_in_front(old: &[Ty], new: &[Ty]) -> usize
     count
 }
 
-/// The index from which on all types are the same in both lists, at least `first`.
+/// The index from which all types are equal in both lists, at least `first`.
 fn same_from(old: &[Ty], new: &[Ty], first: usize) -> usize
     requires count { length old.now ≡ length new.now }
     requires first { first ≤ length new.now }
@@ -44,7 +44,7 @@ fn same_from(old: &[Ty], new: &[Ty], first: usize) -> usize
     behind
 }
 
-/// The least range outside of which the locals of two states agree.
+/// A range outside of which the locals of two states agree.
 pub fn differing(old: &[Ty], new: &[Ty]) -> LocalRange
     requires { length old.now ≡ length new.now }
     ensures { AgreeOutside result old.now new.now }
@@ -54,8 +54,8 @@ pub fn differing(old: &[Ty], new: &[Ty]) -> LocalRange
     LocalRange { first, behind }
 }
 
-/// Whether types lie below others point by point, where types that agree with them outside of a range did. It looks at
-/// the range alone.
+/// Whether types are below others, element by element, if types that agree with them outside of a range are. It tests
+/// only the range.
 pub fn are_below_within<C: ClassOrder>(
     lower: &[Ty],
     upper: &[Ty],

@@ -40,8 +40,8 @@ fn push_tops(types: &mut Vec<Ty>, count: usize) -> Result<(), AllocError>
 }
 
 impl State {
-    /// The state at the entry of a method: its arguments, `max_locals` locals more of which nothing is known,
-    /// and no operands, with room for `max_stack` of them. Memory is taken here and nowhere else.
+    /// The state at the entry of a method: its arguments, `max_locals` more locals of type Top, and no operands, with
+    /// room for `max_stack` of them. It allocates all memory of the state.
     pub fn entry(
         alloc: Global,
         arguments: &[Ty],
@@ -62,7 +62,7 @@ impl State {
         })
     }
 
-    /// The same state once more, with as much room.
+    /// A copy with as much room.
     pub(crate) fn copied(&self, alloc: Global) -> Result<State, AllocError>
         ensures { IfOk result (λ state. state ≡ self.now) }
     {

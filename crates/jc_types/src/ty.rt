@@ -8,10 +8,10 @@ use jc_api::ApiClass;
 use jc_base::DeclaredType;
 use jc_names::ClassName;
 
-/// What is above all classes and interfaces.
+/// The class above all classes and interfaces.
 const OBJECT: ClassName = ClassName::Api(ApiClass::Object);
 
-/// What is known of a local or an operand.
+/// The type of a local or an operand.
 #[derive(Clone, Copy, Debug, PartialEq, Eq)]
 pub enum Ty {
     /// Nothing is known: it may hold anything, and may never have been written.
@@ -33,7 +33,7 @@ pub enum Ty {
 }
 
 impl Ty {
-    /// The type of what is declared so.
+    /// The verification type of a declared type.
     pub fn of(declared: DeclaredType<ClassName>) -> Ty
         ensures { result ≡ type_of_declared declared }
     {
@@ -92,7 +92,7 @@ impl Ty {
         }
     }
 
-    /// Whether it is one of references.
+    /// Whether it is a type of references.
     pub(crate) fn is_reference(self) -> bool
         ensures { result ≡ is_reference self }
     {
@@ -103,7 +103,7 @@ impl Ty {
         }
     }
 
-    /// Whether it is that of arrays of booleans.
+    /// Whether it is the type of arrays of booleans.
     pub(crate) fn is_boolean_array(self) -> bool
         ensures { result ≡ is_boolean_array self }
     {
@@ -114,7 +114,7 @@ impl Ty {
         }
     }
 
-    /// Whether it is that of arrays of bytes.
+    /// Whether it is the type of arrays of bytes.
     pub(crate) fn is_byte_array(self) -> bool
         ensures { result ≡ is_byte_array self }
     {
@@ -125,7 +125,7 @@ impl Ty {
         }
     }
 
-    /// Whether it is that of arrays of shorts.
+    /// Whether it is the type of arrays of shorts.
     pub(crate) fn is_short_array(self) -> bool
         ensures { result ≡ is_short_array self }
     {

@@ -1,4 +1,4 @@
--- Rows as the code has them: what is demanded of arguments stands there as their declared types.
+-- Rows of the code, in which the demands on arguments are their declared types.
 use Rattle.std.specs.Prelude.{ℕ, List, [], ◌∷◌, map, Option, Some, None}
 use Rattle.jc_base.specs.declared.class_ref.ClassRef.{ClassRef}
 use Rattle.jc_base.specs.declared.declared_type.DeclaredType.{DeclaredType}
@@ -16,20 +16,20 @@ use Rattle.jc_effects.specs.declared.row.Demand.{Demand}
 use Rattle.jc_effects.specs.declared.row.Demand.TheVariants.{Below, Reference}
 use Rattle.jc_effects.specs.Row.{Row}
 
--- an argument lies below what is declared
+-- the demand on an argument: below its declared type
 abbrev pub argument : DeclaredType ClassName → Demand
 argument declared = Below (type_of_declared declared)
 
--- an argument whose type is looked for; where it isn't found, anything
+-- the demand on an argument whose type is resolved: below that type, or none if it doesn't resolve
 abbrev pub argument_found : Option (DeclaredType ClassName) → Demand
 argument_found None = Below Top
 argument_found (Some declared) = argument declared
 
--- an argument whose type is spelled in the package that stands there
+-- the demand on an argument whose type the package at place `home` spells
 abbrev pub argument_spelled : List Shape → ℕ → DeclaredType ClassRef → Demand
 argument_spelled world home declared = argument_found (type_found (type_class world home) declared)
 
--- what operands have to be, the deepest first
+-- the demands on operands, the deepest first
 abbrev pub demands_of : Wanted → List Demand
 demands_of Wants.Nothing = []
 demands_of (Wants.One a) = a ∷ []
@@ -40,7 +40,7 @@ demands_of (Wants.ObjectAndArguments object types) = object ∷ map argument typ
 demands_of (Wants.Spelled table interface types) =
     Reference ∷ map (argument_spelled table.now (home_of interface)) types.now
 
--- a row
+-- the code's row as this record
 abbrev pub row_said : code.Row → Row
 row_said row =
     record {

@@ -1,4 +1,4 @@
--- The effect of an instruction on types: the state behind it, or the first reason against it.
+-- The effect of an instruction on types: the state after it, or the first reason against it.
 use Rattle.std.specs.Prelude.{ℕ, Result}
 use Rattle.jc_base.specs.declared.reason.Reason.{Reason}
 use Rattle.jc_code.specs.declared.instr.Operation.{Operation}
@@ -9,7 +9,7 @@ use Rattle.jc_effects.specs.Row.{applied}
 use Rattle.jc_effects.specs.Words.{word_effect}
 use Rattle.jc_effects.specs.Objects.{Setting, object_row}
 
--- in a method with this setting, of so many operands at most
+-- the effect in a method with this setting, of at most `most` operands
 unfoldable pub effect_of : Setting → ℕ → Operation → Types → Result Types Reason
 effect_of set most (Word operation) s = word_effect (is_class_below set.world) most set.returned operation s
 effect_of set most (Object operation) s = applied (is_class_below set.world) most (object_row set operation) s

@@ -1,4 +1,4 @@
--- What the instructions on references do to types, by what the constant pool of their package leads to (Java Card
+-- The effects of the instructions on references on types, with the targets of their package's constant pool (Java Card
 -- Virtual Machine Specification, instruction set).
 use Rattle.std.specs.Prelude.{ℕ, ◌+◌, ◌==◌, Bool, true, false, ◌&&◌, not, List, [], ◌∷◌, ◌++◌, length, map, Option}
 use Rattle.std.specs.Prelude.{Some, None, is_some, slice_get, if◌then◌else◌}
@@ -52,8 +52,8 @@ use Rattle.jc_effects.specs.declared.row.Given.TheVariants.{Nothing, Exactly, Of
 use Rattle.jc_effects.specs.Row.{Row, is_object_or_null}
 use Rattle.jc_effects.specs.Words.{takes, reads, writes, word}
 
--- what the code of a method is read against: the world, what the entries of its package's constant pool lead to, and
--- the type of its result, if it gives one
+-- the setting of a method's code: the world, the targets of its package's constant pool, and the type of its result,
+-- unless it is void
 pub record Setting : Type 0 where
   pub world : List Shape
   pub targets : List PoolTarget
@@ -61,20 +61,20 @@ pub record Setting : Type 0 where
 
 -- ---- arrays
 
--- the array that holds components of a form
+-- the demand on an array with components of a form
 abbrev pub array_of : Form → Demand
 array_of Forms.Reference = Below (ReferenceArray (Api Object))
 array_of Forms.Byte = Bytes
 array_of Forms.Short = Below ShortArray
 
--- what is loaded from it
+-- the type of a component that is loaded from it
 abbrev pub component_loaded : Form → Given
 component_loaded Forms.Reference = ComponentOf 0
 component_loaded Forms.Byte = Exactly Word
 component_loaded Forms.Short = Exactly Word
 
--- what may be stored in it. Any reference may be stored by its type: the class of the array's components is tested when
--- it is stored
+-- the demand on a component that is stored in it. The type of a reference isn't tested here: the class of the array's
+-- components is tested when the instruction runs
 abbrev pub component_stored : Form → Demand
 component_stored Forms.Reference = Reference
 component_stored Forms.Byte = word
@@ -82,7 +82,7 @@ component_stored Forms.Short = word
 
 -- ---- branches
 
--- the references that a branch compares
+-- the demands on the references that a branch compares
 abbrev pub references_compared : ReferenceCondition → List Demand
 references_compared Conditions.Null = Reference ∷ []
 references_compared Conditions.NotNull = Reference ∷ []
@@ -91,7 +91,7 @@ references_compared Conditions.Different = Reference ∷ Reference ∷ []
 
 -- ---- fields
 
--- whether the instructions of a form are for fields of a type
+-- whether the instructions of a form take fields of a type
 abbrev pub is_form_of : Form → DeclaredType ClassName → Bool
 is_form_of Forms.Reference Declared.Boolean = false
 is_form_of Forms.Reference Declared.Byte = false
@@ -118,50 +118,50 @@ is_form_of Forms.Short Declared.ByteArray = false
 is_form_of Forms.Short Declared.ShortArray = false
 is_form_of Forms.Short (Declared.ReferenceArray c) = false
 
--- a field of a class
+-- the row for a static field
 abbrev pub static_row : FieldAction → Ty → Row
 static_row Get t = takes [] (Exactly t)
 static_row Put t = takes (Below t ∷ []) Nothing
 
--- a field of an object of a class, that is an operand
+-- the row for an instance field, with the object on the operand stack
 abbrev pub operand_row : FieldAction → ClassName → Ty → Row
 operand_row Get class t = takes (Below (Class class) ∷ []) (Exactly t)
 operand_row Put class t = takes (Below (Class class) ∷ Below t ∷ []) Nothing
 
--- or that local 0 holds
+-- the row for an instance field of the object in local 0
 abbrev pub this_row : FieldAction → ClassName → Ty → Row
 this_row Get class t = reads 0 (Below (Class class)) [] (Exactly t)
 this_row Put class t = reads 0 (Below (Class class)) (Below t ∷ []) Nothing
 
--- a row that applies only where this holds
+-- a row that applies only if this holds
 abbrev pub if_form : Bool → Row → Row
 if_form fits row = record row { fits = fits }
 
--- the field of a class, by what holds it: such an instruction has no object
+-- the row for a static field, by its holder; such an instruction has no object
 abbrev pub static_holder_row : Holder → FieldAction → Ty → Option Row
 static_holder_row Holders.Class action t = Some (static_row action t)
 static_holder_row Holders.Operand action t = None
 static_holder_row Holders.This action t = None
 
--- the field of an object, by what holds it
+-- the row for an instance field, by its holder
 abbrev pub object_holder_row : Holder → FieldAction → ClassName → Ty → Option Row
 object_holder_row Holders.Class action class t = None
 object_holder_row Holders.Operand action class t = Some (operand_row action class t)
 object_holder_row Holders.This action class t = Some (this_row action class t)
 
--- an instruction on a field of a class, that is declared so
+-- the row for a static field with a declared type
 abbrev pub row_of_static : FieldAccess → DeclaredType ClassName → Option Row
 row_of_static access declared =
     option_map (if_form (is_form_of access.form declared))
     (static_holder_row access.holder access.action (type_of_declared declared))
 
--- an instruction on a field of objects of a class, that is declared so
+-- the row for an instance field with a declared type
 abbrev pub row_of_instance : FieldAccess → ClassName → DeclaredType ClassName → Option Row
 row_of_instance access class declared =
     option_map (if_form (is_form_of access.form declared))
     (object_holder_row access.holder access.action class (type_of_declared declared))
 
--- an entry of the pool that is a field, and one that the instruction is for
+-- the row for a target that is a field of the instruction's kind
 abbrev pub field_row : FieldAccess → PoolTarget → Option Row
 field_row access (To.Class c) = None
 field_row access (To.InstanceField class cell declared) = row_of_instance access class declared
@@ -172,12 +172,12 @@ field_row access (To.StaticMethod class method is_static signature) = None
 
 -- ---- calls
 
--- what a call puts
+-- what a call pushes
 abbrev pub result_given : ReturnType ClassName → Given
 result_given Void = Nothing
 result_given (Value declared) = Exactly (type_of_declared declared)
 
--- a call: the object, if there is one, and the arguments lie below what is declared
+-- the row of a call: the object, if there is one, and the arguments are below their declared types
 abbrev pub call : List Demand → Signature ClassName → Row
 call object signature =
     takes (object ++ map (λ declared. Below (type_of_declared declared)) signature.parameters)
@@ -191,13 +191,13 @@ interface_method_type world c token =
     else option_and_then (λ m. member_type_of world (home_of c) m.signature) (find (λ m. m.token == token) k.methods))
     (class_at world c)
 
--- a call of an interface's method, on any reference; the instruction says how many words it takes, the object among
--- them
+-- the row of a call of an interface's method, on any reference; the instruction states the number of words that the
+-- method takes, the object included
 abbrev pub interface_row : ℕ → Signature ClassName → Option Row
 interface_row arguments signature =
     if arguments == 1 + length signature.parameters then Some (call (Reference ∷ []) signature) else None
 
--- a call of a method that is looked up from the object's class
+-- the row of a call of a method that is looked up from the object's class
 abbrev pub virtual_row : PoolTarget → Option Row
 virtual_row (To.Class c) = None
 virtual_row (To.InstanceField class cell declared) = None
@@ -206,7 +206,7 @@ virtual_row (To.VirtualMethod class token signature) = Some (call (Below (Class 
 virtual_row (To.SuperMethod class method signature) = None
 virtual_row (To.StaticMethod class method is_static signature) = None
 
--- a call of a superclass's method or of a constructor
+-- the row of a call of a superclass's method or of a constructor
 abbrev pub special_row : PoolTarget → Option Row
 special_row (To.Class c) = None
 special_row (To.InstanceField class cell declared) = None
@@ -216,7 +216,7 @@ special_row (To.SuperMethod class method signature) = Some (call (Below (Class c
 special_row (To.StaticMethod class method true signature) = None
 special_row (To.StaticMethod class method false signature) = Some (call (Below (Class class) ∷ []) signature)
 
--- a call of a static method
+-- the row of a call of a static method
 abbrev pub static_call_row : PoolTarget → Option Row
 static_call_row (To.Class c) = None
 static_call_row (To.InstanceField class cell declared) = None
@@ -226,7 +226,7 @@ static_call_row (To.SuperMethod class method signature) = None
 static_call_row (To.StaticMethod class method true signature) = Some (call [] signature)
 static_call_row (To.StaticMethod class method false signature) = None
 
--- a call of an interface's method with a token, where the entry is the interface
+-- the row of a call of the interface's method with a token, if the target is the interface
 abbrev pub interface_target_row : List Shape → ℕ → ℕ → PoolTarget → Option Row
 interface_target_row world arguments token (To.Class c) =
     option_and_then (interface_row arguments) (interface_method_type world c token)
@@ -236,7 +236,7 @@ interface_target_row world arguments token (To.VirtualMethod class number signat
 interface_target_row world arguments token (To.SuperMethod class method signature) = None
 interface_target_row world arguments token (To.StaticMethod class method is_static signature) = None
 
--- a call
+-- the row of a call
 abbrev pub invocation_row : Setting → Invocation → Option Row
 invocation_row set (Virtual index) = option_and_then virtual_row (slice_get set.targets index)
 invocation_row set (Special index) = option_and_then special_row (slice_get set.targets index)
@@ -244,9 +244,9 @@ invocation_row set (Static index) = option_and_then static_call_row (slice_get s
 invocation_row set (Interface arguments index token) =
     option_and_then (interface_target_row set.world arguments token) (slice_get set.targets index)
 
--- ---- objects that are made and tested
+-- ---- creation and tests of objects
 
--- the class that an entry of the pool is
+-- the class that is a target, if it is one
 abbrev pub class_target : PoolTarget → Option ClassName
 class_target (To.Class c) = Some c
 class_target (To.InstanceField class cell declared) = None
@@ -255,11 +255,11 @@ class_target (To.VirtualMethod class token signature) = None
 class_target (To.SuperMethod class method signature) = None
 class_target (To.StaticMethod class method is_static signature) = None
 
--- the class that the entry with an index is
+-- the class that is the target of the entry at an index
 abbrev pub class_of_entry : Setting → ℕ → Option ClassName
 class_of_entry set index = option_and_then class_target (slice_get set.targets index)
 
--- a class of which objects are made: it is no interface, and isn't abstract
+-- whether a class has objects: it is no interface, and isn't abstract
 abbrev pub has_objects : List Shape → ClassName → Bool
 has_objects world c = option_map_or (λ k. is_class k.body && not k.is_abstract) (class_at world c) false
 
@@ -269,11 +269,11 @@ word_array Kinds.Boolean = BooleanArray
 word_array Kinds.Byte = ByteArray
 word_array Kinds.Short = ShortArray
 
--- arrays of references to a class; an interface counts as Object
+-- the type of arrays of references to a class; an interface counts as Object
 abbrev pub reference_array : List Shape → ClassName → Ty
 reference_array world c = ReferenceArray (counted world c)
 
--- an object or an array that is made
+-- the row of an instruction that creates an object or an array
 abbrev pub creation_row : Setting → Creation → Option Row
 creation_row set (Creations.Object index) =
     option_map (λ c. if_form (has_objects set.world c) (takes [] (Exactly (Class c)))) (class_of_entry set index)
@@ -281,7 +281,7 @@ creation_row set (Creations.WordArray kind) = Some (takes (word ∷ []) (Exactly
 creation_row set (Creations.ReferenceArray index) =
     option_map (λ c. takes (word ∷ []) (Exactly (reference_array set.world c))) (class_of_entry set index)
 
--- the type that an object has where it passes a test
+-- the type of an object that passes a test
 abbrev pub tested_type : Setting → TestedType → Option Ty
 tested_type set (Tested.Class index) = option_map (λ c. Class (counted set.world c)) (class_of_entry set index)
 tested_type set (Tested.WordArray kind) = Some (word_array kind)
@@ -289,12 +289,12 @@ tested_type set (Tested.ReferenceArray index) = option_map (reference_array set.
 
 -- ---- returns
 
--- a reference where the method's result is one
+-- the row of areturn: the method's result has to be a reference
 abbrev pub return_row : Option Ty → Row
 return_row None = if_form false (takes (Below Top ∷ []) Nothing)
 return_row (Some t) = if_form (is_object_or_null t) (takes (Below t ∷ []) Nothing)
 
--- the row of an operation, if what it names of the constant pool is what it needs
+-- the row of an operation, if the target of its pool's entry is of the kind that it needs
 unfoldable pub object_row : Setting → ObjectOperation → Option Row
 object_row set PushNull = Some (takes [] (Exactly Null))
 object_row set (Load local) = Some (reads local Reference [] OfLocal)

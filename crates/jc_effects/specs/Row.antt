@@ -1,7 +1,7 @@
--- What an instruction does to the types of locals and operands, as data, and the one rule that applies it (Java Card
--- Virtual Machine Specification, instruction set: the format, the operand stack and the description of each
--- instruction). The order of reasons stands here and nowhere else: of several reasons against an instruction the first
--- of BadOperand, BadLocal, StackUnder, WrongType and StackOver is told.
+-- The effects of instructions on the types of locals and operands, as data, and the one rule that applies them (Java
+-- Card Virtual Machine Specification, instruction set: the format, the operand stack and the description of each
+-- instruction). Only this file states the order of reasons: of several reasons against an instruction the first of
+-- BadOperand, BadLocal, StackUnder, WrongType and StackOver is reported.
 use Rattle.std.specs.Prelude.{ℕ, ◌+◌, ◌-◌, List, [], ◌∷◌, length, take, drop, reverse, Bool, true, false, ◌&&◌, ◌||◌}
 use Rattle.std.specs.Prelude.{not, Option, Some, None, is_some, Result, Ok, Err, nat_lt, if◌then◌else◌, slice_get}
 use Rattle.std.specs.Prelude.{slice_set, unwrap_or}
@@ -21,20 +21,20 @@ use Rattle.jc_effects.specs.declared.row.Given.TheVariants.{Nothing, Exactly, Of
 use Rattle.jc_effects.specs.declared.row.LocalDemand.{LocalDemand}
 use Rattle.jc_effects.specs.declared.row.LocalDemand.TheVariants.{Nowhere, At}
 
--- what an instruction does
+-- the effect of an instruction
 pub record Row : Type 0 where
-  -- the local that it reads or writes, and what that has to be; or BadLocal
+  -- the local that it reads or writes, and the demand on it; or BadLocal
   pub local : LocalDemand
-  -- what the operands that it takes have to be, the deepest first; or StackUnder
+  -- the demands on the operands that it takes, the deepest first; or StackUnder
   pub operands : List Demand
-  -- what has to hold beside; or WrongType, as where the local or an operand isn't what it has to be
+  -- its other conditions; or WrongType, as if the local or an operand doesn't meet its demand
   pub fits : Bool
-  -- what it puts in that local
+  -- what it writes to that local
   pub written : Given
-  -- what it puts on the stack; or StackOver
+  -- what it pushes; or StackOver
   pub pushed : Given
 
--- ---- what has to be
+-- ---- demands
 
 -- null, or a reference to an object
 abbrev pub is_object_or_null : Ty → Bool
@@ -48,7 +48,7 @@ is_bytes t = is_null t || is_boolean_array t || is_byte_array t
 abbrev pub is_array : Ty → Bool
 is_array t = is_bytes t || is_short_array t || is_some (class_of_components t)
 
--- a type is what it has to be, beside an order of classes
+-- a type meets a demand, for an order of classes
 abbrev pub meets : (ClassName → ClassName → Bool) → Demand → Ty → Bool
 meets below (Below wanted) t = is_below below t wanted
 meets below Reference t = is_object_or_null t
@@ -65,7 +65,7 @@ abbrev pub has_local : LocalDemand → List Ty → Bool
 has_local Nowhere locals = true
 has_local (At index demand) locals = nat_lt index (length locals)
 
--- the type of the local that a row is about; where it is about none, Top
+-- the type of the row's local; Top if the row has no local
 abbrev pub local_of : LocalDemand → List Ty → Ty
 local_of Nowhere locals = Top
 local_of (At index demand) locals = unwrap_or (slice_get locals index) Top
@@ -78,7 +78,7 @@ local_meets below (At index demand) t = meets below demand t
 abbrev pub taken_by : Row → Types → List Ty
 taken_by row s = reverse (take (length row.operands) s.operands)
 
--- all is what it has to be
+-- all demands are met
 abbrev pub is_met : (ClassName → ClassName → Bool) → Row → Types → Bool
 is_met below row s =
     row.fits && local_meets below row.local (local_of row.local s.locals)
@@ -86,11 +86,11 @@ is_met below row s =
 
 -- ---- what is given
 
--- the components of an array of references; of null, null
+-- the type of the components of an array of references; of null it is null
 abbrev pub component_of : Ty → Ty
 component_of t = if is_null t then Null else option_map_or Class (class_of_components t) Top
 
--- what is given, by the type of the local and the types that are taken
+-- the type that is given, from the type of the local and the types that are taken
 abbrev pub given_type : Given → Ty → List Ty → Ty
 given_type Nothing local taken = Top
 given_type (Exactly t) local taken = t
@@ -106,16 +106,16 @@ count_of OfLocal = 1
 count_of (OfOperand k) = 1
 count_of (ComponentOf k) = 1
 
--- a type on top of the operands, if one is given
+-- pushes a type, if one is given
 abbrev pub put_on : Given → Ty → List Ty → List Ty
 put_on given t operands = if nat_lt 0 (count_of given) then t ∷ operands else operands
 
--- a type in the local that a row is about, if one is given
+-- sets the type of the row's local, if one is given
 abbrev pub put_in : LocalDemand → Given → Ty → List Ty → List Ty
 put_in Nowhere given t locals = locals
 put_in (At index demand) given t locals = if nat_lt 0 (count_of given) then slice_set locals index t else locals
 
--- the state behind a row that applies
+-- the state after a row that applies
 unfoldable pub after : Row → Types → Types
 after row s =
     let local = local_of row.local s.locals in
@@ -125,8 +125,8 @@ after row s =
           (drop (length row.operands) s.operands);
     }
 
--- ---- the rule: a row applied to a state, in a method of so many operands at most. An instruction without a row names
--- what it may not name
+-- ---- the rule: a row applied to a state, in a method of at most `most` operands. An instruction without a row has a
+-- bad operand
 
 unfoldable pub applied : (ClassName → ClassName → Bool) → ℕ → Option Row → Types → Result Types Reason
 applied below most None s = Err BadOperand

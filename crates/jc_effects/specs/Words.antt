@@ -1,4 +1,5 @@
--- What the instructions on words do to types: each has a row, but for those that move operands, whatever they are.
+-- The effects of the instructions on words on types. Each has a row, except for those that move operands, whatever they
+-- are.
 use Rattle.std.specs.Prelude.{ℕ, List, [], ◌∷◌, Bool, true, false, Option, Some, Result}
 use Rattle.std.specs.Option.{option_map_or}
 use Rattle.jc_base.specs.declared.reason.Reason.{Reason}
@@ -23,16 +24,16 @@ use Rattle.jc_effects.specs.declared.row.Given.TheVariants.{Nothing, Exactly, Of
 use Rattle.jc_effects.specs.declared.row.LocalDemand.TheVariants.{Nowhere, At}
 use Rattle.jc_effects.specs.Row.{Row, applied}
 
--- an instruction that takes operands, and puts one
+-- an instruction that takes operands, and pushes one or none
 abbrev pub takes : List Demand → Given → Row
 takes operands pushed = record { local = Nowhere; operands = operands; fits = true; written = Nothing; pushed = pushed }
 
--- one that reads a local beside
+-- an instruction that also reads a local
 abbrev pub reads : ℕ → Demand → List Demand → Given → Row
 reads index demand operands pushed =
     record { local = At index demand; operands = operands; fits = true; written = Nothing; pushed = pushed }
 
--- one that takes an operand into a local, whatever that held
+-- an instruction that stores an operand in a local, whatever that held
 abbrev pub writes : ℕ → Demand → Row
 writes index demand =
     record {
@@ -46,19 +47,19 @@ writes index demand =
 abbrev pub word : Demand
 word = Below Word
 
--- the words that a branch compares
+-- the demands on the words that a branch compares
 abbrev pub compared : When → List Demand
 compared Always = []
 compared (Zero condition) = word ∷ []
 compared (Compare condition) = word ∷ word ∷ []
 
--- operands that are moved, of so many at most
+-- an instruction that moves operands, up to `most` of them
 abbrev pub shuffle_effect : ℕ → shuffles.Shuffle → Types → Result Types Reason
 shuffle_effect most (Pop count) s = drop_types count s
 shuffle_effect most (Duplicate count below) s = duplicate_types most count below s
 shuffle_effect most (Swap upper lower) s = swap_types upper lower s
 
--- an operation on words, in a method of so many operands at most that gives a value of this type, or none
+-- an operation on words, in a method of at most `most` operands that returns a value of this type, or none
 unfoldable pub word_effect : (ClassName → ClassName → Bool) → ℕ → Option Ty → WordOperation → Types
     → Result Types Reason
 word_effect below most returned Nop s = applied below most (Some (takes [] Nothing)) s

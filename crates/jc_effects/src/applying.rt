@@ -1,4 +1,4 @@
-//! A row applied to a state.
+//! Applying a row to a state.
 
 ghost use Rattle.std.specs.Prelude.{◌≡◌, ◌≤◌, ◌<◌, ◌+◌, true, Some, None, length, nat_lt, if◌then◌else◌};
 ghost use Rattle.jc_types.specs.Changes.{Became};
@@ -10,22 +10,22 @@ use crate::row::{Given, LocalDemand};
 use jc_base::Reason;
 use jc_types::{ClassOrder, State, Ty};
 
-/// What an instruction does.
+/// The effect of an instruction on types.
 #[derive(Clone, Copy)]
 pub struct Row<'a> {
-    /// The local that it reads or writes, and what that has to be.
+    /// The local that it reads or writes, and the demand on it.
     pub local: LocalDemand,
-    /// What the operands that it takes have to be.
+    /// The demands on the operands that it takes.
     pub operands: Wanted<'a>,
-    /// What has to hold beside.
+    /// Whether its other conditions hold.
     pub fits: bool,
-    /// What it puts in that local.
+    /// What it writes to that local.
     pub written: Given,
-    /// What it puts on the stack.
+    /// What it pushes.
     pub pushed: Given,
 }
 
-/// The type of the local that a row is about, if there is such a local; where it is about none, Top.
+/// The type of the row's local, if the local exists; Top if the row has no local.
 #[inline(always)]
 fn local_of(place: LocalDemand, state: &State) -> Option<Ty>
     ensures { result ≡ (if rows.has_local place state.now.types.locals
@@ -37,7 +37,7 @@ fn local_of(place: LocalDemand, state: &State) -> Option<Ty>
     }
 }
 
-/// Puts a type in the local that a row is about, if one is given.
+/// Sets the type of the row's local, if the row writes one.
 #[inline(always)]
 fn put_in(place: LocalDemand, given: Given, ty: Ty, state: &mut State)
     requires { rows.has_local place state.old.types.locals ≡ true }
@@ -56,7 +56,7 @@ fn put_in(place: LocalDemand, given: Given, ty: Ty, state: &mut State)
     }
 }
 
-/// Puts a type on top of the operands, if one is given.
+/// Pushes a type, if one is given.
 #[inline(always)]
 fn put_on(given: Given, ty: Ty, state: &mut State)
     requires { length state.old.types.operands + rows.count_of given ≤ state.old.room }
@@ -69,7 +69,7 @@ fn put_on(given: Given, ty: Ty, state: &mut State)
     }
 }
 
-/// Whether what is put on so many operands is more than a method may have.
+/// Whether pushing onto this many operands exceeds the method's maximum.
 #[inline(always)]
 fn overflows(operands: usize, given: Given, max_stack: u8) -> bool
     ensures { result ≡ nat_lt max_stack (operands + rows.count_of given) }
@@ -82,8 +82,8 @@ fn overflows(operands: usize, given: Given, max_stack: u8) -> bool
     }
 }
 
-/// Puts the types behind a row in place of those before it, in a method of at most `max_stack` operands, or tells the
-/// first reason against it, in the order of `applied`. The state isn't to be used after a reason.
+/// Applies a row to a state, in a method of at most `max_stack` operands, or reports the first reason against it, in
+/// the order of `applied`. After a reason the state mustn't be used.
 #[tactic(auto, unfolding(crate::specs::Row::applied, crate::specs::Row::after))]
 #[inline(always)]
 pub fn apply<C: ClassOrder>(

@@ -22,7 +22,7 @@ use jc_link::{MemberType, PoolTarget, is_known_method, return_found};
 use jc_names::ClassName;
 use jc_types::Ty;
 
-/// What a call puts.
+/// What a call pushes.
 fn result_given(returned: ReturnType<ClassName>) -> Given
     ensures { result ≡ objects.result_given returned }
 {
@@ -104,14 +104,14 @@ fn static_call_row<'a>(target: &'a PoolTarget) -> Option<Row<'a>>
     }
 }
 
-/// The method with a token of a class's rows.
+/// The method with a token in a class's rows.
 fn method_with(found: &Class, token: u8) -> Option<&Method>
     ensures { option_map (λ m. m.now) result ≡ find (λ m. m.token == token) found.now.methods }
 {
     found.methods().iter().find(|m| m.token() == token)
 }
 
-/// The method of an interface with a token, by the interface's own rows.
+/// The method of an interface with a token, from the interface's own rows.
 fn interface_method(table: &ClassTable, interface: ClassName, token: u8) -> Option<&Method>
     ensures { option_map (λ m. m.now) result ≡ option_and_then
         (λ k. if is_class k.body then None else find (λ m. m.token == token) k.methods) (class_at table.now interface) }
@@ -123,8 +123,8 @@ fn interface_method(table: &ClassTable, interface: ClassName, token: u8) -> Opti
     method_with(found, token)
 }
 
-/// The row of a call of a method of an interface, as it is spelled in the interface's package. The instruction says how
-/// many words it takes, the object among them.
+/// The row of a call of an interface's method, which the interface's package spells. The instruction states the number
+/// of words that the method takes, the object included.
 #[tactic(auto, using(crate::proofs::Spelled::counted_row, crate::proofs::Spelled::other_row, crate::proofs::Spelled::unknown_row, crate::proofs::Spelled::ungiven_row))]
 fn spelled_row<'a>(
     table: &'a ClassTable,
@@ -152,7 +152,7 @@ fn spelled_row<'a>(
     Some(takes(operands, result_given(returned)))
 }
 
-/// The row of a call of the method of an interface with a token.
+/// The row of a call of the interface's method with a token.
 #[tactic(auto, using(crate::proofs::Spelled::method_type))]
 fn interface_row<'a>(
     table: &'a ClassTable,
@@ -167,7 +167,7 @@ fn interface_row<'a>(
     spelled_row(table, interface, arguments, method)
 }
 
-/// The row of a call of an interface's method with a token, where the entry is the interface.
+/// The row of a call of the interface's method with a token, if the target is the interface.
 fn interface_target_row<'a>(
     table: &'a ClassTable,
     arguments: u8,

@@ -1,4 +1,4 @@
-//! Whether types are what they have to be, and the types that are given.
+//! Whether types meet demands, and the types that are given.
 
 ghost use Rattle.std.specs.Prelude.{◌≡◌, ◌≤◌, length, map, slice_get, unwrap_or};
 ghost use Rattle.jc_effects.specs.Row as rows;
@@ -11,23 +11,23 @@ use jc_link::type_found;
 use jc_names::{ClassName, PackagePlace};
 use jc_types::{ClassOrder, Ty, is_below};
 
-/// What operands have to be, the deepest first.
+/// The demands on operands, the deepest first.
 #[derive(Clone, Copy)]
 pub enum Wanted<'a> {
-    /// None is taken.
+    /// No operand is taken.
     Nothing,
     /// One operand.
     One(Demand),
-    /// Two.
+    /// Two operands.
     Two(Demand, Demand),
-    /// Three.
+    /// Three operands.
     Three(Demand, Demand, Demand),
-    /// Arguments below what is declared.
+    /// Arguments below their declared types.
     Arguments(&'a [DeclaredType<ClassName>]),
     /// An object, and then arguments.
     ObjectAndArguments(Demand, &'a [DeclaredType<ClassName>]),
-    /// Any reference, and then arguments of a method of an interface, whose types are found anew as they are spelled in
-    /// the interface's package.
+    /// Any reference, and then the arguments of an interface's method. Their types are resolved as the interface's
+    /// package spells them.
     Spelled {
         table: &'a ClassTable,
         interface: ClassName,
@@ -67,7 +67,7 @@ fn is_array(ty: Ty) -> bool
     }
 }
 
-/// Whether a type is what it has to be.
+/// Whether a type meets a demand.
 #[inline(always)]
 fn meets<C: ClassOrder>(demand: Demand, ty: Ty, classes: &C) -> bool
     ensures { result ≡ rows.meets (C.lies_below classes.now) demand ty }
@@ -80,7 +80,7 @@ fn meets<C: ClassOrder>(demand: Demand, ty: Ty, classes: &C) -> bool
     }
 }
 
-/// Whether the local that a row is about is what it has to be.
+/// Whether the row's local meets its demand.
 #[inline(always)]
 pub(crate) fn local_meets<C: ClassOrder>(place: LocalDemand, ty: Ty, classes: &C) -> bool
     ensures { result ≡ rows.local_meets (C.lies_below classes.now) place ty }
@@ -91,7 +91,7 @@ pub(crate) fn local_meets<C: ClassOrder>(place: LocalDemand, ty: Ty, classes: &C
     }
 }
 
-/// Whether types lie below what is declared.
+/// Whether types are below declared types.
 fn arguments_meet<C: ClassOrder>(
     arguments: &[DeclaredType<ClassName>],
     types: &[Ty],
@@ -108,7 +108,8 @@ fn arguments_meet<C: ClassOrder>(
     true
 }
 
-/// Whether a type lies below what is spelled in the package that stands there.
+/// Whether a type is below the declared type that the package at place `home` spells. If that doesn't resolve, every
+/// type is.
 fn spelled_meets<C: ClassOrder>(
     table: &ClassTable,
     home: PackagePlace,
@@ -124,7 +125,8 @@ fn spelled_meets<C: ClassOrder>(
     }
 }
 
-/// Whether types lie below what is spelled in the package that stands there.
+/// Whether types are below the declared types that the package at place `home` spells. A type that doesn't resolve
+/// counts as Top.
 fn all_spelled_meet<C: ClassOrder>(
     table: &ClassTable,
     home: PackagePlace,
@@ -145,7 +147,7 @@ fn all_spelled_meet<C: ClassOrder>(
 }
 
 impl<'a> Wanted<'a> {
-    /// How many operands there are.
+    /// How many operands are taken.
     #[inline(always)]
     pub(crate) fn len(self) -> usize
         ensures { result ≡ length (demands_of self.entry) }
@@ -161,7 +163,7 @@ impl<'a> Wanted<'a> {
         }
     }
 
-    /// Whether as many types are what they have to be.
+    /// Whether the types, of which there are as many, meet the demands.
     #[inline(always)]
     pub(crate) fn are_met<C: ClassOrder>(self, types: &[Ty], classes: &C) -> bool
         requires { length (demands_of self) ≡ length types.now }
@@ -203,7 +205,7 @@ pub(crate) fn count_of(given: Given) -> usize
     }
 }
 
-/// The type of the components of an array of references; of null, null.
+/// The type of the components of an array of references; of null it is null.
 fn component_of(ty: Ty) -> Ty
     ensures { result ≡ rows.component_of ty }
 {
@@ -223,7 +225,7 @@ fn operand(taken: &[Ty], index: u8) -> Ty
     taken.get(usize::from(index)).copied().unwrap_or(Ty::Top)
 }
 
-/// The type that is given, by the type of the local and the types that are taken.
+/// The type that is given, from the type of the local and the types that are taken.
 #[inline(always)]
 pub(crate) fn given_type(given: Given, local: Ty, taken: &[Ty]) -> Ty
     ensures { result ≡ rows.given_type given local taken.now }

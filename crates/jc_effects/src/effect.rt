@@ -16,9 +16,8 @@ use jc_names::ClassName;
 use jc_types::{State, Ty};
 use std::marker::Model;
 
-/// Puts the types behind an operation in place of those before it, in a method of at most `max_stack` operands, read
-/// against its setting. Of several reasons against it the first is told, in the order of `applied`. The state isn't to
-/// be used after a reason.
+/// Applies an operation to a state, in a method of at most `max_stack` operands with this setting. Of several reasons
+/// against it, it reports the first, in the order of `applied`. After a reason the state mustn't be used.
 #[tactic(auto, unfolding(crate::specs::Effect::effect_of))]
 pub fn transfer_in(
     operation: &Operation,
@@ -45,7 +44,7 @@ pub fn transfer_in(
     }
 }
 
-/// The type of what is given, if anything is.
+/// The type of a result, unless it is void.
 fn returned_type(returned: ReturnType<ClassName>) -> Option<Ty>
     ensures { result ≡ returned_type returned }
 {
@@ -55,7 +54,7 @@ fn returned_type(returned: ReturnType<ClassName>) -> Option<Ty>
     }
 }
 
-/// The type of a method's result, if it gives one.
+/// The type of a method's result, unless it is void.
 #[tactic(auto, using(crate::proofs::Results::known_result, crate::proofs::Results::unknown_result))]
 pub fn result_of(table: &ClassTable, declared: &DeclaredMethod) -> Option<Ty>
     ensures { result ≡ result_of table.now declared.now }
@@ -67,7 +66,7 @@ pub fn result_of(table: &ClassTable, declared: &DeclaredMethod) -> Option<Ty>
     returned_type(return_found(table, home, declared.method.result())?)
 }
 
-/// The method of a linked package that stands at an offset.
+/// The method of a linked package at an offset.
 pub fn own_method(linked: &Linked, offset: u16) -> Option<DeclaredMethod<'_>>
     ensures { result ≡ own_method linked.now offset }
 {
@@ -75,9 +74,9 @@ pub fn own_method(linked: &Linked, offset: u16) -> Option<DeclaredMethod<'_>>
     table.method_at(method_name(table.last(), offset))
 }
 
-/// Puts the types behind an instruction of a method of a linked package in place of those before it. The method is
-/// given by the offset of its header. Of several reasons against the instruction the first is told, in the order of
-/// `applied`. The state isn't to be used after a reason.
+/// Applies an instruction of a linked package's method to a state. The method is given by the offset of its header. Of
+/// several reasons against the instruction, it reports the first, in the order of `applied`. After a reason the state
+/// mustn't be used.
 pub fn transfer(
     instr: &Instr,
     state: &mut State,

@@ -15,7 +15,7 @@ use jc_link::PoolTarget;
 use jc_names::ClassName;
 use jc_types::Ty;
 
-/// Whether the instructions of a form are for fields of a type.
+/// Whether the instructions of a form take fields of a type.
 fn is_form_of(form: Form, declared: DeclaredType<ClassName>) -> bool
     ensures { result ≡ objects.is_form_of form declared }
 {
@@ -32,7 +32,7 @@ fn is_form_of(form: Form, declared: DeclaredType<ClassName>) -> bool
     }
 }
 
-/// The row of an instruction on a field of a class.
+/// The row of an instruction on a static field.
 fn static_row<'a>(action: FieldAction, ty: Ty) -> Row<'a>
     ensures { row_said result ≡ objects.static_row action ty }
 {
@@ -42,7 +42,7 @@ fn static_row<'a>(action: FieldAction, ty: Ty) -> Row<'a>
     }
 }
 
-/// The row of one on a field of an object of a class, that is an operand.
+/// The row of an instruction on an instance field, with the object on the operand stack.
 fn operand_row<'a>(action: FieldAction, class: ClassName, ty: Ty) -> Row<'a>
     ensures { row_said result ≡ objects.operand_row action class ty }
 {
@@ -53,7 +53,7 @@ fn operand_row<'a>(action: FieldAction, class: ClassName, ty: Ty) -> Row<'a>
     }
 }
 
-/// The row of one on a field of the object in local 0.
+/// The row of an instruction on an instance field of the object in local 0.
 fn this_row<'a>(action: FieldAction, class: ClassName, ty: Ty) -> Row<'a>
     ensures { row_said result ≡ objects.this_row action class ty }
 {
@@ -64,7 +64,7 @@ fn this_row<'a>(action: FieldAction, class: ClassName, ty: Ty) -> Row<'a>
     }
 }
 
-/// The row of an instruction on a field of a class, that is declared so.
+/// The row of an instruction on a static field with a declared type.
 fn row_of_static<'a>(access: FieldAccess, declared: DeclaredType<ClassName>) -> Option<Row<'a>>
     ensures { option_map row_said result ≡ objects.row_of_static access declared }
 {
@@ -78,7 +78,7 @@ fn row_of_static<'a>(access: FieldAccess, declared: DeclaredType<ClassName>) -> 
     }
 }
 
-/// The row of an instruction on a field of objects of a class, that is declared so.
+/// The row of an instruction on an instance field with a declared type.
 fn row_of_instance<'a>(
     access: FieldAccess,
     class: ClassName,
@@ -101,7 +101,7 @@ fn row_of_instance<'a>(
     }
 }
 
-/// The row of an instruction on the field that an entry of the pool is.
+/// The row of an instruction on a field that is the target of the pool's entry.
 pub(crate) fn field_row<'a>(access: FieldAccess, target: &PoolTarget) -> Option<Row<'a>>
     ensures { option_map row_said result ≡ objects.field_row access target.now }
 {

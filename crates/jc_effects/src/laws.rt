@@ -1,4 +1,4 @@
-//! What holds of all effects.
+//! Laws of all effects.
 
 ghost use Rattle.std.specs.Prelude.{◌≡◌, ◌&&◌, ℕ, Bool, not, true, List, Option, Ok};
 ghost use Rattle.jc_base.specs.declared.declared_type.DeclaredType.{DeclaredType};
@@ -30,8 +30,8 @@ use jc_classes::growing_keeps_lookups;
 use jc_link::{built_worlds_have_the_api, growing_keeps_linking};
 use jc_types::order_laws;
 
-/// Beside an order of classes, what a state allows each state below it allows, and what comes out lies below: of rows,
-/// of operations on words, and of all operations read against a setting. It does nothing.
+/// For an order of classes: what a state allows, each state below it allows, with a result below. This holds for rows,
+/// for operations on words, and for all operations with a setting. It does nothing.
 pub fn effects_are_monotone()
     ensures rows { (below : ClassName → ClassName → Bool) → IsOrder below → (most : ℕ) (row : Option Row)
         → IsMonotone below (applied below most row) }
@@ -43,8 +43,8 @@ pub fn effects_are_monotone()
     order_laws();
 }
 
-/// In a world in which types name classes of it, and read against a pool that leads to such types, what an effect
-/// leaves names classes of the world where what was before does. It does nothing.
+/// Effects introduce no unknown classes, in a world whose types name classes of it, and with a pool whose targets do.
+/// It does nothing.
 pub fn effects_name_classes()
     ensures effects { (set : Setting) → NamesKnown set → (most : ℕ) (operation : Operation) (s t : Types)
         → effect_of set most operation s ≡ Ok t → AreKnown (is_class_at set.world) s
@@ -53,9 +53,9 @@ pub fn effects_name_classes()
         → is_known known (type_of_declared t) ≡ true }
 {}
 
-/// Packages that are put behind the others of a world change nothing of what instructions do in methods of those before
-/// them: which classes have objects, the types of interfaces' methods, which types lie below which, the methods of a
-/// package with their results, and the effects on types that name classes of the earlier world. It does nothing.
+/// Appending packages to a world changes no effect of instructions in the methods of those before them: which classes
+/// have objects, the types of interfaces' methods, which types are below which, the methods of a package with their
+/// results, and the effects on types that name classes of the earlier world. It does nothing.
 pub fn growing_keeps_effects()
     ensures members { (before after : List Shape) → LiesWithin before after → KeepsAllMembers before after }
     ensures orders { (before after : List Shape) → LiesWithin before after → KeepsAllOrders before after }
@@ -69,7 +69,7 @@ pub fn growing_keeps_effects()
     growing_keeps_linking();
 }
 
-/// In a world that is built a class of the API has objects where it is no interface and isn't abstract. It does
+/// In a built world a class of the API has objects if and only if it is neither an interface nor abstract. It does
 /// nothing.
 pub fn api_classes_have_objects()
     ensures { (world : List Shape) → IsBuilt world → (c : ApiClass)
@@ -78,8 +78,8 @@ pub fn api_classes_have_objects()
     built_worlds_have_the_api();
 }
 
-/// An effect keeps how many locals there are, and leaves no more operands than a method may have where there were no
-/// more: of operations on words, and of all operations read against a setting. It does nothing.
+/// An effect keeps the number of locals. It leaves at most the method's maximum of operands if there were at most that
+/// many before. This holds for operations on words, and for all operations with a setting. It does nothing.
 pub fn effects_keep_shapes()
     ensures words { (below : ClassName → ClassName → Bool) (most : ℕ) (returned : Option Ty)
         (operation : WordOperation) → KeepsShape most (word_effect below most returned operation) }

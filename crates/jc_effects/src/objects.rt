@@ -1,5 +1,5 @@
-//! The effect of the instructions on references. Where what an instruction names of the constant pool isn't what it
-//! needs it has no row.
+//! The effect of the instructions on references. An instruction has no row if the target of its pool's entry isn't of
+//! the kind that it needs.
 
 ghost use Rattle.std.specs.Prelude.{◌≡◌, ◌≤◌, ◌∷◌, [], not, is_some, length, slice_get, if◌then◌else◌};
 ghost use Rattle.std.specs.Option.{option_and_then, option_map};
@@ -27,13 +27,13 @@ use jc_link::{PoolTarget, counted};
 use jc_names::ClassName;
 use jc_types::{State, Ty};
 
-/// What is above all classes and interfaces.
+/// The class above all classes and interfaces.
 const OBJECT: ClassName = ClassName::Api(ApiClass::Object);
 
-/// What is thrown.
+/// The demand on what is thrown.
 const THROWN: Demand = Demand::Below(Ty::Class(ClassName::Api(ApiClass::Throwable)));
 
-/// The array that holds components of a form.
+/// The demand on an array with components of a form.
 #[inline(always)]
 fn array_of(form: Form) -> Demand
     ensures { result ≡ objects.array_of form }
@@ -45,7 +45,7 @@ fn array_of(form: Form) -> Demand
     }
 }
 
-/// What is loaded from it.
+/// The type of a component that is loaded from it.
 #[inline(always)]
 fn component_loaded(form: Form) -> Given
     ensures { result ≡ objects.component_loaded form }
@@ -56,7 +56,7 @@ fn component_loaded(form: Form) -> Given
     }
 }
 
-/// What may be stored in it.
+/// The demand on a component that is stored in it.
 #[inline(always)]
 fn component_stored(form: Form) -> Demand
     ensures { result ≡ objects.component_stored form }
@@ -67,7 +67,7 @@ fn component_stored(form: Form) -> Demand
     }
 }
 
-/// The references that a branch compares.
+/// The demands on the references that a branch compares.
 #[inline(always)]
 fn references_compared<'a>(when: ReferenceCondition) -> Wanted<'a>
     ensures { demands_of result ≡ objects.references_compared when }
@@ -80,7 +80,7 @@ fn references_compared<'a>(when: ReferenceCondition) -> Wanted<'a>
     }
 }
 
-/// The row of one that puts null.
+/// The row of an instruction that pushes null.
 #[inline(always)]
 fn null_row<'a>() -> Row<'a>
     ensures { row_said result ≡ words.takes [] (Given.Exactly Ty.Null) }
@@ -88,7 +88,7 @@ fn null_row<'a>() -> Row<'a>
     takes(Wanted::Nothing, Given::Exactly(Ty::Null))
 }
 
-/// The row of one that loads a reference from a local.
+/// The row of an instruction that loads a reference from a local.
 #[inline(always)]
 fn load_row<'a>(local: u8) -> Row<'a>
     ensures { row_said result ≡ words.reads local Demand.Reference [] Given.OfLocal }
@@ -120,7 +120,7 @@ fn component_load_row<'a>(form: Form) -> Row<'a>
     takes(Wanted::Two(array_of(form), WORD), component_loaded(form))
 }
 
-/// The row of one that stores a component.
+/// The row of an instruction that stores a component.
 #[inline(always)]
 fn component_store_row<'a>(form: Form) -> Row<'a>
     ensures { row_said result
@@ -132,7 +132,7 @@ fn component_store_row<'a>(form: Form) -> Row<'a>
     )
 }
 
-/// The class that an entry of the pool is.
+/// The class that is a target, if it is one.
 fn class_target(target: &PoolTarget) -> Option<ClassName>
     ensures { result ≡ objects.class_target target.now }
 {
@@ -144,14 +144,14 @@ fn class_target(target: &PoolTarget) -> Option<ClassName>
     }
 }
 
-/// The class that the entry with an index is.
+/// The class that is the target of the entry at an index.
 fn class_of_entry(setting: &Setting, index: u16) -> Option<ClassName>
     ensures { result ≡ objects.class_of_entry setting.now index }
 {
     class_target(setting.target(index)?)
 }
 
-/// Whether objects of a class are made.
+/// Whether a class has objects.
 fn has_objects(table: &ClassTable, class: ClassName) -> bool
     ensures { result ≡ objects.has_objects table.now class }
 {
@@ -179,7 +179,7 @@ fn reference_array(table: &ClassTable, class: ClassName) -> Ty
     Ty::ReferenceArray(counted(table, class))
 }
 
-/// The row of an instruction that makes an object or an array.
+/// The row of an instruction that creates an object or an array.
 fn creation_row<'l>(setting: &Setting<'l>, creation: Creation) -> Option<Row<'l>>
     ensures { option_map row_said result ≡ objects.creation_row setting.now creation }
 {
@@ -202,7 +202,7 @@ fn creation_row<'l>(setting: &Setting<'l>, creation: Creation) -> Option<Row<'l>
     }
 }
 
-/// The type that an object has where it passes a test.
+/// The type of an object that passes a test.
 fn tested_type(setting: &Setting, tested: TestedType) -> Option<Ty>
     ensures { result ≡ objects.tested_type setting.now tested }
 {
@@ -219,7 +219,7 @@ fn tested_type(setting: &Setting, tested: TestedType) -> Option<Ty>
     }
 }
 
-/// The row of a test of a reference, that puts this.
+/// The row of a test of a reference, with this pushed.
 fn test_row<'a>(pushed: Given) -> Row<'a>
     ensures { row_said result ≡ words.takes (Demand.Reference ∷ []) pushed }
 {
@@ -252,7 +252,7 @@ fn return_void_row<'a>(returned: Option<Ty>) -> Row<'a>
     }
 }
 
-/// The row of a cast, or of a test of an object's type, that puts this of the type.
+/// The row of a cast, or of instanceof.
 fn tested_row<'l>(setting: &Setting<'l>, tested: TestedType, is_cast: bool) -> Option<Row<'l>>
     ensures { option_map row_said result ≡ option_map
         (λ t. words.takes (Demand.Reference ∷ []) (if is_cast then Given.Exactly t else Given.Exactly Ty.Word))
@@ -262,7 +262,7 @@ fn tested_row<'l>(setting: &Setting<'l>, tested: TestedType, is_cast: bool) -> O
     Some(test_row(Given::Exactly(if is_cast { ty } else { Ty::Word })))
 }
 
-/// The row of an operation on the field that the entry with an index is.
+/// The row of an operation on the field that is the target of the entry at an index.
 fn field_row_at<'l>(setting: &Setting<'l>, access: FieldAccess, index: u16) -> Option<Row<'l>>
     ensures { option_map row_said result
         ≡ option_and_then (objects.field_row access) (slice_get setting.now.targets index) }
@@ -270,8 +270,8 @@ fn field_row_at<'l>(setting: &Setting<'l>, access: FieldAccess, index: u16) -> O
     field_row(access, setting.target(index)?)
 }
 
-/// A row applied to a state, if there is one. It stands once: what names an entry of the constant pool is no quick
-/// operation.
+/// Applies a row to a state, if there is one. It is compiled once, since an operation on the constant pool isn't quick
+/// anyway.
 #[inline(never)]
 #[tactic(auto, unfolding(crate::specs::Row::applied))]
 fn apply_found(
@@ -292,9 +292,9 @@ fn apply_found(
     }
 }
 
-/// Puts the types after an operation on references in place of those before it, in a method of at most `max_stack`
-/// operands, read against its setting. Of several reasons against it the first is told, in the order of `applied`. The
-/// state isn't to be used after a reason.
+/// Applies an operation on references to a state, in a method of at most `max_stack` operands with this setting. Of
+/// several reasons against it, it reports the first, in the order of `applied`. After a reason the state mustn't be
+/// used.
 #[tactic(auto, unfolding(crate::specs::Objects::object_row))]
 pub(crate) fn transfer_object(
     operation: &ObjectOperation,

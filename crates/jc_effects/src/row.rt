@@ -1,8 +1,8 @@
-//! What an instruction demands and gives.
+//! The demands of an instruction and what it gives.
 
 use jc_types::Ty;
 
-/// What a local or an operand has to be.
+/// A demand on a local or an operand.
 #[derive(Clone, Copy, Debug, PartialEq, Eq)]
 pub enum Demand {
     /// Below a type.
@@ -15,26 +15,26 @@ pub enum Demand {
     Array,
 }
 
-/// The local that a row is about, and what it has to be.
+/// The local of a row, and the demand on it.
 #[derive(Clone, Copy, Debug, PartialEq, Eq)]
 pub enum LocalDemand {
-    /// The row is about no local.
+    /// The row has no local.
     Nowhere,
     /// The local with an index.
     At { index: u8, demand: Demand },
 }
 
-/// What a row puts in its local, or on the stack.
+/// What a row writes to its local, or pushes.
 #[derive(Clone, Copy, Debug, PartialEq, Eq)]
 pub enum Given {
-    /// Nothing is put there.
+    /// Nothing.
     Nothing,
     /// A type.
     Exactly(Ty),
     /// The type of the local.
     OfLocal,
-    /// The type of an operand that is taken, the deepest being 0.
+    /// The type of an operand that is taken, counted from the deepest, which is 0.
     OfOperand(u8),
-    /// The type of the components of an operand that is taken.
+    /// The type of the components of an operand that is taken, counted in the same way.
     ComponentOf(u8),
 }

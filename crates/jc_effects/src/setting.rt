@@ -1,4 +1,4 @@
-//! What the code of a method is read against.
+//! The setting of a method's code.
 
 ghost use Rattle.std.specs.Prelude.{◌≡◌, slice_get};
 ghost use Rattle.std.specs.Option.{option_copied, option_map};
@@ -9,7 +9,7 @@ use jc_link::{Linked, PoolTarget};
 use jc_types::Ty;
 use std::marker::Model;
 
-/// What the code of a method is read against: its package, and the type of its result.
+/// The setting of a method's code: its package, and the type of its result.
 #[derive(Drop)]
 pub struct Setting<'l> {
     pub(crate) linked: &'l Linked,
@@ -29,7 +29,7 @@ impl<'l> Model for Setting<'l> {
 }
 
 impl<'l> Setting<'l> {
-    /// That of a method of a linked package with a result of this type, or none.
+    /// The setting of a method of a linked package with a result of this type, or none.
     pub fn new(linked: &'l Linked, returned: Option<Ty>) -> Setting<'l>
         ensures { result ≡ record { world = linked.now.world; targets = linked.now.body.targets; returned = returned } }
     {
@@ -43,14 +43,14 @@ impl<'l> Setting<'l> {
         self.linked.table()
     }
 
-    /// What an entry of the constant pool leads to.
+    /// The target of an entry of the constant pool.
     pub(crate) fn target(&self, index: u16) -> Option<&'l PoolTarget>
         ensures { option_map (λ t. t.now) result ≡ slice_get self.now.targets index }
     {
         self.linked.body().targets().get(usize::from(index))
     }
 
-    /// The type of the method's result, if it gives one.
+    /// The type of the method's result, unless it is void.
     pub(crate) fn returned(&self) -> Option<&Ty>
         ensures { option_copied result ≡ self.now.returned }
     {

@@ -14,10 +14,10 @@ use jc_base::Reason;
 use jc_code::{Shuffle, When, WordOperation};
 use jc_types::{ClassOrder, State, Ty};
 
-/// Any word.
+/// The demand on a word.
 pub(crate) const WORD: Demand = Demand::Below(Ty::Word);
 
-/// The row of an instruction that takes operands, and puts one.
+/// The row of an instruction that takes operands, and pushes one or none.
 #[inline(always)]
 pub(crate) fn takes(operands: Wanted<'_>, pushed: Given) -> Row<'_>
     ensures { row_said result ≡ words.takes (demands_of operands.entry) pushed }
@@ -31,7 +31,7 @@ pub(crate) fn takes(operands: Wanted<'_>, pushed: Given) -> Row<'_>
     }
 }
 
-/// The row of one that reads a local beside.
+/// The row of an instruction that also reads a local.
 #[inline(always)]
 pub(crate) fn reads(index: u8, demand: Demand, operands: Wanted<'_>, pushed: Given) -> Row<'_>
     ensures { row_said result ≡ words.reads index demand (demands_of operands.entry) pushed }
@@ -45,7 +45,7 @@ pub(crate) fn reads(index: u8, demand: Demand, operands: Wanted<'_>, pushed: Giv
     }
 }
 
-/// The row of one that takes an operand into a local, whatever that held.
+/// The row of an instruction that stores an operand in a local, whatever that held.
 #[inline(always)]
 pub(crate) fn writes<'a>(index: u8, demand: Demand) -> Row<'a>
     ensures { row_said result ≡ words.writes index demand }
@@ -62,7 +62,7 @@ pub(crate) fn writes<'a>(index: u8, demand: Demand) -> Row<'a>
     }
 }
 
-/// The words that a branch compares.
+/// The demands on the words that a branch compares.
 #[inline(always)]
 fn compared<'a>(when: When) -> Wanted<'a>
     ensures { demands_of result ≡ words.compared when }
@@ -112,9 +112,9 @@ fn transfer_shuffle(shuffle: Shuffle, state: &mut State, max_stack: u8) -> Resul
     }
 }
 
-/// Puts the types after an operation on words in place of those before it, in a method of at most `max_stack` operands
-/// that returns a value of the type `returned`, or none. Of several reasons against it the first is told, in the order
-/// of `applied`. The state isn't to be used after a reason.
+/// Applies an operation on words to a state, in a method of at most `max_stack` operands that returns a value of the
+/// type `returned`, or none. Of several reasons against it, it reports the first, in the order of `applied`. After a
+/// reason the state mustn't be used.
 #[tactic(auto, unfolding(crate::specs::Words::word_effect))]
 pub fn transfer_word<C: ClassOrder>(
     operation: &WordOperation,

@@ -26,7 +26,7 @@ use Rattle.jc_link.specs.Named.{cells_above, size_of}
 use Rattle.jc_link.specs.Sound.{IsHeir}
 use Rattle.jc_link.specs.Target.{instance_type_of}
 
--- how many cells an object of a class has: those that it declares and those of its superclasses, within so many classes
+-- the number of cells of an object: those that its class and its superclasses declare, within n classes
 abbrev pub cells_within : ℕ → ApiClass → ℕ
 cells_within zero c = 0
 cells_within (suc n) c = tables.size_of c + option_map_or (cells_within n) (tables.superclass_of c) 0
@@ -35,8 +35,8 @@ cells_within (suc n) c = tables.size_of c + option_map_or (cells_within n) (tabl
 abbrev pub cells_of : ApiClass → ℕ
 cells_of c = cells_within 22 c
 
--- a class of the API stands in a world: it is a class or an interface, abstract or not, and below the class above it.
--- An object of it has so many cells; no field is declared for any of them
+-- a class of the API in a world: it is a class or an interface, abstract or not, and has its superclass. Its objects
+-- have these many cells; no field is declared for any of them
 pub record StandsThere (world : List Shape) (c : ApiClass) : Type 0 where
   pub shape : ClassShape
   pub there : class_at world (Api c) ≡ Some shape
@@ -47,12 +47,12 @@ pub record StandsThere (world : List Shape) (c : ApiClass) : Type 0 where
   pub cells : size_of world (Api c) + cells_above world most_classes (Api c) ≡ cells_of c
   pub fields : (token : ℕ) → instance_type_of world (Api c) token ≡ None
 
--- a class of the API as it counts in types
+-- a class of the API as types count it
 abbrev pub counted_name : ApiClass → ClassName
 counted_name c = if tables.is_interface c then Api Object else Api c
 
--- a virtual member of the API in a world, by its number: its class's table has it at a public token, and its class
--- finds it there. What any class finds there, and that class or one above it declares, is this member
+-- a virtual member of the API in a world, by its number: its class's table has it at a public token, at which its class
+-- finds it. If any class finds a method there that this class or a superclass of it declares, it is this member
 pub record StandsAtToken (world : List Shape) (bound : Bound) (number : ℕ) (c : ApiClass) : Type 0 where
   pub token : ℕ
   pub public : token < package_visible
@@ -61,8 +61,8 @@ pub record StandsAtToken (world : List Shape) (bound : Bound) (number : ℕ) (c 
   pub only : (d : ClassName) (name : MethodName) (m : DeclaredMethod) → virtual_method_of world d token 0 ≡ Some name
       → method_at world name ≡ Some m → IsHeir world (Api c) m.class → name ≡ methods.Api number
 
--- a world stands on the API, as a binding has it: each class and each member is there, with its type. What a class of
--- the API finds is a member of the API, and no member stands in its class's table at a token that isn't public
+-- a world stands on the API, with a binding: it has each class and each member, with its type. Every method that a
+-- class of the API finds is a member of the API, and no member is in its class's table at a token that isn't public
 pub record StandsOnApi (world : List Shape) : Type 0 where
   pub stands : (c : ApiClass) → StandsThere world c
   pub bound : Bound

@@ -1,5 +1,5 @@
--- A package with an applet, as an example: its class extends Applet, overrides process, and has an install method; its
--- pool names the class, and register of it.
+-- A package with an applet, as an example. Its class extends Applet, overrides process, and has an install method; its
+-- pool names the class, and the class's method register.
 use Rattle.std.specs.Prelude.{true, false, [], ◌∷◌, Some, None}
 use Rattle.jc_base.specs.declared.class_ref.ClassRef.TheVariants.{Internal, External}
 use Rattle.jc_base.specs.declared.declared_type.DeclaredType.TheVariants.{Byte, Short, Reference, ByteArray}

@@ -7,7 +7,7 @@ use Rattle.jc_classes.specs.Api.{api_world}
 use Rattle.jc_classes.specs.Growth.{grown}
 use Rattle.jc_link.specs.WellFormed.{IsWellFormed}
 
--- the API's packages alone, under any binding; and behind a world a package that is well-formed there
+-- the API's packages alone, with any binding; and a world with a package appended that is well-formed there
 pub data IsBuilt : List Shape → Type 0 where
   api : (bound : Bound) → HasNoClash bound → IsBuilt (api_world bound)
   loaded : (before : List Shape) (p : Package) → IsBuilt before → IsWellFormed before p → IsBuilt (grown before p.shape)

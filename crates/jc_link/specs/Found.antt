@@ -1,5 +1,4 @@
--- Types whose classes are looked for: there is such a type where each of its classes is found. And when two types are
--- one.
+-- Types with their classes resolved: such a type exists if each of its classes resolves. And equality of types.
 use Rattle.std.specs.Prelude.{ℕ, ◌==◌, Bool, true, false, ◌&&◌, List, [], ◌∷◌, Option, Some, None}
 use Rattle.std.specs.Option.{option_and_then, option_map}
 use Rattle.jc_base.specs.Signature.{Signature}
@@ -11,7 +10,7 @@ use Rattle.jc_base.specs.declared.declared_type.ReturnType.TheVariants.{Void, Va
 use Rattle.jc_names.specs.Names.{is_same_name}
 use Rattle.jc_names.specs.declared.name.ClassName.{ClassName}
 
--- a type with its class found, if it is
+-- a type with its class resolved, if it resolves
 abbrev pub type_found : {C D : Type 0} → (C → Option D) → DeclaredType C → Option (DeclaredType D)
 type_found find Boolean = Some Boolean
 type_found find Byte = Some Byte
@@ -26,7 +25,7 @@ abbrev pub return_found : {C D : Type 0} → (C → Option D) → ReturnType C �
 return_found find Void = Some Void
 return_found find (Value type) = option_map Value (type_found find type)
 
--- types with their classes found, if all are
+-- types with their classes resolved, if all resolve
 abbrev pub types_found : {C D : Type 0} → (C → Option D) → List (DeclaredType C) → Option (List (DeclaredType D))
 types_found find [] = Some []
 types_found find (type ∷ types) =
@@ -38,7 +37,7 @@ signature_found find s =
     (return_found find s.result))
     (types_found find s.parameters)
 
--- what a type is, whatever its class; and its class
+-- the kind of a type, whatever its class; and its class
 abbrev pub kind_of : {C : Type 0} → DeclaredType C → ℕ
 kind_of Boolean = 0
 kind_of Byte = 1
@@ -59,14 +58,14 @@ class_in ByteArray = None
 class_in ShortArray = None
 class_in (ReferenceArray c) = Some c
 
--- whether two classes are one, as far as they are there
+-- whether two optional classes are equal
 abbrev pub is_same_class : Option ClassName → Option ClassName → Bool
 is_same_class None None = true
 is_same_class None (Some d) = false
 is_same_class (Some c) None = false
 is_same_class (Some c) (Some d) = is_same_name c d
 
--- whether two types are one
+-- whether two types are equal
 abbrev pub is_same_type : DeclaredType ClassName → DeclaredType ClassName → Bool
 is_same_type one other = kind_of one == kind_of other && is_same_class (class_in one) (class_in other)
 
@@ -85,7 +84,7 @@ is_same_return (Value c) (Value d) = is_same_type c d
 abbrev pub is_same_signature : Signature ClassName → Signature ClassName → Bool
 is_same_signature one other = are_same_types one.parameters other.parameters && is_same_return one.result other.result
 
--- whether two were found, and are one; what wasn't found is equal to nothing
+-- whether both are there, and are equal; what isn't there is equal to nothing
 abbrev pub agree : {A : Type 0} → (A → A → Bool) → Option A → Option A → Bool
 agree is_same None other = false
 agree is_same (Some a) None = false

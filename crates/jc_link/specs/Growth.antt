@@ -1,4 +1,4 @@
--- A world that grows: packages behind the others change nothing of what is said of those before them.
+-- A world that grows: appending packages changes no result of linking for those before them.
 use Rattle.std.specs.Prelude.{◌≡◌, ℕ, ◌<◌, ◌≤◌, List, length}
 use Rattle.jc_base.specs.Signature.{Signature}
 use Rattle.jc_base.specs.declared.class_ref.ClassRef.{ClassRef}
@@ -14,11 +14,11 @@ use Rattle.jc_link.specs.Target.{instance_type_of, pool_target_of, static_type_o
 use Rattle.jc_link.specs.WellFormed.{linking_fault}
 use Rattle.jc_link.specs.declared.named.StaticPlace.{StaticPlace}
 
--- the two packages of the API are there, so that one behind them doesn't stand where a package of the API belongs
+-- the two packages of the API are there, so that a package after them doesn't take a place of the API
 abbrev pub HasApi : List Shape → Type 0
 HasApi world = 2 ≤ length world
 
--- what is said of packages that are in the world is as before
+-- linking's results for packages of the world are as before
 pub record KeepsLinking (world : List Shape) (more : Shape) : Type 0 where
   pub types : (home : ℕ) (s : Signature ClassRef) → home < length world
       → member_type_of (grown world more) home s ≡ member_type_of world home s
@@ -29,7 +29,8 @@ pub record KeepsLinking (world : List Shape) (more : Shape) : Type 0 where
   pub faults : (home : ℕ) (p : Package) → HasApi world → home < length world
       → linking_fault (grown world more) home p ≡ linking_fault world home p
 
--- what is said of packages of the earlier world, and of their classes, methods and fields, is the same in the later one
+-- linking's results for packages of the earlier world, and for their classes, methods and fields, are the same in the
+-- later one
 pub record KeepsAllLinking (before after : List Shape) : Type 0 where
   pub counts : (c : ClassName) → IsWithin before c → counted after c ≡ counted before c
   pub types : (home : ℕ) (s : Signature ClassRef) → home < length before

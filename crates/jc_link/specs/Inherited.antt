@@ -1,5 +1,5 @@
--- What makes a class unfit for its world by what it inherits: methods that are lost, overridden with another type, or
--- left abstract, and interfaces that aren't implemented (Java Card Virtual Machine Specification, Class component:
+-- Faults of a class that depend on what it inherits: methods that are lost, overridden with another type, or left
+-- abstract, and interfaces that aren't implemented (Java Card Virtual Machine Specification, Class component:
 -- public_virtual_method_table, package_virtual_method_table, implemented_interface_info).
 use Rattle.std.specs.Prelude.{ℕ, zero, suc, ◌==◌, Bool, false, not, ◌&&◌, ◌||◌, List, [], ◌++◌, map, length, Option}
 use Rattle.std.specs.Prelude.{is_some, slice_get}
@@ -30,8 +30,8 @@ package_tokens = range_with_len 128 128
 unfoldable pub virtual_tokens : List ℕ
 virtual_tokens = range_with_len 0 256
 
--- a token at which the superclass finds a method, and the class none; package-visible ones are looked up for the
--- class's package
+-- the superclass has a method at a token, and the class has none; package-visible ones are looked up for the class's
+-- package
 abbrev pub loses_at : List Shape → ℕ → ClassName → ℕ → Bool
 loses_at world home c token =
     is_some (method_above world home token c) && not (is_some (virtual_method_of world c token home))
@@ -39,19 +39,19 @@ loses_at world home c token =
 abbrev pub loses_method : List Shape → ℕ → ClassName → Bool
 loses_method world home c = list_any (loses_at world home c) virtual_tokens
 
--- whether two names are of one method
+-- whether two names are equal
 abbrev pub is_same_method : MethodName → MethodName → Bool
 is_same_method (Api a) (Api b) = a == b
 is_same_method (Loaded p m) (Loaded q n) = p == q && m == n
 is_same_method (Api a) (Loaded q n) = false
 is_same_method (Loaded p m) (Api b) = false
 
--- a method in place of another one, of another type
+-- two methods differ, and have different types
 abbrev pub is_other_type : List Shape → MethodName → MethodName → Bool
 is_other_type world m above =
     not (is_same_method m above) && not (have_same_type (method_type_of world m) (method_type_of world above))
 
--- a token at which the class and its superclass find methods of different types
+-- the class and its superclass have methods of different types at a token
 abbrev pub retypes_at : List Shape → ℕ → ClassName → ℕ → Bool
 retypes_at world home c token =
     option_map_or (λ m. option_map_or (is_other_type world m) (method_above world home token c) false)
@@ -60,15 +60,15 @@ retypes_at world home c token =
 abbrev pub overrides_with_another_type : List Shape → ℕ → ClassName → Bool
 overrides_with_another_type world home c = list_any (retypes_at world home c) virtual_tokens
 
--- whether a method is there that is abstract
+-- whether a method exists and is abstract
 abbrev pub is_abstract_at : List Shape → MethodName → Bool
 is_abstract_at world m = option_map_or (λ d. is_abstract_method d.method) (method_at world m) false
 
--- a token, looked up for a package, at which the class leaves a method abstract
+-- the class leaves a method abstract at a token, looked up for the package at place `asker`
 abbrev pub leaves_at : List Shape → ClassName → ℕ → ℕ → Bool
 leaves_at world c asker token = option_map_or (is_abstract_at world) (virtual_method_of world c token asker) false
 
--- a method that is left abstract: a public one, or a package-visible one of any package
+-- a method is left abstract: a public one, or a package-visible one for any package
 abbrev pub leaves_package_abstract : List Shape → ClassName → ℕ → Bool
 leaves_package_abstract world c asker = list_any (leaves_at world c asker) package_tokens
 
@@ -77,12 +77,12 @@ leaves_abstract world c =
     list_any (leaves_at world c 0) public_tokens
     || list_any (leaves_package_abstract world c) (range_with_len 0 (length world))
 
--- a row of an interface, and where the package of its class stands
+-- a row of an interface, and the place of its class's package
 pub record ListedRow : Type 0 where
   pub home : ℕ
   pub row : Implemented
 
--- the rows of a class and of its superclasses, within so many classes
+-- the rows of a class and of its superclasses, within n classes
 abbrev pub rows_of : List Shape → ClassName → List ListedRow
 rows_of world c =
     option_map_or (λ k. map (λ row. record { home = home_of c; row = row }) (interface_rows k.body))
@@ -92,28 +92,28 @@ abbrev pub rows_along : List Shape → ℕ → ClassName → List ListedRow
 rows_along world zero c = []
 rows_along world (suc n) c = rows_of world c ++ option_map_or (rows_along world n) (superclass_of world c) []
 
--- an index of a row that leads to no method, or to an abstract one; it is looked up from the class itself
+-- an index of a row leads to no method, or to an abstract one; it is looked up from the class itself
 abbrev pub misses : List Shape → ClassName → ℕ → Bool
 misses world c index = not (option_map_or (is_concrete world) (public_method_of world c index) false)
 
--- the method that a row's indexes have for a token
+-- the method of the class for an interface's token, by a row's indexes
 abbrev pub method_for : List Shape → ClassName → List ℕ → ℕ → Option MethodName
 method_for world c indexes token = option_and_then (public_method_of world c) (slice_get indexes token)
 
--- a method of an interface that has a type, and for which the class has none, or one of another type
+-- a method of an interface has a type, and the class has no method for it, or one of another type
 abbrev pub is_unimplemented : List Shape → ClassName → List ℕ → ℕ → MethodShape → Bool
 is_unimplemented world c indexes home m =
     is_some (member_type_of world home m.signature)
     && not (have_same_type (member_type_of world home m.signature)
     (option_and_then (method_type_of world) (method_for world c indexes m.token)))
 
--- an interface with such a method
+-- an interface has such a method
 abbrev pub lacks_methods_of : List Shape → ClassName → List ℕ → ClassName → Bool
 lacks_methods_of world c indexes interface =
     option_map_or (λ k. list_any (is_unimplemented world c indexes (home_of interface)) k.methods)
     (class_at world interface) false
 
--- a row that the class doesn't keep
+-- a row that the class doesn't fulfil
 abbrev pub breaks_row : List Shape → ClassName → ListedRow → Bool
 breaks_row world c r =
     list_any (misses world c) r.row.indexes
@@ -122,6 +122,6 @@ breaks_row world c r =
 abbrev pub breaks_interface : List Shape → ClassName → Bool
 breaks_interface world c = list_any (breaks_row world c) (rows_along world most_classes c)
 
--- a class that isn't abstract, and leaves a method abstract or doesn't keep an interface's row
+-- a class that isn't abstract, and leaves a method abstract or doesn't fulfil an interface's row
 abbrev pub is_unfinished : List Shape → ClassName → ClassShape → Bool
 is_unfinished world c k = is_class k.body && not k.is_abstract && (leaves_abstract world c || breaks_interface world c)

@@ -1,5 +1,5 @@
--- Types whose classes are known, and what a world says of the types in it: they name classes that are there, as an
--- interface counts as Object (Java Card Virtual Machine Specification, Linking; Verification types).
+-- Types whose classes are known. The types of a world name existing classes, and an interface counts as Object (Java
+-- Card Virtual Machine Specification, Linking; Verification types).
 use Rattle.std.specs.Prelude.{◌≡◌, ℕ, Bool, true, ◌&&◌, List, Some}
 use Rattle.std.specs.List.{list_all}
 use Rattle.std.specs.Option.{option_map_or}
@@ -31,11 +31,11 @@ abbrev pub is_known_return : (ClassName → Bool) → ReturnType ClassName → B
 is_known_return known Void = true
 is_known_return known (Value type) = is_known_type known type
 
--- so it is of all that a method takes and gives
+-- all parameters and the result of a method have known types
 abbrev pub is_known_signature : (ClassName → Bool) → Signature ClassName → Bool
 is_known_signature known s = list_all (is_known_type known) s.parameters && is_known_return known s.result
 
--- an entry of a pool leads to a class or an interface that is there, or to a member with such a type
+-- the target of a pool's entry is a class or an interface of the world, or a member with such a type
 abbrev pub is_known_target : List Shape → PoolTarget → Bool
 is_known_target world (To.Class c) = is_class_at world (counted world c)
 is_known_target world (To.InstanceField c cell declared) = is_known_type (is_class_at world) declared
@@ -44,9 +44,9 @@ is_known_target world (To.VirtualMethod c token signature) = is_known_signature 
 is_known_target world (To.SuperMethod c m signature) = is_known_signature (is_class_at world) signature
 is_known_target world (To.StaticMethod c m is_static signature) = is_known_signature (is_class_at world) signature
 
--- what types name in a world are classes that are there: Object and Throwable, what has a superclass, the nearest class
--- above two of which the first is one, those in the types of members, those that declare methods, and those that
--- entries of pools lead to
+-- the types of a world name existing classes: Object and Throwable, each class with a superclass, the nearest class
+-- above two of which the first is a class, the classes in the types of members, those that declare methods, and those
+-- of the targets of pools' entries
 pub record NameClasses (world : List Shape) : Type 0 where
   pub object : is_class_at world (Api Object) ≡ true
   pub throwable : is_class_at world (Api Throwable) ≡ true

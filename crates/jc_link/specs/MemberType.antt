@@ -1,5 +1,5 @@
--- The types of members (Java Card Virtual Machine Specification, Descriptor component): those of their rows, with the
--- classes found that are spelled there. An interface counts as Object.
+-- The types of members (Java Card Virtual Machine Specification, Descriptor component): those of their rows, with their
+-- classes resolved. An interface counts as Object.
 use Rattle.std.specs.Prelude.{ℕ, Bool, List, [], Option, if◌then◌else◌}
 use Rattle.std.specs.Option.{option_and_then, option_map}
 use Rattle.jc_base.specs.Signature.{Signature}
@@ -17,11 +17,11 @@ use Rattle.jc_names.specs.declared.name.ClassName.TheVariants.{Api}
 use Rattle.jc_names.specs.declared.name.MethodName.{MethodName}
 use Rattle.jc_link.specs.Found.{type_found, signature_found, is_same_signature, agree}
 
--- a class as it counts in types
+-- a class as types count it
 abbrev pub counted : List Shape → ClassName → ClassName
 counted world c = if is_interface_at world c then Api Object else c
 
--- the class that a reference of the package that stands there stands for in a type
+-- the class of a type that a reference of the package at place `home` resolves to
 abbrev pub type_class : List Shape → ℕ → ClassRef → Option ClassName
 type_class world home ref = option_map (counted world) (class_named world home ref)
 
@@ -32,17 +32,17 @@ member_type_of world home s = signature_found (type_class world home) s
 abbrev pub field_type_of : List Shape → ℕ → FieldShape → Option (DeclaredType ClassName)
 field_type_of world home f = type_found (type_class world home) f.type
 
--- the type of a method that has a name, from its row where it is declared
+-- the type of the method with a name, from its row in the class that declares it
 abbrev pub declared_type_of : List Shape → DeclaredMethod → Option (Signature ClassName)
 declared_type_of world d = member_type_of world (home_of d.class) d.method.signature
 
 abbrev pub method_type_of : List Shape → MethodName → Option (Signature ClassName)
 method_type_of world m = option_and_then (declared_type_of world) (method_at world m)
 
--- a field's type as a member's: it takes nothing, and gives the field
+-- a field's type as a signature: no parameters, and the field's type as the result
 abbrev pub as_member : {C : Type 0} → DeclaredType C → Signature C
 as_member type = record { parameters = []; result = Value type }
 
--- whether two members have one type
+-- whether two members have types, and these are equal
 abbrev pub have_same_type : Option (Signature ClassName) → Option (Signature ClassName) → Bool
 have_same_type one other = agree is_same_signature one other

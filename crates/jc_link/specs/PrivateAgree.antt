@@ -1,4 +1,4 @@
--- Private. Whether types are one, place by place, each found for itself; what isn't found is equal to nothing.
+-- Private. Equality of types, element by element, each resolved by itself; what doesn't resolve is equal to nothing.
 use Rattle.std.specs.Prelude.{Bool, true, false, ◌&&◌, List, [], ◌∷◌, Option}
 use Rattle.jc_base.specs.Signature.{Signature}
 use Rattle.jc_base.specs.declared.declared_type.DeclaredType.{DeclaredType}

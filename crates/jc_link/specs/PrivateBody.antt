@@ -1,4 +1,4 @@
--- Private. Initialised arrays as they are kept.
+-- Private. Kept initialised arrays.
 use Rattle.std.specs.Prelude.{ℤ, List}
 use Rattle.jc_cap.specs.declared.arrays.StaticArray.{StaticArray}
 use Rattle.jc_cap.specs.declared.arrays.StaticArray.TheVariants as Of

@@ -1,4 +1,4 @@
--- Private. Refusals of linking, some at a time.
+-- Private. Parts of the refusals of linking.
 use Rattle.std.specs.Prelude.{◌≡◌, ◌⊎◌, ℕ, take, List, Option, Some}
 use Rattle.std.specs.Option.{option_map, option_or}
 use Rattle.jc_base.specs.declared.fault.LoadFault.{LoadFault}
@@ -15,11 +15,11 @@ class_fault world home shape body =
     (option_or (option_map BadStatic (first_bad_static body.statics shape))
     (duplicate (is_there_already (take home world) shape)))
 
--- what is wrong with a package each entry of whose pool names something, but for its imports
+-- the first fault of a package, apart from its imports and the names of its entries
 abbrev pub fault_behind_names : List Shape → ℕ → Shape → Body → Option LoadFault
 fault_behind_names world home shape body =
     option_or (option_map TypeMismatch (first_mistyped world home body)) (class_fault world home shape body)
 
--- memory is out, or this is what is wrong
+-- out of memory, or this fault
 abbrev pub IsTold : Option LoadFault → LoadFault → Type 0
 IsTold wrong fault = (fault ≡ Memory) ⊎ (wrong ≡ Some fault)

@@ -1,5 +1,4 @@
--- Private. A class that is fit for its world: none of what makes a class unfit holds of it, but that Object has no
--- superclass.
+-- Private. A class without faults in its world, except that Object has no superclass.
 use Rattle.std.specs.Prelude.{◌≡◌, ◌⊎◌, ℕ, false, List, Some, None, slice_get}
 use Rattle.jc_cap_desc.specs.Shape.{ClassShape, Shape}
 use Rattle.jc_api.specs.declared.class.ApiClass.TheVariants.{Object}
@@ -12,7 +11,7 @@ use Rattle.jc_link.specs.Classes.{lacks_superclass, leads_round, lists_no_interf
 use Rattle.jc_link.specs.Classes.{has_field_past_size, has_bad_entry, has_other_nargs}
 use Rattle.jc_link.specs.Inherited.{loses_method, overrides_with_another_type, is_unfinished}
 
--- Object, which has nothing above it
+-- Object, which has no superclass
 pub record IsRoot (world : List Shape) (c : ClassName) : Type 0 where
   pub object : c ≡ Api Object
   pub nothing : superclass_of world c ≡ None
@@ -29,11 +28,11 @@ pub record IsFit (world : List Shape) (c : ClassName) (k : ClassShape) : Type 0 
   pub types_kept : overrides_with_another_type world (home_of c) c ≡ false
   pub finished : is_unfinished world c k ≡ false
 
--- each class that a name has in a world is
+-- each class with a name in a world is
 abbrev pub AreFit : List Shape → Type 0
 AreFit world = (c : ClassName) (k : ClassShape) → class_at world c ≡ Some k → IsFit world c k
 
--- and each class of a package, which has a name: there may be two of one name
+-- and each class of a package, which has a name: two may have one name
 pub record IsFitThere (world : List Shape) (home : ℕ) (k : ClassShape) : Type 0 where
   pub class : ClassName
   pub named : name_of home k ≡ Some class

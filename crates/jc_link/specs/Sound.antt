@@ -1,5 +1,5 @@
--- What a machine relies on in the world of a card (Java Card Virtual Machine Specification, Binary Compatibility;
--- getfield, invokevirtual, invokespecial, invokestatic, invokeinterface).
+-- The properties of a card's world that a machine relies on (Java Card Virtual Machine Specification, Binary
+-- Compatibility; getfield, invokevirtual, invokespecial, invokestatic, invokeinterface).
 use Rattle.std.specs.Prelude.{◌≡◌, ℕ, ◌+◌, ◌<◌, Bool, true, false, List, length, Some, None, IsSome, is_some, slice_get}
 use Rattle.std.specs.List.{list_all}
 use Rattle.jc_base.specs.Signature.{Signature}
@@ -24,12 +24,12 @@ use Rattle.jc_link.specs.Named.{cells_above, instance_field_at, is_concrete, siz
 use Rattle.jc_link.specs.Target.{instance_type_of, pool_target_of, static_type_of}
 use Rattle.jc_link.specs.declared.named.StaticPlace.{StaticPlace}
 
--- a class is another one, or its superclasses lead there
+-- a class is another one, or has it as a superclass, any number of steps up
 pub data IsHeir (world : List Shape) : ClassName → ClassName → Type 0 where
   itself : (c : ClassName) → IsHeir world c c
   behind : (c d e : ClassName) → superclass_of world c ≡ Some d → IsHeir world d e → IsHeir world c e
 
--- superclasses are classes, and come to an end in Object, which has none. What a walk up to the end finds above a class
+-- superclasses are classes, and their chains end in Object, which has none. What `is_at_or_above` finds above a class
 -- is above it
 pub record HaveSuperclasses (world : List Shape) : Type 0 where
   pub orderly : IsOrderly world
@@ -38,8 +38,8 @@ pub record HaveSuperclasses (world : List Shape) : Type 0 where
   pub top : superclass_of world (Api Object) ≡ None
   pub heirs : (c d : ClassName) → is_at_or_above world most_classes d c ≡ true → IsHeir world c d
 
--- a field of objects has a type, and a cell among those of its class, which stand behind those of the superclass; a
--- static field has a type
+-- an instance field has a type, and a cell among those of its class, which come after those of the superclass; a static
+-- field has a type
 pub record HaveFields (world : List Shape) : Type 0 where
   pub types : (c : ClassName) (token : ℕ) (f : FieldShape) → instance_field_at world c token ≡ Some f
       → IsSome (instance_type_of world c token)
@@ -56,21 +56,21 @@ pub record HaveMethods (world : List Shape) : Type 0 where
   pub words : (m : MethodName) (d : DeclaredMethod) (h : MethodHeader) → method_at world m ≡ Some d
       → d.method.header ≡ Some h → h.nargs ≡ argument_count d.method
 
--- a method that a class finds is there, isn't static, and is declared by the class or above it
+-- a method that a class finds exists, isn't static, and is declared by the class or a superclass of it
 pub record IsInstanceMethod (world : List Shape) (c : ClassName) (m : MethodName) : Type 0 where
   pub declared : DeclaredMethod
   pub there : method_at world m ≡ Some declared
   pub instance : declared.method.is_static ≡ false
   pub heir : IsHeir world c declared.class
 
--- a class has a method of the same type in place of one that is found above it
+-- a class has a method of the same type as one that a superclass of it has
 pub record HasInPlace (world : List Shape) (c : ClassName) (token asker : ℕ) (above : MethodName) : Type 0 where
   pub method : MethodName
   pub found : virtual_method_of world c token asker ≡ Some method
   pub type : method_type_of world method ≡ method_type_of world above
 
--- what a class finds at a virtual token is a method of objects, and what is found there above it it finds too, or
--- overrides it
+-- the method that a class finds at a virtual token is an instance method; and a class has each method of its
+-- superclasses, or overrides it
 pub record HaveVirtualMethods (world : List Shape) : Type 0 where
   pub found : (c : ClassName) (token asker : ℕ) (m : MethodName) → virtual_method_of world c token asker ≡ Some m
       → IsInstanceMethod world c m
@@ -78,15 +78,14 @@ pub record HaveVirtualMethods (world : List Shape) : Type 0 where
       → virtual_method_of world d token asker ≡ Some above
       → HasInPlace world c token asker above
 
--- an object's class has the method of an interface: it isn't abstract, and has the type that the interface says
+-- an object's class has the method of an interface: it isn't abstract, and has the type that the interface states
 pub record HasMethodOf (world : List Shape) (c interface : ClassName) (row : MethodShape) : Type 0 where
   pub method : MethodName
   pub found : interface_method_of world c interface row.token ≡ Some method
   pub concrete : is_concrete world method ≡ true
   pub type : method_type_of world method ≡ member_type_of world (home_of interface) row.signature
 
--- a class of which objects are made leaves no method abstract, and has each method of each interface that its chain
--- lists
+-- a class that isn't abstract leaves no method abstract, and has each method of each interface that its chain lists
 pub record IsFinished (world : List Shape) (c : ClassName) : Type 0 where
   pub concrete : (token asker : ℕ) (m : MethodName) → token < 256 → asker < length world
       → virtual_method_of world c token asker ≡ Some m → is_concrete world m ≡ true
@@ -94,7 +93,7 @@ pub record IsFinished (world : List Shape) (c : ClassName) : Type 0 where
       → IsSome (found (interface_visit world interface) world c)
       → class_at world interface ≡ Some k → slice_get k.methods n ≡ Some row → HasMethodOf world c interface row
 
--- all of that, and types that are told to be the same are
+-- all of these; and types that `is_same_signature` accepts are equal
 pub record IsSound (world : List Shape) : Type 0 where
   pub superclasses : HaveSuperclasses world
   pub fields : HaveFields world
@@ -104,7 +103,7 @@ pub record IsSound (world : List Shape) : Type 0 where
       → k.is_abstract ≡ false → IsFinished world c
   pub same_types : (s t : Signature ClassName) → is_same_signature s t ≡ true → s ≡ t
 
--- each entry of the pool of the package that stands there leads somewhere
+-- each entry of the pool of the package at place `home` has a target
 abbrev pub leads_somewhere : List Shape → ℕ → PoolEntry → Bool
 leads_somewhere world home entry = is_some (pool_target_of world home entry)
 

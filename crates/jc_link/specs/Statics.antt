@@ -27,11 +27,11 @@ static_of f = placed f.place
     placed (Static offset) = Some (record { offset = offset; type = f.type })
     placed (Instance class token) = None
 
--- those of a package, in the order of the classes
+-- the static fields of a package, in the order of the classes
 abbrev pub static_fields : Shape → List StaticField
 static_fields shape = filter_map static_of (flat_map (λ k. k.fields) shape.classes)
 
--- whether it holds a reference
+-- whether a field of a type holds a reference
 abbrev pub holds_reference : {C : Type 0} → DeclaredType C → Bool
 holds_reference Declared.Boolean = false
 holds_reference Declared.Byte = false
@@ -42,7 +42,7 @@ holds_reference Declared.ByteArray = true
 holds_reference Declared.ShortArray = true
 holds_reference (Declared.ReferenceArray c) = true
 
--- how many bytes it takes
+-- how many bytes a field of a type takes
 abbrev pub width_of : {C : Type 0} → DeclaredType C → ℕ
 width_of Declared.Boolean = 1
 width_of Declared.Byte = 1
@@ -56,17 +56,17 @@ width_of (Declared.ReferenceArray c) = 2
 abbrev pub behind : StaticField → ℕ
 behind f = f.offset + width_of f.type
 
--- a field that leaves the image
+-- a field that runs past the image
 abbrev pub leaves_image : StaticImage → StaticField → Bool
 leaves_image image f = nat_lt image.size (behind f)
 
--- a reference that isn't one of the references in front, or a primitive that isn't behind them
+-- a reference that isn't one of the image's first references, or a primitive that isn't after them
 abbrev pub is_misplaced : StaticImage → StaticField → Bool
 is_misplaced image f =
     if holds_reference f.type then not (f.offset % 2 == 0 && nat_lt f.offset (2 * image.references))
     else nat_lt f.offset (2 * image.references)
 
--- whether two fields share a byte; each shares its own with itself
+-- whether two fields share a byte; each shares its own bytes with itself
 abbrev pub share_a_byte : StaticField → StaticField → Bool
 share_a_byte f g = nat_lt f.offset (behind g) && nat_lt g.offset (behind f)
 
@@ -80,11 +80,11 @@ array_type (Of.Boolean values) = Declared.BooleanArray
 array_type (Of.Byte values) = Declared.ByteArray
 array_type (Of.Short values) = Declared.ShortArray
 
--- whether an initialised array is exactly of a type
+-- whether an initialised array has exactly this type
 abbrev pub is_of_type : StaticArray → DeclaredType ClassRef → Bool
 is_of_type array type = kind_of (array_type array) == kind_of type
 
--- the field of an initialised array, which isn't of that array's type
+-- a field refers to an initialised array, and has another type
 abbrev pub is_of_another_array : StaticImage → StaticField → Bool
 is_of_another_array image f =
     f.offset % 2 == 0 && option_map_or (λ array. not (is_of_type array f.type))

@@ -1,4 +1,4 @@
--- What entries of the constant pool lead to, with the types of members: what an instruction needs of an entry.
+-- The targets of entries of the constant pool, with the types of members: what an instruction needs of an entry.
 use Rattle.std.specs.Prelude.{map, ℕ, ◌+◌, List, Option, Some, None}
 use Rattle.std.specs.Option.{option_and_then, option_map}
 use Rattle.jc_base.specs.Signature.{Signature}
@@ -34,15 +34,15 @@ named_type_of world (Names.VirtualMethod c token m) = method_type_of world m
 named_type_of world (Names.SuperMethod c m) = method_type_of world m
 named_type_of world (Names.StaticMethod m) = method_type_of world m
 
--- the cell of a field: behind those of the superclasses at its token
+-- the cell of a field: its token, after the cells of the superclasses
 abbrev pub cell_of : List Shape → ClassName → ℕ → ℕ
 cell_of world c token = cells_above world most_classes c + token
 
--- a static method or constructor with its class, as it was declared
+-- a static method or constructor with its class and its declared type
 abbrev pub target_of_declared : List Shape → MethodName → DeclaredMethod → Option PoolTarget
 target_of_declared world m d = option_map (To.StaticMethod d.class m d.method.is_static) (declared_type_of world d)
 
--- what is named, with its type, if that is there
+-- the target of a name, if its type resolves
 abbrev pub target_of : List Shape → Named → Option PoolTarget
 target_of world (Names.Class c) = Some (To.Class c)
 target_of world (Names.InstanceField c token) =
@@ -52,10 +52,10 @@ target_of world (Names.VirtualMethod c token m) = option_map (To.VirtualMethod c
 target_of world (Names.SuperMethod c m) = option_map (To.SuperMethod c m) (method_type_of world m)
 target_of world (Names.StaticMethod m) = option_and_then (target_of_declared world m) (method_at world m)
 
--- what an entry of the package that stands there leads to
+-- the target of an entry of the package at place `home`
 abbrev pub pool_target_of : List Shape → ℕ → PoolEntry → Option PoolTarget
 pool_target_of world home entry = option_and_then (target_of world) (named_by world home entry)
 
--- what the entries of a pool lead to, in their order, if they lead anywhere
+-- the targets of the entries of a pool, in order, if they have any
 abbrev pub pool_targets : List Shape → ℕ → List PoolEntry → List (Option PoolTarget)
 pool_targets world home pool = map (pool_target_of world home) pool

@@ -1,5 +1,5 @@
--- Whether a package is well-formed in its world, which it stands in with the others, and else which refusal is told
--- (Java Card Virtual Machine Specification, Linking; Binary Compatibility).
+-- Whether a package is well-formed in its world, in which it stands with the others, and otherwise which refusal is
+-- reported (Java Card Virtual Machine Specification, Linking; Binary Compatibility).
 use Rattle.std.specs.Prelude.{take, ◌≡◌, ℕ, true, ◌||◌, Bool, List, length, Option, Some, None, if◌then◌else◌}
 use Rattle.std.specs.List.{find}
 use Rattle.std.specs.Option.{option_map, option_map_or, option_or}
@@ -17,7 +17,7 @@ use Rattle.jc_link.specs.Inherited.{is_unfinished, loses_method, overrides_with_
 use Rattle.jc_link.specs.Pool.{first_mistyped, first_unresolved}
 use Rattle.jc_link.specs.Statics.{first_bad_static}
 
--- what is wrong with a class by itself, and by what it inherits
+-- faults of a class that don't depend on what it inherits, and faults that do
 abbrev pub is_bad_alone : List Shape → ℕ → ClassName → ClassShape → Bool
 is_bad_alone world home c k =
     lacks_superclass world c k || leads_round world c || lists_no_interface world home k
@@ -34,15 +34,15 @@ is_bad world home k c = is_bad_alone world home c k || is_bad_heir world home c 
 abbrev pub is_bad_class : List Shape → ℕ → ClassShape → Bool
 is_bad_class world home k = option_map_or (is_bad world home k) (name_of home k) true
 
--- the offset of the first
+-- the offset of the first class that isn't well-formed
 abbrev pub first_bad_class : List Shape → ℕ → Shape → Option ℕ
 first_bad_class world home shape = option_map (λ k. k.offset) (find (is_bad_class world home) shape.classes)
 
--- a package that is there already
+-- a duplicate package
 abbrev pub duplicate : Bool → Option LoadFault
 duplicate found = if found then Some DuplicatePackage else None
 
--- why the package that stands there isn't well-formed: the refusal with the least number, at its first place
+-- why the package at place `home` isn't well-formed: the refusal with the least number, at its first place
 abbrev pub linking_fault : List Shape → ℕ → Package → Option LoadFault
 linking_fault world home p =
     option_or (option_map MissingImport (first_unmet world home p.shape))
@@ -52,7 +52,7 @@ linking_fault world home p =
     (option_or (option_map BadStatic (first_bad_static p.body.statics p.shape))
     (duplicate (is_there_already (take home world) p.shape))))))
 
--- the world of the packages before one, with it behind them, and why it isn't well-formed there
+-- why a package isn't well-formed, appended to the world of the packages before it
 abbrev pub fault_behind : List Shape → Package → Option LoadFault
 fault_behind before p = linking_fault (grown before p.shape) (length before) p
 

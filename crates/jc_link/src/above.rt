@@ -1,4 +1,4 @@
-//! Rows that a class keeps, since the class above it keeps them and finds the same methods.
+//! Interface rows that a class fulfils because its superclass does and has the same methods.
 
 ghost use Rattle.std.specs.Prelude.{◌≡◌, ◌&&◌, true, false, Some};
 ghost use Rattle.std.specs.List.{list_any};
@@ -16,10 +16,10 @@ use crate::methods::ClassMethods;
 use jc_classes::Class;
 use jc_names::{ClassName, MethodName, PackagePlace};
 
-/// How many tokens there are for public methods.
+/// The number of tokens of public methods.
 const PUBLIC_TOKENS: u8 = 128;
 
-/// Whether a class has a name.
+/// Whether a class has this name.
 fn is_named(home: PackagePlace, class: ClassName, found: &Class) -> bool
     ensures { result ≡ option_map_or (is_same_name class) (name_of home found.now) false }
 {
@@ -29,14 +29,14 @@ fn is_named(home: PackagePlace, class: ClassName, found: &Class) -> bool
     }
 }
 
-/// Whether it is the class with a name, and isn't abstract.
+/// Whether it is the class with this name, and isn't abstract.
 fn is_finished_as(home: PackagePlace, class: ClassName, found: &Class) -> bool
     ensures { result ≡ is_finished_as home class found.now }
 {
     is_named(home, class, found) && found.is_class() && !found.is_abstract()
 }
 
-/// Whether that is one of some classes.
+/// Whether one of these classes is the class with this name, and isn't abstract.
 fn is_one_of(home: PackagePlace, class: ClassName, before: &[Class]) -> bool
     ensures { result ≡ list_any (is_finished_as home class) before.now }
 {
@@ -45,7 +45,7 @@ fn is_one_of(home: PackagePlace, class: ClassName, before: &[Class]) -> bool
         .any(|found| is_finished_as(home, class, found))
 }
 
-/// Whether two look-ups find the same.
+/// Whether two look-ups have the same result. If it returns true, they do.
 #[tactic(auto, using(crate::proofs::RowsAbove::same_method))]
 fn is_same_found(one: Option<MethodName>, other: Option<MethodName>) -> bool
     ensures { result ≡ true → one ≡ other }
@@ -58,7 +58,7 @@ fn is_same_found(one: Option<MethodName>, other: Option<MethodName>) -> bool
     }
 }
 
-/// Whether a class and the one above it find the same public methods.
+/// Whether a class and its superclass have the same public methods. If it returns true, they do.
 #[tactic(auto, using(crate::proofs::RowsAbove::same_so_far, crate::proofs::RowsAbove::same_all))]
 fn find_same(class: &ClassMethods<'_>) -> bool
     ensures { result ≡ true → (above : ClassName) → superclass_of class.now.world class.now.class ≡ Some above
@@ -72,8 +72,9 @@ fn find_same(class: &ClassMethods<'_>) -> bool
     true
 }
 
-/// Whether a class keeps the rows of its superclasses, as far as it is known from the class above: that is one of these
-/// classes of its package, which are well-formed, and both find the same public methods.
+/// Whether a class fulfils the rows of its superclasses because its superclass does: that is one of the well-formed
+/// classes `before` of its package, and both have the same public methods. If it returns true, only the class's own
+/// rows are left to test.
 pub(crate) fn keeps_rows_above(class: &ClassMethods<'_>, before: &[Class]) -> bool
     requires { list_any (is_bad_class class.now.world class.now.home) before.now ≡ false }
     ensures { result ≡ true

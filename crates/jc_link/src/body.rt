@@ -18,11 +18,11 @@ pub enum ArrayKind {
     Short,
 }
 
-/// An array that the static fields begin with.
+/// An initialised array of the static fields.
 #[derive(Drop)]
 pub struct InitialArray {
     pub kind: ArrayKind,
-    /// Its components. A boolean's byte is kept as it stands.
+    /// Its components. The byte of a boolean is kept unchanged.
     pub values: Vec<i16>,
 }
 
@@ -38,15 +38,15 @@ impl Model for InitialArray {
 /// The static fields of a package.
 #[derive(Drop)]
 pub struct Statics {
-    /// How many bytes they take.
+    /// The size of their image in bytes.
     pub size: u16,
-    /// How many references stand in front.
+    /// How many references it begins with.
     pub references: u16,
-    /// The arrays that the first references lead to.
+    /// The arrays that the first references refer to.
     pub arrays: Vec<InitialArray>,
     /// How many bytes of value 0 follow.
     pub defaults: u16,
-    /// The bytes behind those.
+    /// The bytes after those.
     pub values: Vec<u8>,
 }
 
@@ -67,13 +67,13 @@ impl Model for Statics {
 /// A method with code. Offsets count in the Method component.
 #[derive(Drop)]
 pub struct MethodCode {
-    /// Where its header stands.
+    /// The offset of its header.
     pub offset: u16,
-    /// Where its code begins.
+    /// The offset of its code.
     pub code_offset: usize,
     /// Its code, at most 65,535 bytes.
     pub code: Vec<u8>,
-    /// Its handlers, in the order of the table.
+    /// Its handlers, in table order.
     pub handlers: Vec<Handler>,
 }
 
@@ -93,10 +93,10 @@ impl Model for MethodCode {
     ghost invariant = { λ m. length m.code.items < 2 ^ 16 };
 }
 
-/// What is kept of a package's body: all but its name, and the types that entries of its pool state.
+/// The part of a package's body that is kept: all but its name, and the types that entries of its pool state.
 #[derive(Drop)]
 pub struct PackageBody {
-    /// The applets, or `None` where the package is a library.
+    /// The applets, or `None` if the package is a library.
     pub applets: Option<Vec<Applet>>,
     pub pool: Vec<PoolEntry>,
     pub statics: Statics,
@@ -230,7 +230,7 @@ fn methods_of(alloc: Global, from: &Package) -> Result<Vec<MethodCode>, AllocErr
     Ok(methods)
 }
 
-/// What is kept of a package's body.
+/// The part of a package's body that is kept.
 pub(crate) fn body_of(alloc: Global, from: &Package) -> Result<PackageBody, AllocError>
     ensures { IfOk result (λ body. body ≡ kept_of from.now.body) }
 {

@@ -1,4 +1,4 @@
-//! What makes a class or an interface unfit for its world, whatever it inherits.
+//! Faults of a class or an interface that don't depend on what it inherits.
 
 ghost use Rattle.std.specs.Prelude.{◌≡◌, ◌≤◌, ◌==◌, not, false, is_some};
 ghost use Rattle.std.specs.List.{list_any, filter_map};
@@ -17,12 +17,12 @@ use jc_cap_desc::FieldPlace;
 use jc_classes::{Class, ClassTable, DeclaredMethod, Field, Method, method_name};
 use jc_names::{ClassName, PackagePlace};
 
-/// How many classes and interfaces there are at most.
+/// The greatest number of classes and interfaces.
 pub(crate) const MOST_CLASSES: u16 = 17_085;
-/// What stands in a table in place of a method that another package's class declares.
+/// The entry of a table for a method that another package's class declares.
 const DECLARED_ABOVE: u16 = 0xFFFF;
 
-/// Whether a class stands there, and not an interface.
+/// Whether the name is a class's, and not an interface's.
 pub(crate) fn is_class_at(table: &ClassTable, class: ClassName) -> bool
     ensures { result ≡ is_class_at table.now class }
 {
@@ -32,7 +32,7 @@ pub(crate) fn is_class_at(table: &ClassTable, class: ClassName) -> bool
     }
 }
 
-/// Whether an interface stands there.
+/// Whether the name is an interface's.
 fn is_interface_at(table: &ClassTable, class: ClassName) -> bool
     ensures { result ≡ is_interface_at table.now class }
 {
@@ -65,7 +65,7 @@ pub(crate) fn leads_round(table: &ClassTable, class: ClassName) -> bool
     }
 }
 
-/// Whether a reference of the package that stands there doesn't find an interface.
+/// Whether a reference of the package at place `home` doesn't resolve to an interface.
 fn finds_no_interface(table: &ClassTable, home: PackagePlace, reference: ClassRef) -> bool
     ensures { result ≡ not (option_map_or (is_interface_at table.now) (class_named table.now home reference) false) }
 {
@@ -75,7 +75,7 @@ fn finds_no_interface(table: &ClassTable, home: PackagePlace, reference: ClassRe
     }
 }
 
-/// Whether one of the interfaces that an interface extends is none.
+/// Whether a reference to an interface that an interface extends doesn't resolve to one.
 fn extends_no_interface(table: &ClassTable, home: PackagePlace, found: &Class) -> bool
     ensures { result
         ≡ list_any (λ i. not (option_map_or (is_interface_at table.now) (class_named table.now home i.interface) false))
@@ -87,7 +87,7 @@ fn extends_no_interface(table: &ClassTable, home: PackagePlace, found: &Class) -
         .any(|i| finds_no_interface(table, home, i.interface))
 }
 
-/// Whether one of the interfaces that a class implements is none.
+/// Whether a reference to an interface that a class implements doesn't resolve to one.
 fn implements_no_interface(table: &ClassTable, home: PackagePlace, found: &Class) -> bool
     ensures { result
         ≡ list_any (λ i. not (option_map_or (is_interface_at table.now) (class_named table.now home i.interface) false))
@@ -99,7 +99,7 @@ fn implements_no_interface(table: &ClassTable, home: PackagePlace, found: &Class
         .any(|i| finds_no_interface(table, home, i.interface()))
 }
 
-/// Whether it lists what is missing, or a class in place of an interface.
+/// Whether it lists something that is missing, or a class instead of an interface.
 #[tactic(auto, using(crate::proofs::Listed::listed_either_way))]
 pub(crate) fn lists_no_interface(table: &ClassTable, home: PackagePlace, found: &Class) -> bool
     ensures { result ≡ lists_no_interface table.now home found.now }
@@ -107,14 +107,14 @@ pub(crate) fn lists_no_interface(table: &ClassTable, home: PackagePlace, found: 
     extends_no_interface(table, home, found) || implements_no_interface(table, home, found)
 }
 
-/// Whether a method isn't static, and is one of the class or a superclass.
+/// Whether a method isn't static, and is declared by the class or a superclass of it.
 fn is_inherited(table: &ClassTable, class: ClassName, declared: &DeclaredMethod) -> bool
     ensures { result ≡ is_inherited table.now class declared.now }
 {
     !declared.method.is_static() && table.is_at_or_above(declared.class, class)
 }
 
-/// Whether an entry of a table is no offset of such a method.
+/// Whether an entry of a table is neither FFFF nor the offset of such a method.
 fn is_bad_entry(table: &ClassTable, home: PackagePlace, class: ClassName, entry: u16) -> bool
     ensures { result ≡ is_bad_entry table.now home class entry }
 {
@@ -127,7 +127,7 @@ fn is_bad_entry(table: &ClassTable, home: PackagePlace, class: ClassName, entry:
     }
 }
 
-/// Whether one of some entries is none.
+/// Whether one of these entries is such an entry.
 fn is_bad_table(table: &ClassTable, home: PackagePlace, class: ClassName, entries: &[u16]) -> bool
     ensures { result ≡ list_any (is_bad_entry table.now home class) entries.now }
 {
@@ -149,7 +149,7 @@ pub(crate) fn has_bad_entry(
         || is_bad_table(table, home, class, found.package_entries())
 }
 
-/// Whether the type of a field names neither a class nor an interface.
+/// Whether the type of a field doesn't resolve.
 fn has_unknown_field(table: &ClassTable, home: PackagePlace, found: &Class) -> bool
     ensures { result ≡ list_any (λ f. not (is_some (field_type_of table.now home f))) found.now.fields }
 {
@@ -159,7 +159,7 @@ fn has_unknown_field(table: &ClassTable, home: PackagePlace, found: &Class) -> b
         .any(|f| !is_known_field(table, home, f))
 }
 
-/// Whether the type of a method names what is neither a class nor an interface.
+/// Whether the type of a method doesn't resolve.
 fn has_unknown_method(table: &ClassTable, home: PackagePlace, found: &Class) -> bool
     ensures { result ≡ list_any (λ m. not (is_some (member_type_of table.now home m.signature))) found.now.methods }
 {
@@ -169,14 +169,14 @@ fn has_unknown_method(table: &ClassTable, home: PackagePlace, found: &Class) -> 
         .any(|m| !is_known_method(table, home, m))
 }
 
-/// Whether a type of its fields or methods names what is neither a class nor an interface.
+/// Whether a type of its fields or methods names something that is neither a class nor an interface.
 pub(crate) fn has_unknown_type(table: &ClassTable, home: PackagePlace, found: &Class) -> bool
     ensures { result ≡ has_unknown_type table.now home found.now }
 {
     has_unknown_field(table, home, found) || has_unknown_method(table, home, found)
 }
 
-/// The token of a field of objects.
+/// The token of an instance field.
 fn instance_token(field: &Field) -> Option<u8>
     ensures { result ≡ instance_token field.now }
 {
@@ -186,7 +186,7 @@ fn instance_token(field: &Field) -> Option<u8>
     }
 }
 
-/// Whether a field of objects among these has a token.
+/// Whether an instance field among these has a token.
 fn has_token(fields: &[Field], token: u8) -> bool
     ensures { result ≡ list_any (λ other. token == other) (filter_map instance_token fields.now) }
 {
@@ -196,7 +196,7 @@ fn has_token(fields: &[Field], token: u8) -> bool
         .any(|other| token == other)
 }
 
-/// Whether a field of objects among these has the token of a field of objects.
+/// Whether an instance field among these has the same token as a field.
 fn is_held_again(field: &Field, others: &[Field]) -> bool
     ensures { result
         ≡ option_map_or (λ token. list_any (λ other. token == other) (filter_map instance_token others.now))
@@ -208,7 +208,7 @@ fn is_held_again(field: &Field, others: &[Field]) -> bool
     }
 }
 
-/// Whether two of its fields of objects have one token.
+/// Whether two of its instance fields have the same token.
 pub(crate) fn has_field_twice(found: &Class) -> bool
     ensures { result ≡ has_field_twice found.now }
 {
@@ -222,7 +222,7 @@ pub(crate) fn has_field_twice(found: &Class) -> bool
     false
 }
 
-/// Whether the token of one of its fields of objects isn't below the number of cells that it declares.
+/// Whether one of its instance fields has a token at or above the number of cells that it declares.
 pub(crate) fn has_field_past_size(found: &Class) -> bool
     ensures { result ≡ has_field_past_size found.now }
 {
@@ -234,7 +234,7 @@ pub(crate) fn has_field_past_size(found: &Class) -> bool
         .any(|token| size <= token)
 }
 
-/// How many words of arguments a method takes by its type, `this` among them.
+/// How many words of arguments a method takes by its type, `this` included.
 fn argument_count(method: &Method) -> usize
     ensures { result ≡ argument_count method.now }
 {
@@ -246,7 +246,7 @@ fn argument_count(method: &Method) -> usize
     }
 }
 
-/// Whether a method's header says another number.
+/// Whether a method's header states another number.
 fn has_other_words(method: &Method) -> bool
     ensures { result
         ≡ option_map_or (λ header. not (header.nargs == argument_count method.now)) method.now.header false }
@@ -257,7 +257,7 @@ fn has_other_words(method: &Method) -> bool
     }
 }
 
-/// Whether the header of one of its methods says another number of arguments than the method's type.
+/// Whether the header of one of its methods states another number of arguments than the method's type has.
 pub(crate) fn has_other_nargs(found: &Class) -> bool
     ensures { result ≡ has_other_nargs found.now }
 {

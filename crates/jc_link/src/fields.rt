@@ -14,7 +14,7 @@ use jc_cap_desc::FieldPlace;
 use jc_classes::{Class, ClassTable, Field, PackageShape};
 use jc_names::{ClassName, PackagePlace};
 
-/// Whether this is the place of a field of objects, under a token.
+/// Whether this is the place of an instance field with a token.
 fn is_instance_field(token: u8, place: FieldPlace) -> bool
     ensures { result ≡ is_instance_field token place }
 {
@@ -24,7 +24,7 @@ fn is_instance_field(token: u8, place: FieldPlace) -> bool
     }
 }
 
-/// Whether this is the place of a static field, at an offset of the static image.
+/// Whether this is the place of a static field at an offset of the static image.
 fn is_static_field(offset: u16, place: FieldPlace) -> bool
     ensures { result ≡ is_static_field offset place }
 {
@@ -34,7 +34,7 @@ fn is_static_field(offset: u16, place: FieldPlace) -> bool
     }
 }
 
-/// The field that a class itself declares under a token: the first.
+/// The first field that a class itself declares with a token.
 fn instance_field_in(class: &Class, token: u8) -> Option<&Field>
     ensures { option_map (λ f. f.now) result ≡ instance_field_in token class.now }
 {
@@ -44,7 +44,7 @@ fn instance_field_in(class: &Class, token: u8) -> Option<&Field>
         .find(|f| is_instance_field(token, f.place()))
 }
 
-/// The field that the class with a name itself declares under a token.
+/// The first field that the class with a name itself declares with a token.
 pub(crate) fn instance_field_at(table: &ClassTable, class: ClassName, token: u8) -> Option<&Field>
     ensures { option_map (λ f. f.now) result ≡ instance_field_at table.now class token }
 {
@@ -52,14 +52,14 @@ pub(crate) fn instance_field_at(table: &ClassTable, class: ClassName, token: u8)
     instance_field_in(found, token)
 }
 
-/// The static field among fields at an offset of the static image: the first.
+/// The first static field among these at an offset of the static image.
 fn static_field_among(fields: &[Field], offset: u16) -> Option<&Field>
     ensures { option_map (λ f. f.now) result ≡ find (λ f. is_static_field offset f.place) fields.now }
 {
     fields.iter().find(|f| is_static_field(offset, f.place()))
 }
 
-/// The static field at an offset of a package's static image: the first, in the order of the classes.
+/// The first static field at an offset of a package's static image, in the order of the classes.
 fn static_field_in(shape: &PackageShape, offset: u16) -> Option<&Field>
     ensures { option_map (λ f. f.now) result ≡ static_field_in offset shape.now }
 {
@@ -71,7 +71,7 @@ fn static_field_in(shape: &PackageShape, offset: u16) -> Option<&Field>
     None
 }
 
-/// The static field at an offset of the static image of the package that stands there.
+/// The static field at an offset of the static image of the package at a place.
 pub(crate) fn static_field_at(table: &ClassTable, home: PackagePlace, offset: u16) -> Option<&Field>
     ensures { option_map (λ f. f.now) result ≡ static_field_at table.now (record { home = home; offset = offset }) }
 {
@@ -79,7 +79,7 @@ pub(crate) fn static_field_at(table: &ClassTable, home: PackagePlace, offset: u1
     static_field_in(shape, offset)
 }
 
-/// How many cells of an object a class itself declares; none where it isn't there.
+/// How many cells of an object a class itself declares; 0 if it is missing.
 fn size_of(table: &ClassTable, class: ClassName) -> u8
     ensures { result ≡ option_map_or (λ k. declared_size k.body) (class_at table.now class) 0 }
 {

@@ -1,4 +1,4 @@
-//! What holds of worlds.
+//! Laws of worlds.
 
 ghost use Rattle.std.specs.Prelude.{ℕ, ◌≤◌, List, take};
 ghost use Rattle.jc_cap_desc.specs.Shape.{HaveBodies, HaveHeaders, InstallMethods, Package, Shape, StandApart};
@@ -18,8 +18,8 @@ ghost use Rattle.jc_link.specs.WellFormed.{IsWellFormed};
 
 use jc_classes::{adding_keeps_lookups, growing_keeps_lookups};
 
-/// A package that is put behind the others of a world changes nothing of whether those before it are well-formed, nor
-/// of what entries of their pools lead to.
+/// Appending a package to a world changes neither whether the packages before it are well-formed nor the targets of the
+/// entries of their pools. It does nothing.
 #[tactic(auto, using(crate::proofs::GrownHeirs::linking_stays))]
 pub fn adding_keeps_linking()
     ensures { (world : List Shape) (more : Shape) → KeepsLinking world more }
@@ -27,8 +27,8 @@ pub fn adding_keeps_linking()
     adding_keeps_lookups();
 }
 
-/// Nor do many packages. A world that is built has the packages of the API, and its first packages, those among them,
-/// are a world that is built.
+/// Nor does appending several packages. A built world has the packages of the API, and any prefix with these is a built
+/// world. It does nothing.
 pub fn growing_keeps_linking()
     ensures kept { (before after : List Shape) → LiesWithin before after → KeepsAllLinking before after }
     ensures api { (world : List Shape) → IsBuilt world → HasApi world }
@@ -37,8 +37,8 @@ pub fn growing_keeps_linking()
     adding_keeps_lookups();
 }
 
-/// A package that is linked behind a world that is built is the last of one that is built, and what is known of linked
-/// packages is known of it. The package is as each is that was read. It does nothing.
+/// Appending a linked package to a built world gives a built world, and what is known of linked packages is known of
+/// this one. The package has the properties of every package that was read. It does nothing.
 pub fn linked_packages_are_known()
     ensures { (before : List Shape) (p : Package) (l : Linked) → IsBuilt before → IsLinked before p l
         → StandApart p.body.methods → HaveHeaders p.shape → HaveBodies p → InstallMethods p → IsLast l }
@@ -46,15 +46,14 @@ pub fn linked_packages_are_known()
     growing_keeps_linking();
 }
 
-/// In a world that is built of well-formed packages, whatever a machine relies on holds.
+/// A small built world has all properties that a machine relies on. It does nothing.
 pub fn built_worlds_are_sound()
     ensures { (world : List Shape) → IsSmall world → IsBuilt world → IsSound world }
 {
     adding_keeps_lookups();
 }
 
-/// In such a world what types name are classes that are there, whatever is looked up, and an interface counts as
-/// Object.
+/// In such a world the types of all look-ups name existing classes, and an interface counts as Object. It does nothing.
 pub fn built_worlds_name_classes()
     ensures { (world : List Shape) → IsSmall world → IsBuilt world → NameClasses world }
 {
@@ -62,15 +61,15 @@ pub fn built_worlds_name_classes()
     built_worlds_are_sound();
 }
 
-/// In a world that is built each class of the API stands as the API's tables say: whether it is an interface or
-/// abstract, what is above it, and how many cells its objects have.
+/// In a built world each class of the API is as the API's tables state it: whether it is an interface or abstract, its
+/// superclass, and the number of cells of its objects. It does nothing.
 pub fn built_worlds_have_the_api()
     ensures { (world : List Shape) → IsBuilt world → (c : ApiClass) → StandsThere world c }
 {
     growing_keeps_lookups();
 }
 
-/// Such a world stands on the API: its classes and members are there as one binding has them, each virtual member under
+/// A built world stands on the API: it has its classes and members, as one binding names them, each virtual member at
 /// its token. It does nothing.
 pub fn built_worlds_stand_on_the_api()
     ensures { (world : List Shape) → IsBuilt world → StandsOnApi world }
@@ -79,7 +78,7 @@ pub fn built_worlds_stand_on_the_api()
     growing_keeps_linking();
 }
 
-/// A package with an applet is well-formed behind the API's packages.
+/// A package with an applet is well-formed after the API's packages. It does nothing.
 #[tactic(auto, using(crate::proofs::Applet::applet_is_well_formed))]
 pub fn an_applet_is_well_formed()
     ensures { IsWellFormed (api_world default_binding) applet }

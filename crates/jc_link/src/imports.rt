@@ -1,4 +1,4 @@
-//! Imports that no package meets, and packages that are there twice.
+//! Unmet imports, and duplicate packages.
 
 ghost use Rattle.std.specs.Prelude.{◌≡◌, ◌≤◌, length, take, bytes_eq, false, slice_get};
 ghost use Rattle.std.specs.List.{list_any, range_with_len};
@@ -8,15 +8,14 @@ ghost use Rattle.jc_link.specs.Imports.{is_unmet, first_unmet, is_there_already}
 use jc_classes::{ClassTable, PackageShape};
 use jc_names::PackagePlace;
 
-/// Whether no package before the one that stands there meets an import.
+/// Whether no package before place `home` meets an import of the package there.
 fn is_unmet(table: &ClassTable, home: PackagePlace, token: u8) -> bool
     ensures { result ≡ is_unmet table.now home token }
 {
     table.import_of(home, token).is_none()
 }
 
-/// The first import of the package that stands there that no package before it meets. A byte counts a package's
-/// imports.
+/// The first unmet import of the package at place `home`. A byte counts a package's imports.
 pub(crate) fn first_unmet(
     table: &ClassTable,
     home: PackagePlace,
@@ -43,7 +42,7 @@ fn has_aid_of(table: &ClassTable, index: usize, shape: &PackageShape) -> bool
     }
 }
 
-/// Whether one of so many packages has the AID of another one.
+/// Whether one of the first `count` packages has the AID of another one.
 fn any_has_aid_of(table: &ClassTable, count: usize, shape: &PackageShape) -> bool
     ensures { result ≡ list_any (λ home. option_map_or (λ other. bytes_eq other.«package».aid shape.now.«package».aid)
         (slice_get table.now home) false) (range_with_len 0 count) }

@@ -1,4 +1,4 @@
-//! What makes a class unfit for its world by what it inherits.
+//! Faults of a class that depend on what it inherits.
 
 ghost use Rattle.std.specs.Prelude.{◌≡◌, ◌≤◌, ◌&&◌, false};
 ghost use Rattle.jc_classes.specs.Methods.{is_among};
@@ -19,17 +19,17 @@ use crate::types::{implements_type, is_known_method, same_method_type};
 use jc_classes::{Class, ClassTable, ImplementedInterface, Method, Places, anchor_behind};
 use jc_names::{ClassName, MethodName, PackagePlace};
 
-/// Tokens from here on are package-visible.
+/// Tokens from this one on are package-visible.
 const PACKAGE_VISIBLE: u8 = 128;
 
-/// Whether the superclass finds a method at a token, and the class none.
+/// Whether the superclass has a method at a token, and the class has none.
 fn loses_at(class: &ClassMethods<'_>, token: u8) -> bool
     ensures { result ≡ loses_at class.now.world class.now.home class.now.class token }
 {
     class.above(token).is_some() && class.own(token).is_none()
 }
 
-/// Whether the superclass finds a method at some token, and the class none.
+/// Whether the superclass has a method at some token at which the class has none.
 pub(crate) fn loses_method(class: &ClassMethods<'_>) -> bool
     ensures { result ≡ loses_method class.now.world class.now.home class.now.class }
 {
@@ -41,7 +41,7 @@ pub(crate) fn loses_method(class: &ClassMethods<'_>) -> bool
     false
 }
 
-/// Whether two names are of one method.
+/// Whether two names are equal.
 pub(crate) fn is_same_method(one: MethodName, other: MethodName) -> bool
     ensures { result ≡ is_same_method one other }
 {
@@ -59,14 +59,14 @@ pub(crate) fn is_same_method(one: MethodName, other: MethodName) -> bool
     }
 }
 
-/// Whether a method in place of another one is another one, of another type.
+/// Whether two methods differ and have different types.
 fn is_other_type(table: &ClassTable, method: MethodName, above: MethodName) -> bool
     ensures { result ≡ is_other_type table.now method above }
 {
     !is_same_method(method, above) && !same_method_type(table, method, above)
 }
 
-/// Whether the class and its superclass find methods of different types at a token.
+/// Whether the class and its superclass have methods of different types at a token.
 fn retypes_at(class: &ClassMethods<'_>, token: u8) -> bool
     ensures { result ≡ retypes_at class.now.world class.now.home class.now.class token }
 {
@@ -79,7 +79,7 @@ fn retypes_at(class: &ClassMethods<'_>, token: u8) -> bool
     }
 }
 
-/// Whether the class and its superclass find methods of different types at some token.
+/// Whether the class and its superclass have methods of different types at some token.
 pub(crate) fn overrides_with_another_type(class: &ClassMethods<'_>) -> bool
     ensures { result ≡ overrides_with_another_type class.now.world class.now.home class.now.class }
 {
@@ -91,7 +91,7 @@ pub(crate) fn overrides_with_another_type(class: &ClassMethods<'_>) -> bool
     false
 }
 
-/// Whether a method is there that is abstract.
+/// Whether a method exists and is abstract.
 fn is_abstract_at(table: &ClassTable, method: MethodName) -> bool
     ensures { result ≡ is_abstract_at table.now method }
 {
@@ -101,7 +101,7 @@ fn is_abstract_at(table: &ClassTable, method: MethodName) -> bool
     }
 }
 
-/// Whether a method was found that is abstract.
+/// Whether a method was found and is abstract.
 fn is_left(table: &ClassTable, found: Option<MethodName>) -> bool
     ensures { result ≡ option_map_or (is_abstract_at table.now) found false }
 {
@@ -123,7 +123,7 @@ fn leaves_public_abstract(class: &ClassMethods<'_>) -> bool
     false
 }
 
-/// Whether a class leaves a package-visible method abstract of the package that stands there. Most have no token there.
+/// Whether a class leaves a package-visible method abstract for the package at place `asker`. Most have no token there.
 fn leaves_package_abstract(table: &ClassTable, class: ClassName, asker: usize) -> bool
     ensures { result ≡ leaves_package_abstract table.now class asker }
 {
@@ -140,14 +140,15 @@ fn leaves_package_abstract(table: &ClassTable, class: ClassName, asker: usize) -
     false
 }
 
-/// Whether a class leaves a package-visible method abstract of the package that stands there, if it is one of some.
+/// Whether a class leaves a package-visible method abstract for the package at place `asker`, if that place is in a
+/// range.
 fn leaves_among(table: &ClassTable, class: ClassName, places: Places, asker: usize) -> bool
     ensures { result ≡ (is_among places asker && leaves_package_abstract table.now class asker) }
 {
     places.has(asker) && leaves_package_abstract(table, class, asker)
 }
 
-/// Whether a class leaves a package-visible method abstract of one of so many packages, of those that may find some.
+/// Whether a class leaves a package-visible method abstract for one of the first `count` packages, of those in a range.
 fn leaves_for_one(table: &ClassTable, class: ClassName, places: Places, count: usize) -> bool
     ensures { result ≡ list_any (λ asker. is_among places asker && leaves_package_abstract table.now class asker)
         (range_with_len 0 count) }
@@ -155,14 +156,14 @@ fn leaves_for_one(table: &ClassTable, class: ClassName, places: Places, count: u
     (0..count).any(|asker| leaves_among(table, class, places, asker))
 }
 
-/// Whether a class leaves a package-visible method abstract of one of so many packages.
+/// Whether a class leaves a package-visible method abstract for one of the first `count` packages.
 fn leaves_any_package_abstract(table: &ClassTable, class: ClassName, count: usize) -> bool
     ensures { result ≡ list_any (leaves_package_abstract table.now class) (range_with_len 0 count) }
 {
     leaves_for_one(table, class, table.visible_places(class), count)
 }
 
-/// Whether a class leaves a method abstract: a public one, or a package-visible one of any package.
+/// Whether a class leaves a method abstract: a public one, or a package-visible one for any package.
 fn leaves_abstract(class: &ClassMethods<'_>) -> bool
     ensures { result ≡ leaves_abstract class.now.world class.now.class }
 {
@@ -180,7 +181,7 @@ fn misses(class: &ClassMethods<'_>, index: u8) -> bool
     }
 }
 
-/// The method that a row's indexes have for a token.
+/// The method of the class for an interface's token, by a row's indexes.
 fn method_for(class: &ClassMethods<'_>, indexes: &[u8], token: u8) -> Option<MethodName>
     ensures { result ≡ method_for class.now.world class.now.class indexes.now token }
 {
@@ -188,7 +189,7 @@ fn method_for(class: &ClassMethods<'_>, indexes: &[u8], token: u8) -> Option<Met
     class.public(index)
 }
 
-/// Whether a method of an interface has a type, and the class has none for it, or one of another type.
+/// Whether a method of an interface has a type, and the class has no method for it, or one of another type.
 fn is_unimplemented(
     class: &ClassMethods<'_>,
     indexes: &[u8],
@@ -205,7 +206,7 @@ fn is_unimplemented(
     !implements_type(table, home, method, found)
 }
 
-/// Whether one of the methods of an interface is such a method.
+/// Whether one of these methods of an interface is such a method.
 fn lacks_one_of(
     class: &ClassMethods<'_>,
     indexes: &[u8],
@@ -236,7 +237,7 @@ fn misses_one(class: &ClassMethods<'_>, indexes: &[u8]) -> bool
     indexes.iter().any(|index| misses(class, *index))
 }
 
-/// Whether a class doesn't keep a row of the package that stands there.
+/// Whether a class doesn't fulfil a row, which the package at place `home` spells.
 fn breaks_row(class: &ClassMethods<'_>, home: PackagePlace, row: &ImplementedInterface) -> bool
     ensures { result ≡ breaks_row class.now.world class.now.class (record { home = home; row = row.now }) }
 {
@@ -249,7 +250,7 @@ fn breaks_row(class: &ClassMethods<'_>, home: PackagePlace, row: &ImplementedInt
     }
 }
 
-/// Whether a class doesn't keep one of some rows of the package that stands there.
+/// Whether a class doesn't fulfil one of these rows, which the package at place `home` spells.
 fn breaks_one_of(
     class: &ClassMethods<'_>,
     home: PackagePlace,
@@ -261,7 +262,7 @@ fn breaks_one_of(
     rows.iter().any(|row| breaks_row(class, home, row))
 }
 
-/// Whether a class doesn't keep one of the rows of a class.
+/// Whether a class doesn't fulfil one of the rows of the class `at`.
 #[tactic(auto, using(crate::proofs::Rows::rows_of_class))]
 fn breaks_row_of(class: &ClassMethods<'_>, at: ClassName) -> bool
     ensures { result ≡ list_any (breaks_row class.now.world class.now.class) (rows_of class.now.world at) }
@@ -272,8 +273,8 @@ fn breaks_row_of(class: &ClassMethods<'_>, at: ClassName) -> bool
     }
 }
 
-/// Whether a class doesn't keep one of its own rows, or of those of its superclasses, by a walk along these. Their
-/// chain may have a cycle: where they come again to a class that is remembered, all of their rows were looked at.
+/// Whether a class doesn't fulfil one of its own rows or of those of its superclasses, by a walk along these. Their
+/// chain may have a cycle: if the walk meets its anchor again, all rows were tested.
 fn breaks_row_along(class: &ClassMethods<'_>) -> bool
     ensures { result ≡ breaks_interface class.now.world class.now.class }
 {
@@ -295,8 +296,8 @@ fn breaks_row_along(class: &ClassMethods<'_>) -> bool
     false
 }
 
-/// Whether a class doesn't keep one of its own rows, or of those of its superclasses. Most have none to look at, and
-/// others only their own: the class above was looked at before, and finds the same methods.
+/// Whether a class doesn't fulfil one of its own rows or of those of its superclasses. Most have no rows to test, and
+/// others only their own: the superclass was tested before, and has the same methods.
 fn breaks_interface(class: &ClassMethods<'_>, before: &[Class]) -> bool
     requires { list_any (is_bad_class class.now.world class.now.home) before.now ≡ false }
     ensures { result ≡ breaks_interface class.now.world class.now.class }
@@ -310,8 +311,8 @@ fn breaks_interface(class: &ClassMethods<'_>, before: &[Class]) -> bool
     breaks_row_along(class)
 }
 
-/// Whether it is a class that isn't abstract, and leaves a method abstract or doesn't keep an interface's row. These
-/// classes of its package are well-formed.
+/// Whether it is a class that isn't abstract, and leaves a method abstract or doesn't fulfil an interface's row. The
+/// classes `before` of its package are well-formed.
 pub(crate) fn is_unfinished(class: &ClassMethods<'_>, before: &[Class], found: &Class) -> bool
     requires { list_any (is_bad_class class.now.world class.now.home) before.now ≡ false }
     ensures { result ≡ is_unfinished class.now.world class.now.class found.now }

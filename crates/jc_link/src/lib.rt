@@ -1,4 +1,4 @@
-//! Packages that are bound to those before them, or refused.
+//! Linking of packages to those before them.
 #![tactic(auto)]
 
 mod above;

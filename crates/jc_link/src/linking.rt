@@ -31,7 +31,7 @@ use jc_classes::{ClassTable, PackageShape};
 use jc_names::PackagePlace;
 use std::alloc::{AllocError, Global};
 
-/// What is wrong with the classes or the static fields of the package that stands there, or that it is there already.
+/// The first fault of the classes or static fields of the package at place `home`, or that it is a duplicate.
 fn class_fault(
     table: &ClassTable,
     home: PackagePlace,
@@ -52,7 +52,7 @@ fn class_fault(
     None
 }
 
-/// What is wrong with the package that stands there, whose entries name these, but for its imports.
+/// The first fault of the package at place `home`, whose entries name these, apart from imports and names.
 fn fault_behind_names(
     table: &ClassTable,
     home: PackagePlace,
@@ -69,7 +69,8 @@ fn fault_behind_names(
     class_fault(table, home, shape, linked)
 }
 
-/// What the entries of the package that stands there name, if it is well-formed. Or why it isn't, or memory.
+/// The names of the entries of the package at place `home`, if it is well-formed. Otherwise its fault, or out of
+/// memory.
 #[tactic(auto, using(crate::proofs::Names::told_first, crate::proofs::Names::told_behind))]
 fn names_if_fine(
     alloc: Global,
@@ -94,7 +95,7 @@ fn names_if_fine(
     }
 }
 
-/// The classes of a world with those of a package behind them.
+/// The classes of a world with those of a package appended.
 fn with_package(
     alloc: Global,
     world: &ClassTable,
@@ -108,7 +109,7 @@ fn with_package(
     Ok(table)
 }
 
-/// What a linked package has beside its shape, where its entries name these.
+/// The rest of a linked package besides its shape, if its entries name these.
 fn linked_body(
     alloc: Global,
     table: &ClassTable,
@@ -124,8 +125,8 @@ fn linked_body(
     Ok(LinkedBody { kept, targets })
 }
 
-/// With a package that is well-formed in it, a world is built of such packages, and each entry of the package's pool
-/// leads somewhere there.
+/// If a well-formed package is appended to a world, the result is a built world, and each entry of the package's pool
+/// has a target there.
 #[tactic(auto, using(crate::proofs::Leading::built_behind, crate::proofs::Leading::pool_leads))]
 fn leads(world: &World, table: &ClassTable, linked: &Package)
     requires table { table.now ≡ grown world.now.shapes linked.now.shape }
@@ -139,7 +140,7 @@ fn leads(world: &World, table: &ClassTable, linked: &Package)
     built_worlds_are_sound();
 }
 
-/// The package, bound to the packages of a world: it is well-formed there, and its entries name these.
+/// The package, linked to the packages of a world: it is well-formed there, and its entries name these.
 fn bound(
     alloc: Global,
     world: &World,
@@ -161,8 +162,8 @@ fn bound(
     Ok(Linked { table, body })
 }
 
-/// Binds a package that was read to the packages of a world: it is well-formed there, or the refusal with the least
-/// number is told, at its first place. Memory may be told in place of an answer.
+/// Links a package that was read to the packages of a world. If it isn't well-formed there, the refusal with the least
+/// number is reported, at its first place. Out of memory may be reported instead of any result.
 pub fn link_package(alloc: Global, read: &Package, world: &World) -> Result<Linked, LoadFault>
     requires apart { StandApart read.now.body.methods }
     requires headers { HaveHeaders read.now.shape }
@@ -185,9 +186,9 @@ pub fn link_package(alloc: Global, read: &Package, world: &World) -> Result<Link
     }
 }
 
-/// Reads the package in the parts of an image, and binds it to the packages of a world (Java Card Virtual Machine
-/// Specification, Linking). Reading takes no memory, so parts that are no package get their refusal; of a package
-/// memory may be told in place of an answer.
+/// Reads the package from the parts of an image, and links it to the packages of a world (Java Card Virtual Machine
+/// Specification, Linking). Reading takes no memory, so parts that are no package get their refusal. For a package, out
+/// of memory may be reported instead of any result.
 pub fn link(alloc: Global, parts: &Parts, world: &World) -> Result<Linked, LoadFault>
     ensures bound { IfOk result (IsBoundTo world.now) }
     ensures linked { IfOk result (IsLinkedFrom world.now.shapes parts.now) }

@@ -1,4 +1,4 @@
-//! The methods that a class finds, and those that the class above it finds: looked up once for each class.
+//! The methods of a class and those of its superclass, looked up once for each class.
 
 ghost use Rattle.std.specs.Prelude.{◌≡◌, Some};
 ghost use Rattle.jc_classes.specs.Methods.{public_method_of, virtual_method_of};
@@ -11,10 +11,10 @@ use jc_classes::{ClassTable, FoundMethods};
 use jc_names::{ClassName, MethodName, PackagePlace};
 use std::marker::Model;
 
-/// Tokens from here on are package-visible.
+/// Tokens from this one on are package-visible.
 const PACKAGE_VISIBLE: u8 = 128;
 
-/// What a class finds at all virtual tokens, the package-visible ones for one package.
+/// The methods of a class at all virtual tokens; the package-visible ones for one package.
 #[derive(Drop)]
 struct Methods {
     public: FoundMethods,
@@ -22,7 +22,7 @@ struct Methods {
 }
 
 impl Methods {
-    /// Looks them up, for the package that stands there.
+    /// Looks them up, for the package at place `asker`.
     #[tactic(auto, using(crate::proofs::Looking::all_methods))]
     fn new(table: &ClassTable, class: ClassName, asker: usize) -> Methods
         ensures { AreAllMethodsOf table.now class asker result }
@@ -45,8 +45,7 @@ impl Methods {
     }
 }
 
-/// A class of the package that stands at a place, with the methods that it finds for that package, and those that the
-/// class above it finds.
+/// A class of the package at a place, with its methods for that package, and those of its superclass.
 #[derive(Drop)]
 pub(crate) struct ClassMethods<'t> {
     table: &'t ClassTable,
@@ -67,7 +66,7 @@ impl<'t> Model for ClassMethods<'t> {
         × AreMethodsAbove m.table.now m.home m.class m.above };
 }
 
-/// The methods of the class above, if there is one.
+/// The methods of the superclass, if there is one.
 fn methods_above(table: &ClassTable, home: PackagePlace, class: ClassName) -> Option<Methods>
     ensures { AreMethodsAbove table.now home class result }
 {
@@ -96,7 +95,7 @@ impl<'t> ClassMethods<'t> {
         self.table
     }
 
-    /// Where the class's package stands.
+    /// The place of the class's package.
     pub(crate) fn home(&self) -> PackagePlace
         ensures { result ≡ self.now.home }
     {
@@ -117,7 +116,7 @@ impl<'t> ClassMethods<'t> {
         self.own.at(token)
     }
 
-    /// The virtual method of the class above at a token.
+    /// The virtual method of the superclass at a token.
     pub(crate) fn above(&self, token: u8) -> Option<MethodName>
         ensures { result ≡ method_above self.now.world self.now.home token self.now.class }
     {
@@ -138,7 +137,7 @@ impl<'t> ClassMethods<'t> {
         }
     }
 
-    /// The public virtual method of the class above at a token.
+    /// The public virtual method of the superclass at a token.
     pub(crate) fn public_above(&self, token: u8) -> Option<MethodName>
         ensures { (above : ClassName) → superclass_of self.now.world self.now.class ≡ Some above
             → result ≡ public_method_of self.now.world above token }

@@ -1,13 +1,13 @@
-//! What entries of the constant pool name.
+//! The names of entries of the constant pool.
 
 use jc_names::{ClassName, MethodName, PackagePlace};
 
-/// Where a static member stands.
+/// The place of a static member.
 #[derive(Clone, Copy)]
 pub struct StaticPlace {
-    /// Where its package stands among the packages of the world, those of the API first.
+    /// The place of its package in the world, in which those of the API are first.
     pub home: PackagePlace,
-    /// Where it stands in the package's static image, or in its Method component.
+    /// Its offset in the package's static image, or in its Method component.
     pub offset: u16,
 }
 
@@ -17,7 +17,7 @@ pub struct StaticPlace {
 pub enum Named {
     /// A class or an interface.
     Class(ClassName),
-    /// A field of objects: the class that is named, and the field's token in it.
+    /// An instance field: the class that is named, and the field's token in it.
     InstanceField {
         class: ClassName,
         token: u8,

@@ -1,4 +1,4 @@
-//! What entries of the constant pool name.
+//! The resolution of entries of the constant pool to names.
 
 ghost use Rattle.std.specs.Prelude.{◌≡◌, ◌≤◌, None, length, IfSome, IfOk, IfErr, slice_get};
 ghost use Rattle.std.specs.Option.{option_and_then, option_map};
@@ -19,7 +19,7 @@ use jc_classes::{ClassTable, Export, Method, method_name};
 use jc_names::{ClassName, MethodName, PackagePlace};
 use std::alloc::Global;
 
-/// What a package exports under a class token.
+/// The export row of a package for a class token.
 fn export_at(table: &ClassTable, there: PackagePlace, class: u8) -> Option<&Export>
     ensures { option_map (λ e. e.now) result
         ≡ option_and_then (λ shape. slice_get shape.exports class) (slice_get table.now there) }
@@ -28,7 +28,7 @@ fn export_at(table: &ClassTable, there: PackagePlace, class: u8) -> Option<&Expo
     shape.exports().get(usize::from(class))
 }
 
-/// Where a static field stands that an entry of the package that stands there refers to.
+/// The place of the static field that an entry of the package at place `home` refers to.
 fn static_field_place(
     table: &ClassTable,
     home: PackagePlace,
@@ -54,7 +54,7 @@ fn static_field_place(
     }
 }
 
-/// Where a static method or a constructor stands that an entry of the package that stands there refers to.
+/// The place of the static method or constructor that an entry of the package at place `home` refers to.
 fn static_method_place(
     table: &ClassTable,
     home: PackagePlace,
@@ -80,7 +80,7 @@ fn static_method_place(
     }
 }
 
-/// Whether a method's header says that it is abstract.
+/// Whether a method's header states that it is abstract.
 pub(crate) fn is_abstract_method(method: &Method) -> bool
     ensures { result ≡ is_abstract_method method.now }
 {
@@ -90,7 +90,7 @@ pub(crate) fn is_abstract_method(method: &Method) -> bool
     }
 }
 
-/// Whether a method is there that isn't abstract.
+/// Whether a method exists and isn't abstract.
 pub(crate) fn is_concrete(table: &ClassTable, name: MethodName) -> bool
     ensures { result ≡ is_concrete table.now name }
 {
@@ -100,7 +100,7 @@ pub(crate) fn is_concrete(table: &ClassTable, name: MethodName) -> bool
     }
 }
 
-/// A field of a class.
+/// A field of a class, if the class itself declares it.
 fn named_field(table: &ClassTable, class: ClassName, token: u8) -> Option<Named>
     ensures { result ≡ named_field table.now token class }
 {
@@ -108,7 +108,7 @@ fn named_field(table: &ClassTable, class: ClassName, token: u8) -> Option<Named>
     Some(Named::InstanceField { class, token })
 }
 
-/// A virtual method of a class, which is no interface, looked up for the package that stands there.
+/// A virtual method of a class, not of an interface, looked up for the package at place `home`.
 fn named_virtual(
     table: &ClassTable,
     home: PackagePlace,
@@ -128,7 +128,7 @@ fn named_virtual(
     })
 }
 
-/// The virtual method of the superclass of a class, looked up for the package that stands there.
+/// The virtual method of a class's superclass, looked up for the package at place `home`.
 pub(crate) fn method_above(
     table: &ClassTable,
     home: PackagePlace,
@@ -141,7 +141,7 @@ pub(crate) fn method_above(
     table.virtual_method_for(above, token, home.index())
 }
 
-/// A method, not abstract, of the superclass of a class, looked up for the package that stands there.
+/// A method, not abstract, of a class's superclass, looked up for the package at place `home`.
 fn named_above(table: &ClassTable, home: PackagePlace, class: ClassName, token: u8) -> Option<Named>
     ensures { result ≡ named_above table.now home token class }
 {
@@ -155,7 +155,7 @@ fn named_above(table: &ClassTable, home: PackagePlace, class: ClassName, token: 
     Some(Named::SuperMethod { class, method })
 }
 
-/// A static field.
+/// A static field, if there is one at this place.
 fn named_static_field(table: &ClassTable, place: StaticPlace) -> Option<Named>
     ensures { result ≡ named_static_field table.now place }
 {
@@ -164,7 +164,7 @@ fn named_static_field(table: &ClassTable, place: StaticPlace) -> Option<Named>
     Some(Named::StaticField(StaticPlace { home, offset }))
 }
 
-/// A static method or a constructor, not abstract.
+/// A static method or a constructor, not abstract, if there is one at this place.
 fn named_static_method(table: &ClassTable, place: StaticPlace) -> Option<Named>
     ensures { result ≡ named_static_method table.now place }
 {
@@ -175,7 +175,7 @@ fn named_static_method(table: &ClassTable, place: StaticPlace) -> Option<Named>
     Some(Named::StaticMethod { method })
 }
 
-/// What an entry of the package that stands there names.
+/// What an entry of the package at place `home` names.
 pub(crate) fn named_by(table: &ClassTable, home: PackagePlace, entry: PoolEntry) -> Option<Named>
     ensures { result ≡ named_by table.now home entry }
 {
@@ -204,7 +204,7 @@ pub(crate) fn named_by(table: &ClassTable, home: PackagePlace, entry: PoolEntry)
     }
 }
 
-/// What the entry at an index names, if it is there.
+/// What the entry at an index names, if there is one.
 fn named_at(table: &ClassTable, home: PackagePlace, linked: &Package, index: u16) -> Option<Named>
     ensures { result ≡ option_and_then (named_by table.now home) (slice_get linked.now.body.pool index) }
 {
@@ -212,8 +212,8 @@ fn named_at(table: &ClassTable, home: PackagePlace, linked: &Package, index: u16
     named_by(table, home, entry)
 }
 
-/// What so many entries of the package that stands there name, which are all. Or the first that names nothing is told,
-/// or memory.
+/// What the first `count` entries, which are all, name in the package at place `home`. Otherwise it reports the first
+/// entry that names nothing, or out of memory.
 fn names_of(
     alloc: Global,
     table: &ClassTable,
@@ -239,8 +239,8 @@ fn names_of(
     Ok(names)
 }
 
-/// What the entries of the package that stands there name, in their order. Or the first that names nothing is told, or
-/// memory.
+/// What the entries of the package at place `home` name, in order. Otherwise it reports the first entry that names
+/// nothing, or out of memory.
 pub(crate) fn names_in(
     alloc: Global,
     table: &ClassTable,

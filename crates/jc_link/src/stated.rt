@@ -19,7 +19,7 @@ use jc_cap_desc::Package;
 use jc_classes::ClassTable;
 use jc_names::{ClassName, MethodName, PackagePlace};
 
-/// Whether the types that an entry states are those of parameters, as two packages spell them.
+/// Whether the parameter types that an entry states equal those of a method in another package.
 fn parameters_agree(
     table: &ClassTable,
     home: PackagePlace,
@@ -41,7 +41,7 @@ fn parameters_agree(
     left.is_empty()
 }
 
-/// Whether the type that an entry states is that of a member, as two packages spell them.
+/// Whether the type that an entry states equals that of a member in another package.
 fn stated_agrees(
     table: &ClassTable,
     home: PackagePlace,
@@ -57,7 +57,7 @@ fn stated_agrees(
         && return_agrees(table, home, stated.result(), there, given)
 }
 
-/// Whether the type that an entry states is that of a field, which is spelled in the package that stands there.
+/// Whether the type that an entry states equals that of a field, which the package at place `there` spells.
 #[tactic(auto, using(crate::proofs::Agree::field_agrees_is))]
 fn is_field_type(
     table: &ClassTable,
@@ -72,7 +72,7 @@ fn is_field_type(
     stated_agrees(table, home, stated, there, &[], ReturnType::Value(declared))
 }
 
-/// Whether the type that an entry states is that of a field of objects.
+/// Whether the type that an entry states equals that of an instance field.
 #[tactic(auto, using(crate::proofs::Agree::agree_none))]
 fn is_instance_type(
     table: &ClassTable,
@@ -90,7 +90,7 @@ fn is_instance_type(
     }
 }
 
-/// Whether the type that an entry states is that of a static field.
+/// Whether the type that an entry states equals that of a static field.
 #[tactic(auto, using(crate::proofs::Agree::agree_none))]
 fn is_static_type(
     table: &ClassTable,
@@ -111,7 +111,7 @@ fn is_static_type(
     }
 }
 
-/// Whether the type that an entry states is that of a method.
+/// Whether the type that an entry states equals that of a method.
 #[tactic(auto, using(crate::proofs::Agree::agree_none, crate::proofs::Agree::signature_agrees_is))]
 fn is_method_type(
     table: &ClassTable,
@@ -134,7 +134,7 @@ fn is_method_type(
     }
 }
 
-/// Whether the type that an entry states is that of the member that is named.
+/// Whether the type that an entry states equals that of the member that it names.
 #[tactic(auto, using(crate::proofs::Agree::agree_none))]
 fn is_type_of(table: &ClassTable, home: PackagePlace, stated: &Descriptor, named: Named) -> bool
     ensures { result ≡ have_same_type (member_type_of table.now home stated.now) (named_type_of table.now named) }
@@ -165,7 +165,7 @@ fn is_member(entry: PoolEntry) -> bool
     }
 }
 
-/// Whether an entry that names this states another type than that of the member that it names.
+/// Whether an entry, which names this, states a type that differs from its member's.
 fn is_mistyped(
     table: &ClassTable,
     home: PackagePlace,
@@ -179,14 +179,14 @@ fn is_mistyped(
     is_member(entry) && !is_type_of(table, home, stated, named)
 }
 
-/// The name with an index.
+/// The name at an index.
 fn name_at(names: &[Named], index: u16) -> Option<Named>
     ensures { result ≡ slice_get names.now index }
 {
     names.get(usize::from(index)).copied()
 }
 
-/// Whether the entry at an index is there, and states another type than that of the member that it names.
+/// Whether there is an entry at an index, and it states a type that differs from its member's.
 fn is_mistyped_at(
     table: &ClassTable,
     home: PackagePlace,
@@ -209,8 +209,7 @@ fn is_mistyped_at(
     is_mistyped(table, home, entry, named, &stated)
 }
 
-/// The index of the first entry among so many of the package that stands there that states another type than that of
-/// the member that it names.
+/// The index of the first of the first `count` entries, at place `home`, whose stated type differs from its member's.
 fn first_mistyped_of(
     table: &ClassTable,
     home: PackagePlace,
@@ -229,8 +228,8 @@ fn first_mistyped_of(
     None
 }
 
-/// The index of the first entry of the package that stands there that states another type than that of the member that
-/// it names. The entries name these.
+/// The index of the first entry of the package at place `home` whose stated type differs from its member's. The entries
+/// name these.
 pub(crate) fn first_mistyped(
     table: &ClassTable,
     home: PackagePlace,

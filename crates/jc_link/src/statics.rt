@@ -75,14 +75,14 @@ fn width_of(declared: DeclaredType<ClassRef>) -> u8
 }
 
 impl StaticField {
-    /// What stands behind it in the image.
+    /// The offset after it in the image.
     fn behind(&self) -> usize
         ensures { result ≡ behind self.now }
     {
         usize::from(self.offset) + usize::from(width_of(self.declared))
     }
 
-    /// Whether it leaves the image.
+    /// Whether it runs past the image.
     fn leaves(&self, statics: &StaticFields) -> bool
         ensures leaves { result ≡ leaves_image statics.now self.now }
         ensures within { result ≡ false → behind self.now < 65536 }
@@ -90,7 +90,7 @@ impl StaticField {
         usize::from(statics.image_size()) < self.behind()
     }
 
-    /// Whether it is a reference that isn't one of those in front, or a primitive that isn't behind them.
+    /// Whether it is a reference that isn't one of the image's first references, or a primitive that isn't after them.
     fn is_misplaced(&self, statics: &StaticFields) -> bool
         ensures { result ≡ is_misplaced statics.now self.now }
     {
@@ -109,7 +109,7 @@ impl StaticField {
         self.offset
     }
 
-    /// The second byte of the image that it takes, if it takes two, and if the byte's number is below 65,536.
+    /// The second byte of the image that it takes, if it takes two, and if that byte's number is below 65,536.
     fn second_byte(&self) -> Option<u16>
         ensures { result ≡ second_byte self.now }
     {
@@ -121,8 +121,8 @@ impl StaticField {
     }
 }
 
-/// The bytes of the image that static fields take, as far as their numbers are below 65,536: those that at least one
-/// field takes, and those that at least two take.
+/// The bytes of the image that static fields take, for numbers below 65,536: those that at least one field takes, and
+/// those that at least two take.
 #[derive(Drop)]
 struct TakenBytes {
     once: NumberSet,
@@ -177,7 +177,7 @@ impl TakenBytes {
         }
     }
 
-    /// Takes the bytes of the static ones among fields.
+    /// Takes the bytes of the static fields among these.
     fn take_all(&mut self, fields: &[Field])
         ensures { HaveTaken (filter_map static_of fields.now) self.old self.new }
     {
@@ -204,7 +204,7 @@ impl TakenBytes {
         self.twice.contains(byte)
     }
 
-    /// Whether a byte of one of the fields that took theirs, which ends below 65,536, is taken by another one too.
+    /// Whether another field takes a byte of this field, which is among those counted and ends below 65,536.
     fn shares(&self, field: &StaticField) -> bool
         ensures { (all : List Shaped) → AreTaken self.now all → AreAmong (field.now ∷ []) all
             → behind field.now < 65536 → result ≡ overlaps_another all field.now }
@@ -217,7 +217,7 @@ impl TakenBytes {
     }
 }
 
-/// Whether an initialised array is exactly of a type.
+/// Whether an initialised array has exactly this type.
 fn is_of_type(array: &StaticArray, declared: DeclaredType<ClassRef>) -> bool
     ensures { result ≡ is_of_type array.now declared }
 {
@@ -229,7 +229,7 @@ fn is_of_type(array: &StaticArray, declared: DeclaredType<ClassRef>) -> bool
     }
 }
 
-/// Whether a field is that of an initialised array, and isn't of that array's type.
+/// Whether a field refers to an initialised array, and has another type.
 fn is_of_another_array(statics: &StaticFields, field: &StaticField) -> bool
     ensures { result ≡ is_of_another_array statics.now field.now }
 {
@@ -242,7 +242,7 @@ fn is_of_another_array(statics: &StaticFields, field: &StaticField) -> bool
     }
 }
 
-/// Whether a static field is bad, one of those that took their bytes.
+/// Whether a static field, of those counted, is bad.
 fn is_bad_static(statics: &StaticFields, taken: &TakenBytes, field: &StaticField) -> bool
     ensures { (all : List Shaped) → AreTaken taken.now all → AreAmong (field.now ∷ []) all
         → result ≡ is_bad_static statics.now all field.now }
@@ -266,7 +266,7 @@ fn bad_offset(statics: &StaticFields, taken: &TakenBytes, field: &Field) -> Opti
     }
 }
 
-/// The lesser of two offsets, as far as they are there.
+/// The lesser of two offsets, or the one that is there.
 fn earlier(one: Option<u16>, other: Option<u16>) -> Option<u16>
     ensures { result ≡ earlier one other }
 {
@@ -279,7 +279,7 @@ fn earlier(one: Option<u16>, other: Option<u16>) -> Option<u16>
     }
 }
 
-/// The least offset of a bad static field among some fields, which are of those that took their bytes.
+/// The least offset of a bad static field among these fields, which are among those counted.
 fn first_bad_among(statics: &StaticFields, taken: &TakenBytes, fields: &[Field]) -> Option<u16>
     ensures { (all : List Shaped) → AreTaken taken.now all → AreAmong (filter_map static_of fields.now) all
         → result ≡ first_bad_among statics.now all fields.now }

@@ -1,4 +1,4 @@
-//! What entries of the constant pool lead to, with the types of members.
+//! The targets of entries of the constant pool, with the types of members.
 
 ghost use Rattle.std.specs.Prelude.{◌≡◌, ◌≤◌, map, Some, IfOk};
 ghost use Rattle.std.specs.Option.{option_map};
@@ -17,7 +17,7 @@ use jc_names::{ClassName, MethodName, PackagePlace};
 use std::alloc::{AllocError, Global};
 use std::marker::Model;
 
-/// What a method takes and gives, its classes found. An interface counts as Object.
+/// The type of a method with its classes resolved. An interface counts as Object.
 #[derive(Drop)]
 pub struct MemberType {
     /// The types of its parameters, without `this`.
@@ -34,12 +34,12 @@ impl Model for MemberType {
     ghost view = { λ t. record { parameters = t.parameters.items; result = t.result } };
 }
 
-/// What an entry of the constant pool leads to.
+/// The target of an entry of the constant pool.
 #[derive(Drop)]
 pub enum PoolTarget {
     /// A class or an interface.
     Class(ClassName),
-    /// A field of objects of the class that is named: its cell among those of an object, and its type.
+    /// An instance field of the class that is named: its cell in an object, and its type.
     InstanceField {
         class: ClassName,
         cell: usize,
@@ -71,7 +71,7 @@ pub enum PoolTarget {
     },
 }
 
-/// Types with their classes found, if all are.
+/// Types with their classes resolved, if all resolve.
 fn types_found(
     alloc: Global,
     table: &ClassTable,
@@ -91,7 +91,7 @@ fn types_found(
     Ok(Some(found))
 }
 
-/// The type of a method that is spelled in the package that stands there.
+/// The type of a method that the package at place `home` spells.
 pub fn member_type(
     alloc: Global,
     table: &ClassTable,
@@ -109,7 +109,7 @@ pub fn member_type(
     Ok(Some(MemberType { parameters, result }))
 }
 
-/// The type of the method that has a name.
+/// The type of the method with a name.
 fn method_type(
     alloc: Global,
     table: &ClassTable,
@@ -123,7 +123,7 @@ fn method_type(
     }
 }
 
-/// The type of a field of objects.
+/// The type of an instance field.
 fn instance_type(table: &ClassTable, class: ClassName, token: u8) -> Option<DeclaredType<ClassName>>
     ensures { result ≡ instance_type_of table.now class token }
 {
@@ -143,7 +143,7 @@ fn static_type(
     type_found(table, home, field.declared_type())
 }
 
-/// A field of objects, with its cell and its type.
+/// The target of an instance field, with its cell and its type.
 fn instance_target(table: &ClassTable, class: ClassName, token: u8) -> Option<PoolTarget>
     ensures { result ≡ target_of table.now (Names.InstanceField class token) }
 {
@@ -156,7 +156,7 @@ fn instance_target(table: &ClassTable, class: ClassName, token: u8) -> Option<Po
     })
 }
 
-/// A static field, with its type.
+/// The target of a static field, with its type.
 fn static_target(table: &ClassTable, place: StaticPlace) -> Option<PoolTarget>
     ensures { result ≡ target_of table.now (Names.StaticField place) }
 {
@@ -168,7 +168,7 @@ fn static_target(table: &ClassTable, place: StaticPlace) -> Option<PoolTarget>
     })
 }
 
-/// A virtual method, with its type.
+/// The target of a virtual method, with its type.
 fn virtual_target(
     alloc: Global,
     table: &ClassTable,
@@ -188,7 +188,7 @@ fn virtual_target(
     }))
 }
 
-/// A method of a superclass, with its type.
+/// The target of a superclass's method, with its type.
 fn super_target(
     alloc: Global,
     table: &ClassTable,
@@ -207,7 +207,7 @@ fn super_target(
     }))
 }
 
-/// A static method or a constructor, with its class and its type.
+/// The target of a static method or a constructor, with its class and its type.
 fn static_method_target(
     alloc: Global,
     table: &ClassTable,
@@ -230,7 +230,7 @@ fn static_method_target(
     }))
 }
 
-/// What is named, with its type, if that is there.
+/// The target of a name, if its type resolves.
 pub(crate) fn target_of(
     alloc: Global,
     table: &ClassTable,
@@ -252,7 +252,7 @@ pub(crate) fn target_of(
     }
 }
 
-/// What is named, with its types, in its order: each name leads somewhere.
+/// The targets of names, in order. Each name has a target.
 #[tactic(auto, using(crate::proofs::Names::name_leads, crate::proofs::Names::target_more))]
 pub(crate) fn targets_of(
     alloc: Global,

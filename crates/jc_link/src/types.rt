@@ -1,4 +1,4 @@
-//! The types of members, their classes found.
+//! The types of members, with their classes resolved.
 
 ghost use Rattle.std.specs.Prelude.{◌≡◌, ◌≤◌, is_some, length};
 ghost use Rattle.std.specs.List.{list_all};
@@ -13,7 +13,7 @@ use jc_base::{ClassRef, DeclaredType, ReturnType};
 use jc_classes::{ClassTable, DeclaredMethod, Field, Method};
 use jc_names::{ClassName, MethodName, PackagePlace};
 
-/// A class as it counts in types: an interface as Object.
+/// A class as types count it: an interface counts as Object.
 pub fn counted(table: &ClassTable, class: ClassName) -> ClassName
     ensures { result ≡ counted table.now class }
 {
@@ -23,7 +23,7 @@ pub fn counted(table: &ClassTable, class: ClassName) -> ClassName
     }
 }
 
-/// The class that a reference of the package that stands there stands for in a type.
+/// The class of a type that a reference of the package at place `home` resolves to.
 pub(crate) fn type_class(
     table: &ClassTable,
     home: PackagePlace,
@@ -35,7 +35,7 @@ pub(crate) fn type_class(
     Some(counted(table, class))
 }
 
-/// A type with its class found, if it is.
+/// A type with its class resolved, if it resolves.
 pub fn type_found(
     table: &ClassTable,
     home: PackagePlace,
@@ -59,7 +59,7 @@ pub fn type_found(
     }
 }
 
-/// A result with its class found, if it is.
+/// A result with its class resolved, if it resolves.
 pub fn return_found(
     table: &ClassTable,
     home: PackagePlace,
@@ -73,7 +73,7 @@ pub fn return_found(
     }
 }
 
-/// Whether two types are one.
+/// Whether two types are equal.
 pub(crate) fn is_same_type(one: DeclaredType<ClassName>, other: DeclaredType<ClassName>) -> bool
     ensures { result ≡ is_same_type one other }
 {
@@ -92,7 +92,7 @@ pub(crate) fn is_same_type(one: DeclaredType<ClassName>, other: DeclaredType<Cla
     }
 }
 
-/// Whether two results are one.
+/// Whether two results are equal.
 pub(crate) fn is_same_return(one: ReturnType<ClassName>, other: ReturnType<ClassName>) -> bool
     ensures { result ≡ is_same_return one other }
 {
@@ -103,7 +103,7 @@ pub(crate) fn is_same_return(one: ReturnType<ClassName>, other: ReturnType<Class
     }
 }
 
-/// Whether two types that are spelled in two packages are found, and are one.
+/// Whether two types, each spelled by its package, resolve and are equal.
 pub(crate) fn type_agrees(
     table: &ClassTable,
     home: PackagePlace,
@@ -122,7 +122,7 @@ pub(crate) fn type_agrees(
     }
 }
 
-/// Whether two results that are spelled in two packages are found, and are one.
+/// Whether two results, each spelled by its package, resolve and are equal.
 pub(crate) fn return_agrees(
     table: &ClassTable,
     home: PackagePlace,
@@ -141,7 +141,7 @@ pub(crate) fn return_agrees(
     }
 }
 
-/// Whether two lists of types that are spelled in two packages are found, and are one.
+/// Whether two lists of types, each spelled by its package, resolve and are equal.
 fn types_agree(
     table: &ClassTable,
     home: PackagePlace,
@@ -162,7 +162,7 @@ fn types_agree(
     true
 }
 
-/// Whether two methods whose types are spelled in two packages have types, and one type.
+/// Whether two methods, each spelled by its package, have types, and these are equal.
 #[tactic(auto, using(crate::proofs::Agree::signature_agrees_is))]
 fn same_spelled_type(
     table: &ClassTable,
@@ -178,14 +178,14 @@ fn same_spelled_type(
         && return_agrees(table, home, one.result(), there, other.result())
 }
 
-/// Whether the class of a field's type is there.
+/// Whether a field's type resolves.
 pub(crate) fn is_known_field(table: &ClassTable, home: PackagePlace, field: &Field) -> bool
     ensures { result ≡ is_some (field_type_of table.now home field.now) }
 {
     type_found(table, home, field.declared_type()).is_some()
 }
 
-/// Whether the classes of types are there.
+/// Whether types resolve.
 fn are_known_types(table: &ClassTable, home: PackagePlace, types: &[DeclaredType<ClassRef>]) -> bool
     ensures { result ≡ list_all (λ t. is_some (type_found (type_class table.now home) t)) types.now }
 {
@@ -194,7 +194,7 @@ fn are_known_types(table: &ClassTable, home: PackagePlace, types: &[DeclaredType
         .all(|declared| type_found(table, home, *declared).is_some())
 }
 
-/// Whether the classes of a method's type are there.
+/// Whether a method's type resolves.
 #[tactic(auto, using(crate::proofs::Agree::signature_there))]
 pub fn is_known_method(table: &ClassTable, home: PackagePlace, method: &Method) -> bool
     ensures { result ≡ is_some (member_type_of table.now home method.now.signature) }
@@ -203,7 +203,7 @@ pub fn is_known_method(table: &ClassTable, home: PackagePlace, method: &Method) 
         && return_found(table, home, method.result()).is_some()
 }
 
-/// Whether two methods where they are declared have types, and one type.
+/// Whether two declared methods have types, and these are equal.
 pub(crate) fn same_declared_type(
     table: &ClassTable,
     one: &DeclaredMethod,
@@ -220,7 +220,7 @@ pub(crate) fn same_declared_type(
     )
 }
 
-/// Whether two methods that have names are there with types, and have one type.
+/// Whether the methods with two names exist and have types, and these are equal.
 #[tactic(auto, using(crate::proofs::Agree::agree_none))]
 pub(crate) fn same_method_type(table: &ClassTable, one: MethodName, other: MethodName) -> bool
     ensures { result ≡ have_same_type (method_type_of table.now one) (method_type_of table.now other) }
@@ -231,7 +231,7 @@ pub(crate) fn same_method_type(table: &ClassTable, one: MethodName, other: Metho
     }
 }
 
-/// Whether a method that is spelled in the package that stands there has a type, and another one has the same.
+/// Whether a method that the package at place `home` spells has a type, and another method has the same.
 #[tactic(auto, using(crate::proofs::Agree::agree_none))]
 pub(crate) fn implements_type(
     table: &ClassTable,

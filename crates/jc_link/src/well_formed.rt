@@ -14,7 +14,7 @@ use crate::methods::ClassMethods;
 use jc_classes::{Class, ClassTable, PackageShape};
 use jc_names::{ClassName, PackagePlace};
 
-/// Whether something is wrong with a class by itself.
+/// Whether a class has a fault that doesn't depend on what it inherits.
 fn is_bad_alone(table: &ClassTable, home: PackagePlace, class: ClassName, found: &Class) -> bool
     ensures { result ≡ is_bad_alone table.now home class found.now }
 {
@@ -28,7 +28,7 @@ fn is_bad_alone(table: &ClassTable, home: PackagePlace, class: ClassName, found:
         || has_other_nargs(found)
 }
 
-/// Whether something is wrong with a class by what it inherits. These classes of its package are well-formed.
+/// Whether a class has a fault that depends on what it inherits. The classes `before` of its package are well-formed.
 fn is_bad_heir(
     table: &ClassTable,
     home: PackagePlace,
@@ -45,7 +45,8 @@ fn is_bad_heir(
         || is_unfinished(&class, before, found)
 }
 
-/// Whether a class of the package that stands there isn't well-formed, where these are. One that has no name isn't.
+/// Whether a class of the package at place `home` isn't well-formed, if those `before` it are. A class without a name
+/// isn't.
 fn is_bad_class(table: &ClassTable, home: PackagePlace, before: &[Class], found: &Class) -> bool
     requires { list_any (is_bad_class table.now home) before.now ≡ false }
     ensures { result ≡ is_bad_class table.now home found.now }
@@ -59,7 +60,7 @@ fn is_bad_class(table: &ClassTable, home: PackagePlace, before: &[Class], found:
     }
 }
 
-/// The first class of the package that stands there that isn't well-formed.
+/// The first class of the package at place `home` that isn't well-formed.
 #[tactic(auto, using(crate::proofs::RowsAbove::here, crate::proofs::RowsAbove::more, crate::proofs::RowsAbove::none))]
 fn bad_class<'t>(
     table: &ClassTable,
@@ -77,7 +78,7 @@ fn bad_class<'t>(
     None
 }
 
-/// Where the first class stands of the package that stands there that isn't well-formed.
+/// The offset of the first class of the package at place `home` that isn't well-formed.
 pub(crate) fn first_bad_class(
     table: &ClassTable,
     home: PackagePlace,

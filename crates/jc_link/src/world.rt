@@ -17,10 +17,10 @@ use std::marker::Model;
 /// The most packages of a world: the API's two and 64 loaded ones.
 const MOST_IN_WORLD: usize = 66;
 
-/// How many of them are the API's.
+/// The number of the API's packages.
 const API_PACKAGES: usize = 2;
 
-/// What a linked package has beside its shape.
+/// The rest of a linked package besides its shape.
 #[derive(Drop)]
 pub struct LinkedBody {
     pub(crate) kept: PackageBody,
@@ -36,14 +36,14 @@ impl Model for LinkedBody {
 }
 
 impl LinkedBody {
-    /// What is kept of the package's body.
+    /// The part of the package's body that is kept.
     pub fn kept(&self) -> &PackageBody
         ensures { result.now ≡ self.now.kept }
     {
         &self.kept
     }
 
-    /// What each entry of its constant pool leads to.
+    /// The targets of the entries of its constant pool.
     pub fn targets(&self) -> &[PoolTarget]
         ensures { result.now ≡ self.now.targets }
     {
@@ -51,8 +51,8 @@ impl LinkedBody {
     }
 }
 
-/// A package that is well-formed in the world that it was bound to. It has that world's classes, which both share, with
-/// its own behind them.
+/// A package that is well-formed in the world to which it was linked. It has that world's classes, which both share,
+/// with its own appended.
 #[derive(Drop)]
 pub struct Linked {
     pub(crate) table: ClassTable,
@@ -70,7 +70,7 @@ impl Model for Linked {
 }
 
 impl Linked {
-    /// The classes of the world, the package's own the last.
+    /// The classes of the world, with the package's own last.
     pub fn table(&self) -> &ClassTable
         ensures table { result.now ≡ self.now.world }
         ensures built { IsBuilt self.now.world }
@@ -79,7 +79,7 @@ impl Linked {
         &self.table
     }
 
-    /// What the package has beside its shape.
+    /// The rest of the package besides its shape.
     pub fn body(&self) -> &LinkedBody
         ensures body { result.now ≡ self.now.body }
         ensures known { IsKnown self.now.world (length self.now.world - 1) self.now.body }
@@ -131,7 +131,7 @@ impl World {
         &self.table
     }
 
-    /// What the loaded packages have beside their shapes.
+    /// The rest of the loaded packages besides their shapes.
     pub fn bodies(&self) -> &[LinkedBody]
         ensures bodies { result.now ≡ self.now.bodies }
         ensures world { IsWorld self.now }
@@ -139,7 +139,7 @@ impl World {
         &self.bodies
     }
 
-    /// How many packages there are, the two of the API among them: at most 66.
+    /// How many packages there are, the two of the API included: at most 66.
     pub fn len(&self) -> usize
         ensures count { result ≡ length self.now.shapes }
         ensures most { result ≤ most_in_world }
@@ -147,16 +147,15 @@ impl World {
         self.table.len()
     }
 
-    /// Whether there is no room for a package more: 64 are loaded.
+    /// Whether there is no room for another package: 64 are loaded.
     pub fn is_full(&self) -> bool
         ensures { result ≡ nat_le most_in_world (length self.now.shapes) }
     {
         self.len() >= MOST_IN_WORLD
     }
 
-    /// Puts a package behind the others that was bound to this world as it stands, which isn't full. It gives the
-    /// classes as they were before, by which the package can be taken back. Where no memory is left the world is as it
-    /// was.
+    /// Appends a package that was linked to this world as it is now; the world isn't full. It returns the classes from
+    /// before, with which the package can be removed again. If memory runs out, the world is unchanged.
     pub fn add_for_now(&mut self, linked: Linked) -> Result<ClassTable, AllocError>
         requires bound { IsBoundTo self.now linked }
         requires room { length self.now.shapes < most_in_world }
@@ -169,7 +168,7 @@ impl World {
         Ok(std::mem::replace(&mut self.table, linked.table))
     }
 
-    /// The same, for good.
+    /// The same, permanently.
     pub fn add(&mut self, linked: Linked) -> Result<(), AllocError>
         requires bound { IsBoundTo self.now linked }
         requires room { length self.now.shapes < most_in_world }
@@ -180,7 +179,7 @@ impl World {
         Ok(())
     }
 
-    /// Takes back the package that was added last, where these were the classes before it.
+    /// Removes the package that was added last; these were the classes before it.
     pub fn take_back(&mut self, before: ClassTable)
         requires added { WasAdded self.old before }
         ensures shapes { self.new.shapes ≡ before }

@@ -1,4 +1,4 @@
--- What a certificate says: for methods, the types of the locals and the operands at places of their code.
+-- The contents of a certificate: for methods, the types of the locals and the operands at places of their code.
 use Rattle.std.specs.Prelude.{ℕ, ◌+◌, ◌<◌, ◌≤◌, ◌^◌, List, [], ◌∷◌, length, map}
 use Rattle.std.specs.List.{AllByRecursion}
 use Rattle.jc_base.specs.Aid.{shortest_aid, longest_aid}
@@ -21,23 +21,23 @@ pub record Row : Type 0 where
   pub offset : ℕ
   pub states : List Stated
 
--- pcs from this one on, each above the one before
+-- pcs at or above `least`, each above the one before
 abbrev pub PcsAscend : ℕ → List Stated → Type 0
 PcsAscend least [] = Unit {0}
 PcsAscend least (s ∷ states) = (least ≤ s.pc) × PcsAscend (s.pc + 1) states
 
--- offsets from this one on, each above the one before
+-- offsets at or above `least`, each above the one before
 abbrev pub OffsetsAscend : ℕ → List Row → Type 0
 OffsetsAscend least [] = Unit {0}
 OffsetsAscend least (r ∷ rows) = (least ≤ r.offset) × OffsetsAscend (r.offset + 1) rows
 
--- a class's name whose offset goes into two bytes, and whose AID has the length of one
+-- a class's name whose offset fits two bytes, and whose AID has the length of an AID
 abbrev pub IsSpelledClass : SpelledClass → Type 0
 IsSpelledClass (Own offset) = offset < 2 ^ 16
 IsSpelledClass (Api class) = Unit {0}
 IsSpelledClass (Other aid offset) = (shortest_aid ≤ length aid) × (length aid ≤ longest_aid) × (offset < 2 ^ 16)
 
--- a type whose class, if it has one, has a name
+-- a type whose class, if it has one, has such a name
 abbrev pub IsStatedType : StatedType → Type 0
 IsStatedType Top = Unit {0}
 IsStatedType Word = Unit {0}
@@ -48,7 +48,7 @@ IsStatedType ByteArray = Unit {0}
 IsStatedType ShortArray = Unit {0}
 IsStatedType (ReferenceArray class) = IsSpelledClass class
 
--- a state whose pc and count of locals go into two bytes each, and whose depth into one
+-- a state whose pc and count of locals fit two bytes each, and whose count of operands fits one
 pub record IsStated (s : Stated) : Type 0 where
   pub pc : s.pc < 2 ^ 16
   pub locals : length s.locals < 2 ^ 16
@@ -56,7 +56,7 @@ pub record IsStated (s : Stated) : Type 0 where
   pub each_local : AllByRecursion IsStatedType s.locals
   pub each_operand : AllByRecursion IsStatedType s.operands
 
--- a row of one state or more, by strictly ascending pc
+-- a row with at least one state, by strictly ascending pc
 pub record IsRow (r : Row) : Type 0 where
   pub offset : r.offset < 2 ^ 16
   pub some : 1 ≤ length r.states
@@ -70,7 +70,7 @@ pub record IsCert (rows : List Row) : Type 0 where
   pub each : AllByRecursion IsRow rows
   pub ascend : OffsetsAscend 0 rows
 
--- the rows of the code without where they lie in memory
+-- the code's rows as these records
 abbrev pub stated : StateRow → Stated
 stated s = record { pc = s.pc; locals = s.locals.items; operands = s.operands.items }
 

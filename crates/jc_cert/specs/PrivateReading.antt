@@ -1,5 +1,5 @@
--- Private. Reading a certificate from left to right, each part in the state that the one before leaves. It says what
--- the code reads, and is proved to be the inverse of the spelling.
+-- Private. Reading a certificate from left to right; each part gets the least number that the part before it allows. It
+-- is what the code reads, and is proved to be the inverse of the encoding.
 use Rattle.std.specs.Prelude.{◌≡◌, ℕ, zero, suc, ◌+◌, List, [], ◌∷◌, length, Option, Result, Ok, Err, nat_lt, ◌==◌}
 use Rattle.std.specs.Prelude.{◌&&◌, if◌then◌else◌}
 use Rattle.std.specs.Option.{ok_or}
@@ -23,17 +23,17 @@ use Rattle.jc_cert.specs.Cert.{Stated, Row}
 abbrev pub no_spelling : NoSpelling
 no_spelling = record {}
 
--- what the cursor gives, or there is no spelling
+-- what the cursor returns, or else the bytes encode nothing
 abbrev pub spelled : {A : Type 0} → Option A → Result A NoSpelling
 spelled found = ok_or found no_spelling
 
--- two bytes that spell a number from this one on
+-- a number of two bytes, at or above `least`
 unfoldable pub next_number : ℕ → List ℕ → Result (Read ℕ) NoSpelling
 next_number least bytes = do
   n ← spelled (next_u2 bytes)
   if nat_lt n.value least then Err no_spelling else Ok n
 
--- what was read, made into something
+-- wraps what was read
 abbrev pub read_with : {A B : Type 0} → (A → B) → Result (Read A) NoSpelling → Result (Read B) NoSpelling
 read_with make read = do
   x ← read
@@ -48,7 +48,7 @@ next_api bytes = do
   class ← spelled (class_of number.value)
   if first.value == 0 && high.value == 0 then Ok (record { value = class; rest = number.rest }) else Err no_spelling
 
--- an offset in another package behind its AID, of so many bytes
+-- an offset in another package after that package's AID, which has `len` bytes
 unfoldable pub next_other : ℕ → List ℕ → Result (Read SpelledClass) NoSpelling
 next_other len bytes = do
   front ← spelled (next_bytes len bytes)
@@ -56,7 +56,7 @@ next_other len bytes = do
   offset ← spelled (next_u2 front.rest)
   Ok (record { value = Other aid offset.value; rest = offset.rest })
 
--- a class's name behind its length
+-- a class's name after its length
 unfoldable pub next_class : List ℕ → Result (Read SpelledClass) NoSpelling
 next_class bytes = do
   len ← spelled (next_u1 bytes)
@@ -76,7 +76,7 @@ next_type bytes = do
       else (if tag.value == 6 then Ok (record { value = ShortArray; rest = tag.rest })
       else (if tag.value == 7 then read_with ReferenceArray (next_class tag.rest) else Err no_spelling)))))))
 
--- so many, one after the other, each read in the state that the one before leaves
+-- n parts, one after the other, each read with the state that the one before leaves
 unfoldable pub repeat_at : {S A : Type 0} → (S → List ℕ → Result (Read A) NoSpelling) → (A → S) → ℕ → S → List ℕ
     → Result (Read (List A)) NoSpelling
 repeat_at read next zero s bytes = Ok (record { value = []; rest = bytes })
@@ -88,7 +88,7 @@ repeat_at read next (suc n) s bytes = do
 abbrev pub next_types : ℕ → List ℕ → Result (Read (List StatedType)) NoSpelling
 next_types n bytes = repeat_at (λ (s : ℕ) bs. next_type bs) (λ t. 0) n 0 bytes
 
--- a state whose pc is at least this
+-- a state whose pc is at least `least`
 unfoldable pub next_stated : ℕ → List ℕ → Result (Read Stated) NoSpelling
 next_stated least bytes = do
   pc ← next_number least bytes
@@ -104,7 +104,7 @@ next_stated least bytes = do
 abbrev pub next_states : ℕ → ℕ → List ℕ → Result (Read (List Stated)) NoSpelling
 next_states n least bytes = repeat_at next_stated (λ s. s.pc + 1) n least bytes
 
--- a row of one state or more whose offset is at least this
+-- a row with at least one state, whose offset is at least `least`
 unfoldable pub next_row : ℕ → List ℕ → Result (Read Row) NoSpelling
 next_row least bytes = do
   offset ← next_number least bytes
@@ -115,25 +115,25 @@ next_row least bytes = do
 abbrev pub next_rows : ℕ → ℕ → List ℕ → Result (Read (List Row)) NoSpelling
 next_rows n least bytes = repeat_at next_row (λ r. r.offset + 1) n least bytes
 
--- all of the bytes
+-- a certificate that takes all of the bytes
 unfoldable pub next_cert : List ℕ → Result (Read (List Row)) NoSpelling
 next_cert bytes = do
   count ← spelled (next_u2 bytes)
   rows ← next_rows count.value 0 count.rest
   if length rows.rest == 0 then Ok (record { value = rows.value; rest = [] }) else Err no_spelling
 
--- why nothing was read: there is nothing to read, or memory ran out
+-- why nothing was read: the bytes encode nothing, or memory ran out
 abbrev pub Fails : {Y : Type 0} → Refusal → Result Y NoSpelling → Type 0
 Fails Unspelled read = read ≡ Err no_spelling
 Fails Memory read = Unit {0}
 
--- what a reader gave, seen by view, is what reading gives, unless memory ran out
+-- what a reader returns, compared through view with what reading gives, unless memory ran out
 abbrev pub GivesUnlessMemory : {X Y : Type 0} → (X → Y) → Result X Refusal → List ℕ
     → Result (Read Y) NoSpelling → Type 0
 GivesUnlessMemory view (Ok x) new read = read ≡ Ok (record { value = view x; rest = new })
 GivesUnlessMemory view (Err refusal) new read = Fails refusal read
 
--- the fault that is told
+-- the reported fault
 abbrev pub fault_of : Refusal → LoadFault
 fault_of Unspelled = fault.BadCertificate
 fault_of Memory = fault.Memory

@@ -1,4 +1,4 @@
--- The one spelling of a certificate. Numbers stand with the high byte first.
+-- The encoding of a certificate. Numbers have the high byte first.
 use Rattle.std.specs.Prelude.{ℕ, List, [], ◌∷◌, ◌++◌, length}
 use Rattle.std.specs.List.{flat_map}
 use Rattle.std.specs.Int.{w16, to_be_bytes}
@@ -10,14 +10,14 @@ use Rattle.jc_cert.specs.declared.stated_type.StatedType.TheVariants.{Top, Word,
 use Rattle.jc_cert.specs.declared.stated_type.StatedType.TheVariants.{ShortArray, ReferenceArray}
 use Rattle.jc_cert.specs.Cert.{Stated, Row}
 
--- a class's name: an offset in its own package; an API class's number behind a byte 00; another package's AID and an
+-- a class's name: an offset in its own package; an API class's number after a byte 00; another package's AID and an
 -- offset in it
 abbrev pub class_bytes : SpelledClass → List ℕ
 class_bytes (Own offset) = 0 ∷ to_be_bytes w16 offset
 class_bytes (Api class) = 1 ∷ 0 ∷ to_be_bytes w16 (number_of class)
 class_bytes (Other aid offset) = length aid ∷ aid ++ to_be_bytes w16 offset
 
--- a type by its number, and a class's name behind 3 and 7
+-- a type by its number; after 3 and 7 a class's name
 abbrev pub type_bytes : StatedType → List ℕ
 type_bytes Top = 0 ∷ []
 type_bytes Word = 1 ∷ []
@@ -28,16 +28,16 @@ type_bytes ByteArray = 5 ∷ []
 type_bytes ShortArray = 6 ∷ []
 type_bytes (ReferenceArray class) = 7 ∷ class_bytes class
 
--- the pc, the locals behind their count in two bytes, the operands behind their count in one, bottom first
+-- the pc, the locals after their count in two bytes, the operands after their count in one, bottom first
 abbrev pub stated_bytes : Stated → List ℕ
 stated_bytes s =
     to_be_bytes w16 s.pc ++ (to_be_bytes w16 (length s.locals)
     ++ (flat_map type_bytes s.locals ++ length s.operands ∷ flat_map type_bytes s.operands))
 
--- the offset, and the states behind their count
+-- the offset, and the states after their count
 abbrev pub row_bytes : Row → List ℕ
 row_bytes r = to_be_bytes w16 r.offset ++ (to_be_bytes w16 (length r.states) ++ flat_map stated_bytes r.states)
 
--- the rows behind their count
+-- the rows after their count
 abbrev pub spelling : List Row → List ℕ
 spelling rows = to_be_bytes w16 (length rows) ++ flat_map row_bytes rows

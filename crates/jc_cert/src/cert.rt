@@ -1,4 +1,4 @@
-//! What a certificate holds.
+//! The contents of a certificate.
 
 ghost use Rattle.std.specs.Prelude.{◌≡◌, [], IfSome, IfNone};
 ghost use Rattle.jc_cert.specs.Cert.{IsCert};
@@ -8,10 +8,10 @@ use crate::stated_type::StatedType;
 use std::alloc::Global;
 use std::marker::Model;
 
-/// What a certificate claims of one place in a method's code.
+/// The claim of a certificate for one place in a method's code.
 #[derive(Debug, Drop)]
 pub struct StateRow {
-    /// The place: bytes from the first of the method's code.
+    /// The pc of the place, counted from the first byte of the method's code.
     pub pc: u16,
     /// The types of the locals, at most 65,535.
     pub locals: Vec<StatedType>,
@@ -19,12 +19,12 @@ pub struct StateRow {
     pub operands: Vec<StatedType>,
 }
 
-/// What a certificate claims of one method.
+/// The claims of a certificate for one method.
 #[derive(Debug, Drop)]
 pub struct MethodRow {
     /// The method, by the offset of its header in the Method component.
     pub offset: u16,
-    /// Its places, at least one, by strictly ascending pc.
+    /// The states at its places, at least one, by strictly ascending pc.
     pub states: Vec<StateRow>,
 }
 
@@ -48,7 +48,7 @@ impl Model for Cert {
 impl Cert {
     ghost use Rattle.jc_cert.specs.Cert.{rows};
 
-    /// The certificate that claims nothing. It takes no memory.
+    /// The certificate without claims. It takes no memory.
     pub fn empty(alloc: Global) -> Cert
         ensures { result ≡ [] }
     {
@@ -57,9 +57,9 @@ impl Cert {
         }
     }
 
-    /// The certificate of rows, if they are in order: rows of methods by strictly ascending offset, each with one
-    /// state or more by strictly ascending pc, none with more than 65,535 locals or 255 operands, and no more than
-    /// 65,535 rows, or states of a row. It takes no memory.
+    /// The certificate with these rows, if they are in order: rows of methods by strictly ascending offset, each with
+    /// at least one state, these by strictly ascending pc, none with more than 65,535 locals or 255 operands, and at
+    /// most 65,535 rows and 65,535 states in a row. It takes no memory.
     pub fn new(methods: Vec<MethodRow>) -> Option<Cert>
         ensures made { IfSome result (λ c. c ≡ rows methods.items) }
         ensures none { IfNone result (IsCert (rows methods.items) → ⊥) }
@@ -70,7 +70,7 @@ impl Cert {
         Some(Cert::from_rows(methods))
     }
 
-    /// The certificate of these rows.
+    /// The certificate with these rows.
     pub(crate) fn from_rows(methods: Vec<MethodRow>) -> Cert
         requires { IsCert (rows methods.items) }
         ensures { result ≡ rows methods.items }

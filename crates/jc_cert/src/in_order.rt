@@ -8,7 +8,7 @@ ghost use Rattle.jc_cert.specs.Cert.{stated, row, rows};
 use crate::cert::{MethodRow, StateRow};
 use crate::stated_type::{SpelledClass, StatedType};
 
-/// Each name of a class has an offset and an AID that fit. It does nothing.
+/// Each name of a class has an offset and an AID within their limits. It does nothing.
 fn class_fits(class: SpelledClass)
     ensures { IsSpelledClass class }
 {
@@ -20,7 +20,7 @@ fn class_fits(class: SpelledClass)
     }
 }
 
-/// The name of a type's class fits, if it has one. It does nothing.
+/// The name of a type's class, if it has one, is within its limits. It does nothing.
 fn type_fits(ty: StatedType)
     ensures { IsStatedType ty }
 {
@@ -36,7 +36,7 @@ fn type_fits(ty: StatedType)
     }
 }
 
-/// The names of classes of types fit. It does nothing.
+/// The names of the classes of these types are within their limits. It does nothing.
 fn types_fit(types: &[StatedType])
     ensures { AllByRecursion IsStatedType types.now }
 {
@@ -45,7 +45,7 @@ fn types_fit(types: &[StatedType])
     }
 }
 
-/// Whether a state's pc is at least this, and the counts of its locals and operands fit.
+/// Whether a state's pc is at least `least`, and the counts of its locals and operands are within their limits.
 fn is_state_from(state: &StateRow, least: u32) -> bool
     ensures { IsTrue result ↔ ((least ≤ state.now.pc) × IsStated (stated state.now)) }
 {
@@ -69,7 +69,7 @@ fn are_states(states: &[StateRow]) -> bool
     true
 }
 
-/// Whether a row's offset is at least this, and it has one state or more, in order.
+/// Whether a row's offset is at least `least`, and it has at least one state, all in order.
 fn is_row_from(method: &MethodRow, least: u32) -> bool
     ensures { IsTrue result ↔ ((least ≤ method.now.offset) × IsRow (row method.now)) }
 {

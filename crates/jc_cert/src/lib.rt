@@ -1,5 +1,5 @@
-//! Certificates: the states that a method's code is claimed to have at its branch targets, and their one spelling
-//! in bytes.
+//! Certificates: the states that a method's code is claimed to have at its branch targets, and their unique encoding in
+//! bytes.
 #![tactic(auto)]
 
 mod cert;

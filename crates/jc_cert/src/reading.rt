@@ -15,7 +15,7 @@ use jc_api::ApiClass;
 use jc_base::{Aid, Cursor, LoadFault};
 use std::alloc::Global;
 
-/// The next two bytes, where they spell a number from `least` on.
+/// The next number of two bytes, if it is at least `least`.
 #[tactic(auto, unfolding(crate::specs::PrivateReading::next_number))]
 fn read_number(cursor: &mut Cursor, least: u32) -> Result<u16, NoSpelling>
     ensures { Gives (λ n. n) result cursor.new (next_number least cursor.old) }
@@ -27,7 +27,7 @@ fn read_number(cursor: &mut Cursor, least: u32) -> Result<u16, NoSpelling>
     Ok(number)
 }
 
-/// A class of the API, behind the length 1.
+/// A class of the API, after the length 1.
 #[tactic(auto, unfolding(crate::specs::PrivateReading::next_api))]
 fn read_api(cursor: &mut Cursor) -> Result<ApiClass, NoSpelling>
     ensures { Gives (λ class. class) result cursor.new (next_api cursor.old) }
@@ -42,7 +42,7 @@ fn read_api(cursor: &mut Cursor) -> Result<ApiClass, NoSpelling>
     Ok(class)
 }
 
-/// A class of another package, behind the length of that package's AID.
+/// A class of another package, after the length of that package's AID.
 #[tactic(auto, unfolding(crate::specs::PrivateReading::next_other))]
 fn read_other(cursor: &mut Cursor, len: usize) -> Result<SpelledClass, NoSpelling>
     ensures { Gives (λ class. class) result cursor.new (next_other len cursor.old) }
@@ -90,8 +90,7 @@ fn read_types(alloc: Global, cursor: &mut Cursor, count: u16) -> Result<Vec<Stat
     let mut types = Vec::new(alloc);
     for _ in 0..count {
         let ty = read_type(cursor)?;
-        // As a slice: `push` hands its value back where memory is lacking, and the check fails on that for enums in
-        // enums.
+        // As a slice: `push` returns its value if memory runs out, and the check fails on that for enums in enums.
         types.extend_from_slice(&[ty])?;
     }
     Ok(types)
@@ -162,16 +161,16 @@ fn read_all(alloc: Global, bytes: &[u8]) -> Result<Vec<MethodRow>, Refusal>
     Ok(methods)
 }
 
-/// The certificate that all of the bytes spell.
+/// The certificate that these bytes encode.
 ///
-/// `BadCertificate` where they spell none, and `Memory` where no memory was left, which may be found first.
+/// `BadCertificate` if they encode none, and `Memory` if memory runs out, which may happen first.
 pub fn read(alloc: Global, bytes: &[u8]) -> Result<Cert, LoadFault>
-    // What is read is a certificate, and spelled so.
+    // The result is a certificate, and the bytes are its encoding.
     ensures found { IfOk result (λ rows. IsCert rows × (bytes.now ≡ spelling rows)) }
-    // A certificate that is spelled so is read, unless memory runs out.
+    // A certificate with this encoding is returned, unless memory runs out.
     ensures only { (rows : List Row) → IsCert rows → bytes.now ≡ spelling rows →
         MatchResult result (λ read. read ≡ rows) (λ fault. fault ≡ LoadFault.Memory) }
-    // What is refused is no certificate's spelling.
+    // Refused bytes are no certificate's encoding.
     ensures refused { IsErrOf result LoadFault.BadCertificate →
         (rows : List Row) → IsCert rows → bytes.now ≡ spelling rows → ⊥ }
     ensures faults { IfErr result (λ fault. (fault ≡ LoadFault.BadCertificate) ⊎ (fault ≡ LoadFault.Memory)) }

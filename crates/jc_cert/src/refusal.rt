@@ -7,14 +7,14 @@ ghost use Rattle.jc_cert.specs.PrivateReading.{fault_of};
 use jc_base::LoadFault;
 use std::alloc::{AllocError, AllocFailed};
 
-/// The bytes spell no certificate. What allocates nothing tells only this.
+/// The bytes encode no certificate. Steps that allocate nothing have only this fault.
 #[derive(Clone, Copy, Debug, PartialEq, Eq)]
 pub(crate) struct NoSpelling;
 
 /// Why no certificate was read.
 #[derive(Clone, Copy, Debug, PartialEq, Eq)]
 pub(crate) enum Refusal {
-    /// The bytes spell no certificate.
+    /// The bytes encode no certificate.
     Unspelled,
     /// No memory was left.
     Memory,

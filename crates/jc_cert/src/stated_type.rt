@@ -1,9 +1,9 @@
-//! Types as a certificate states them, with the names of classes.
+//! Types in certificates, with the names of classes.
 
 use jc_api::ApiClass;
 use jc_base::Aid;
 
-/// A class as a certificate names it.
+/// A class, as a certificate names it.
 #[derive(Clone, Copy, Debug, PartialEq, Eq)]
 pub enum SpelledClass {
     /// The class of the certificate's own package whose record stands at an offset of the Class component.
@@ -14,7 +14,7 @@ pub enum SpelledClass {
     Other { package: Aid, offset: u16 },
 }
 
-/// A type as a certificate states it: the types of verification, with classes by name.
+/// A verification type in a certificate, with classes by name.
 #[derive(Clone, Copy, Debug, PartialEq, Eq)]
 pub enum StatedType {
     /// Nothing is known.

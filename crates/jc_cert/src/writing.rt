@@ -92,7 +92,7 @@ fn write_rows(alloc: Global, methods: &[MethodRow]) -> Result<Vec<u8>, AllocErro
     Ok(out)
 }
 
-/// The one spelling of a certificate. The only error is that no memory was left.
+/// The encoding of a certificate. The only error is out of memory.
 pub fn write(alloc: Global, cert: &Cert) -> Result<Vec<u8>, AllocError>
     ensures cert { IsCert cert.now }
     ensures spelled { IfOk result (λ bytes. bytes.items ≡ spelling cert.now) }

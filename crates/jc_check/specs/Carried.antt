@@ -1,5 +1,5 @@
--- What it means that a certificate carries a method: with the certificate's states there is one typing that goes
--- from instruction to instruction, and it is well typed.
+-- When a certificate carries a method: with the certificate's states there is a typing that propagates from instruction
+-- to instruction, and it is well typed.
 use Rattle.std.specs.Prelude.{⊤, ◌≡◌, ℕ, ℤ, pos, ◌+◌, ◌^◌, ◌<◌, ◌==◌, ◌&&◌, List, [], ◌∷◌, length, map, Option, Some}
 use Rattle.std.specs.Prelude.{None, Ok, Bool, true, false, nat_le, if◌then◌else◌}
 use Rattle.std.specs.List.{AllByRecursion}
@@ -17,16 +17,16 @@ use Rattle.jc_check.specs.Typing.{Typing}
 abbrev pub types_of : Claim → Types
 types_of c = stated_types c.locals c.operands
 
--- the claimed state at a pc
+-- the first claimed state at a pc
 unfoldable pub state_at : List Claim → ℕ → Option Types
 state_at [] pc = None
 state_at (c ∷ cs) pc = if c.pc == pc then Some (types_of c) else state_at cs pc
 
--- a state has the method's number of locals, and no more operands than it may have
+-- a state has as many locals as the method, and at most its maximum of operands
 abbrev pub has_shape : Method → Stated → Bool
 has_shape m c = (length c.locals == length m.arguments + m.max_locals) && nat_le (length c.operands) m.max_stack
 
--- a certificate's state stands where an instruction begins, in the method's shape
+-- an instruction begins at the pc of a certificate's state, which has the method's shape
 pub record Stands (m : Method) (listing : List PlacedInstr) (c : Stated) : Type 0 where
   pub begin : begins listing c.pc ≡ true
   pub shape : has_shape m c ≡ true
@@ -37,7 +37,7 @@ pub record HandlerStands (listing : List PlacedInstr) (h : Handler) : Type 0 whe
   pub class : ClassName
   pub catches : h.caught ≡ Some class
 
--- a branch leads to an instruction where the certificate has a state above these types
+-- a branch leads to an instruction at which the certificate has a state above these types
 pub record Arrives (rules : Rules) (listing : List PlacedInstr) (claims : List Claim) (t : Types)
     (place : ℤ) : Type 0 where
   pub pc : ℕ
@@ -47,7 +47,7 @@ pub record Arrives (rules : Rules) (listing : List PlacedInstr) (claims : List C
   pub stated : state_at claims pc ≡ Some state
   pub below : types_below rules.below t state ≡ true
 
--- these types go on to the next pc: they are its state, unless the certificate has one there, which is above them
+-- these types go on to the next pc: they are its state, or below the certificate's state there, if there is one
 abbrev pub GoesOn : Rules → Option Types → Option Types → Types → Type 0
 GoesOn rules None state t = state ≡ Some t
 GoesOn rules (Some c) state t = types_below rules.below t c ≡ true
@@ -57,13 +57,13 @@ abbrev pub NothingGoesOn : Option Types → Option Types → Type 0
 NothingGoesOn None state = state ≡ None
 NothingGoesOn (Some c) state = ⊤
 
--- what goes on to a pc, which lies within the code where anything does
+-- what goes on to a pc; if anything does, the pc lies within the code
 abbrev pub GoesOnIf : Rules → Method → List Claim → Typing → Bool → Types → ℕ → Type 0
 GoesOnIf rules m claims typing true t pc = (pc < length m.code) × GoesOn rules (state_at claims pc) (typing pc) t
 GoesOnIf rules m claims typing false t pc = NothingGoesOn (state_at claims pc) (typing pc)
 
--- a handler catches a class, and the certificate has a state where it goes on, which is above these types with that
--- class caught
+-- a handler catches a class, and where it goes on the certificate has a state that is above these types with the class
+-- caught
 pub record IsCaught (rules : Rules) (claims : List Claim) (t : Types) (h : Handler) : Type 0 where
   pub class : ClassName
   pub catches : h.caught ≡ Some class
@@ -71,12 +71,12 @@ pub record IsCaught (rules : Rules) (claims : List Claim) (t : Types) (h : Handl
   pub stated : state_at claims h.goes_on ≡ Some state
   pub below : types_below rules.below (caught_types class t) state ≡ true
 
--- so it is where the handler covers a pc with these types
+-- a handler that covers a pc catches with these types
 abbrev pub IsHandled : Rules → List Claim → ℕ → Types → Handler → Type 0
 IsHandled rules claims pc t h = covers h pc ≡ true → IsCaught rules claims t h
 
--- the handlers that cover an instruction catch in the state before it; it has an effect on that state, and the state
--- after goes where the certificate says
+-- the handlers that cover an instruction catch in the state before it; the instruction has an effect on that state, and
+-- the state after goes on as the certificate says
 pub record IsCarriedAt (rules : Rules) (m : Method) (listing : List PlacedInstr) (claims : List Claim) (typing : Typing)
     (x : PlacedInstr) (s : Types) : Type 0 where
   pub handled : AllByRecursion (IsHandled rules claims x.pc s) m.handlers
@@ -87,7 +87,7 @@ pub record IsCarriedAt (rules : Rules) (m : Method) (listing : List PlacedInstr)
 
 -- the states carry the method
 pub record Carries (rules : Rules) (m : Method) (states : List Stated) : Type 0 where
-  -- their classes are found
+  -- their classes resolve
   pub claims : List Claim
   pub found : map (claim_of rules) states ≡ map Some claims
   -- the code decodes
@@ -95,22 +95,22 @@ pub record Carries (rules : Rules) (m : Method) (states : List Stated) : Type 0 
   pub whole : IsListing rules.decoder m.code listing
   -- each handler goes on where an instruction begins, and catches a class
   pub caught : AllByRecursion (HandlerStands listing) m.handlers
-  -- each state stands where an instruction begins, in the method's shape
+  -- an instruction begins at the pc of each state, which has the method's shape
   pub fitting : AllByRecursion (Stands m listing) states
-  -- there is a typing, of starts of instructions alone
+  -- there is a typing, which has states only where instructions begin
   pub typing : Typing
   pub starts : (pc : ℕ) (s : Types) → typing pc ≡ Some s → begins listing pc ≡ true
-  -- it has the certificate's state wherever the certificate has one
+  -- it has the certificate's states at their pcs
   pub stated : (pc : ℕ) (s : Types) → state_at claims pc ≡ Some s → typing pc ≡ Some s
-  -- the entry state goes to pc 0
+  -- the entry state goes on to pc 0
   pub entry : GoesOnIf rules m claims typing true (entry_of m) 0
-  -- each instruction with a state is carried, and behind one without a state nothing goes on
+  -- each instruction with a state is carried, and after one without a state nothing goes on
   pub live : (pc : ℕ) (x : PlacedInstr) (s : Types) → placed_at listing pc ≡ Some x → typing pc ≡ Some s
       → IsCarriedAt rules m listing claims typing x s
   pub dead : (pc : ℕ) (x : PlacedInstr) → placed_at listing pc ≡ Some x → typing pc ≡ None
       → NothingGoesOn (state_at claims x.instr.next_pc) (typing x.instr.next_pc)
 
--- rows are a certificate, which carries code alone
+-- rows are a certificate, and it carries code alone
 pub record CertCarriesCode (code : List ℕ) (rows : List Row) : Type 0 where
   pub cert : IsCert rows
   pub states : List Stated

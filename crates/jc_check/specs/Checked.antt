@@ -1,4 +1,4 @@
--- What it means that a certificate carries a package, and the first refusal of one that it doesn't carry.
+-- When a certificate carries a package, and the first refusal of a package that it doesn't carry.
 use Rattle.std.specs.Prelude.{◌≡◌, ◌⊎◌, ℕ, ◌<◌, ◌==◌, not, Bool, List, [], Option, Some, None, slice_get}
 use Rattle.std.specs.List.{find, list_any}
 use Rattle.std.specs.Option.{option_map, option_map_or}
@@ -22,11 +22,11 @@ stated_for rows offset = option_map_or (λ row. row.states) (find (λ row. row.o
 abbrev pub has_code_at : List MethodBody → ℕ → Bool
 has_code_at methods offset = list_any (λ b. offset == b.offset) methods
 
--- the offset of the first row for one at which no method with code stands
+-- the offset of the first row for an offset without a method with code
 abbrev pub stray_offset : List MethodBody → List Row → Option ℕ
 stray_offset methods rows = option_map (λ row. row.offset) (find (λ row. not (has_code_at methods row.offset)) rows)
 
--- a method with code is carried by the states that the certificate has for it
+-- the states that the certificate has for a method with code carry it
 abbrev pub IsMethodCarried : Linked → List Row → MethodBody → Type 0
 IsMethodCarried l rows b = Carries (package_rules l) (method_of l b) (stated_for rows b.offset)
 
@@ -35,7 +35,7 @@ pub record CarriesPackage (l : Linked) (rows : List Row) : Type 0 where
   pub no_stray : stray_offset l.body.kept.methods rows ≡ None
   pub methods : (n : ℕ) (b : MethodBody) → slice_get l.body.kept.methods n ≡ Some b → IsMethodCarried l rows b
 
--- the first fault of a method with code, where each that stands before it in the Method component is carried
+-- the first fault of a method with code; all methods at lower offsets are carried
 pub record IsFirstUncarried (l : Linked) (rows : List Row) (b : MethodBody) (fault : Fault) : Type 0 where
   pub place : ℕ
   pub is : slice_get l.body.kept.methods place ≡ Some b
@@ -43,15 +43,15 @@ pub record IsFirstUncarried (l : Linked) (rows : List Row) (b : MethodBody) (fau
   pub before : (n : ℕ) (c : MethodBody) → slice_get l.body.kept.methods n ≡ Some c → c.offset < b.offset
       → IsMethodCarried l rows c
 
--- the first refusal: of the first row for an offset without code; or else of the method with the least offset that
--- isn't carried
+-- the first refusal: that of the first row for an offset without code; otherwise that of the method with the least
+-- offset that isn't carried
 pub data IsFirstRefusal (l : Linked) (rows : List Row) : LoadFault → Type 0 where
   stray : (offset : ℕ) → stray_offset l.body.kept.methods rows ≡ Some offset
       → IsFirstRefusal l rows (MethodRefused offset 0 CertMismatch)
   method : (b : MethodBody) (fault : Fault) → stray_offset l.body.kept.methods rows ≡ None
       → IsFirstUncarried l rows b fault → IsFirstRefusal l rows (MethodRefused b.offset fault.pc fault.reason)
 
--- the first refusal, or want of memory
+-- the first refusal, or out of memory
 abbrev pub IsCheckRefusal : Linked → List Row → LoadFault → Type 0
 IsCheckRefusal l rows fault = (fault ≡ Memory) ⊎ IsFirstRefusal l rows fault
 
@@ -61,7 +61,7 @@ pub record IsPackageCarried (l : Linked) : Type 0 where
   pub cert : IsCert rows
   pub carried : CarriesPackage l rows
 
--- a method with code is well typed, by a typing of its shape
+-- a method with code is well typed, by a typing with its shape
 pub record IsMethodTyped (l : Linked) (b : MethodBody) : Type 0 where
   pub typing : Typing
   pub typed : IsTyping (package_rules l) (method_of l b) typing

@@ -1,4 +1,4 @@
--- A method as its check sees it.
+-- A method for the check.
 use Rattle.std.specs.Prelude.{ℕ, ◌+◌, ◌==◌, ◌&&◌, nat_le, nat_lt, Bool, List, [], ◌∷◌, Option, Some, None}
 use Rattle.std.specs.Prelude.{if◌then◌else◌}
 use Rattle.jc_names.specs.declared.name.ClassName.{ClassName}
@@ -7,8 +7,8 @@ use Rattle.jc_types.specs.declared.ty.Ty.TheVariants.{Word, Class}
 use Rattle.jc_types.specs.State.{Types, entry_types}
 use Rattle.jc_cert.specs.Cert.{Stated, Row}
 
--- a handler: the first pc that it covers and how many it covers, the pc at which it goes on, and the class that it
--- catches, if its entry of the constant pool names one that may be thrown
+-- an exception handler: the first pc that it covers and the number of pcs, the pc at which it goes on, and the class
+-- that it catches, if its entry of the constant pool names one that may be thrown
 pub record Handler : Type 0 where
   pub start : ℕ
   pub length : ℕ
@@ -19,12 +19,12 @@ pub record Handler : Type 0 where
 abbrev pub covers : Handler → ℕ → Bool
 covers h pc = nat_le h.start pc && nat_lt pc (h.start + h.length)
 
--- the types where a handler goes on: the locals as they are, and the class that it catches as the one operand
+-- the types where a handler goes on: the locals unchanged, and the class that it catches as the only operand
 abbrev pub caught_types : ClassName → Types → Types
 caught_types class s = record { locals = s.locals; operands = Class class ∷ [] }
 
--- its code, the types of its arguments, how many locals it has beside them, how many operands it may have, the type of
--- its result, if it isn't void, and its handlers
+-- its code, the types of its arguments, the number of its other locals, the greatest number of its operands, the type
+-- of its result, if it isn't void, and its exception handlers
 pub record Method : Type 0 where
   pub code : List ℕ
   pub arguments : List Ty
@@ -37,7 +37,7 @@ pub record Method : Type 0 where
 abbrev pub entry_of : Method → Types
 entry_of m = entry_types m.arguments m.max_locals
 
--- how many locals and operands code alone has at most
+-- the number of locals, and the greatest number of operands, of code alone
 abbrev pub word_locals : ℕ
 word_locals = 2
 
@@ -56,7 +56,7 @@ word_method code =
       handlers = [];
     }
 
--- the certificate's states for the one method there is, at offset 0; a row for another offset is for no method
+-- the certificate's states for the only method, at offset 0; none if there is a row for another method
 abbrev pub states_of : List Row → Option (List Stated)
 states_of [] = Some []
 states_of (row ∷ []) = if row.offset == 0 then Some row.states else None

@@ -1,5 +1,5 @@
--- What a linked package is checked by, and its methods as the check sees them (Java Card Virtual Machine Specification,
--- Method component: method_header_info, exception_handler_info).
+-- The rules of a linked package, and its methods for the check (Java Card Virtual Machine Specification, Method
+-- component: method_header_info, exception_handler_info).
 use Rattle.std.specs.Prelude.{ℕ, ◌-◌, ◌==◌, List, [], ◌∷◌, ◌++◌, length, map, Option, Some, None, slice_get}
 use Rattle.std.specs.Prelude.{if◌then◌else◌}
 use Rattle.std.specs.Option.{option_and_then, option_map_or}
@@ -27,28 +27,28 @@ use Rattle.jc_types.specs.declared.ty.Ty.TheVariants.{Class}
 use Rattle.jc_check.specs.Method.{Handler, Method}
 use Rattle.jc_check.specs.Rules.{Rules}
 
--- where a linked package stands: it is the last of its world
+-- the place of a linked package: it is the last of its world
 abbrev pub own_home : List Shape → ℕ
 own_home world = length world - 1
 
 -- ---- the classes that names in its certificate stand for
 
--- a class, and no interface
+-- the class with a name, if it isn't an interface
 abbrev pub if_class : List Shape → ClassName → Option ClassName
 if_class world c = if is_class_at world c then Some c else None
 
--- the class whose record stands at an offset of the package that stands there
+-- the class whose record stands at an offset of the package at place `home`
 abbrev pub class_with_record : List Shape → ℕ → ℕ → Option ClassName
 class_with_record world home offset = option_and_then (if_class world) (class_named world home (Internal offset))
 
--- the class that a name stands for. A package that is named by its AID is one of those that were loaded before
+-- the class that a name stands for. An AID names a package that was loaded before
 unfoldable pub class_of_name : List Shape → SpelledClass → Option ClassName
 class_of_name world (Own offset) = class_with_record world (own_home world) offset
 class_of_name world (Api class) = if_class world (names.Api class)
 class_of_name world (Other aid offset) =
     option_and_then (λ home. class_with_record world home offset) (loaded_with world (own_home world) aid)
 
--- what it is checked by
+-- the rules of a linked package
 abbrev pub package_rules : Linked → Rules
 package_rules l = record {
   decoder = instr_at;
@@ -57,13 +57,13 @@ package_rules l = record {
   class_of = class_of_name l.world;
 }
 
--- ---- its methods. Where a row, or the types in it, aren't found nothing stands in their place
+-- ---- its methods. A row that is missing, or a type that doesn't resolve, leaves its part empty
 
--- what may be thrown is an object of this class, or of one below it
+-- the objects that may be thrown are of this class, or of one below it
 abbrev pub throwable : ClassName
 throwable = names.Api Throwable
 
--- the class that an entry of the constant pool names, where its objects may be thrown
+-- the class that an entry of the constant pool names, if its objects may be thrown
 abbrev pub thrown_class : List Shape → PoolTarget → Option ClassName
 thrown_class world (To.Class c) = if is_class_below world c throwable then Some c else None
 thrown_class world (To.InstanceField c cell declared) = None
@@ -72,7 +72,7 @@ thrown_class world (To.VirtualMethod c token signature) = None
 thrown_class world (To.SuperMethod c m signature) = None
 thrown_class world (To.StaticMethod c m is_static signature) = None
 
--- the index that stands for all that may be thrown
+-- the index that catches everything that may be thrown
 abbrev pub catches_all : ℕ
 catches_all = 0
 
@@ -91,7 +91,7 @@ handler_of l code_offset h = record {
   caught = caught_class l h.catch_type;
 }
 
--- the object that a method is called on, of the class that declares it, unless it is static
+-- the object on which a method is called, of the class that declares the method, unless it is static
 abbrev pub receiver_of : DeclaredMethod → List Ty
 receiver_of d = if d.method.is_static then [] else Class d.class ∷ []
 
@@ -101,7 +101,7 @@ arguments_of world d =
     receiver_of d ++ option_map_or (λ signature. map type_of_declared signature.parameters)
     (declared_type_of world d) []
 
--- how many locals it has beside its arguments
+-- the number of a method's locals besides its arguments
 abbrev pub max_locals_of : DeclaredMethod → ℕ
 max_locals_of d = option_map_or (λ h. h.max_locals) d.method.header 0
 

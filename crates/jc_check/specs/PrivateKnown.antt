@@ -6,7 +6,7 @@ use Rattle.jc_classes.specs.Members.{DeclaredMethod}
 use Rattle.jc_link.specs.Linked.{Linked}
 use Rattle.jc_check.specs.Package.{max_locals_of, method_of}
 
--- a method's header counts with bytes
+-- the numbers of a method's header are bytes
 pub record IsSmallHeader (d : DeclaredMethod) : Type 0 where
   pub arguments : option_map_or (λ h. h.nargs) d.method.header 0 < 2 ^ 8
   pub locals : max_locals_of d < 2 ^ 8
@@ -16,6 +16,6 @@ pub record IsSmallFrame (l : Linked) (b : MethodBody) : Type 0 where
   pub locals : length (method_of l b).arguments + (method_of l b).max_locals < 2 ^ 16
   pub stack : (method_of l b).max_stack < 2 ^ 8
 
--- so many methods with code have such frames
+-- the first `count` methods with code have such frames
 pub record AreSmallFrames (l : Linked) (count : ℕ) : Type 0 where
   pub each : (n : ℕ) (b : MethodBody) → n < count → slice_get l.body.kept.methods n ≡ Some b → IsSmallFrame l b

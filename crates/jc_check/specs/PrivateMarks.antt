@@ -1,4 +1,4 @@
--- Private. The table of marks that the check keeps beside the code, and what its steps leave.
+-- Private. The table of marks that the check keeps of the code, and the results of its steps.
 use Rattle.std.specs.Prelude.{⊤, ◌≡◌, ℕ, ◌+◌, ◌==◌, ◌&&◌, nat_le, List, [], length, Option, Some, None, Result, Ok, Err}
 use Rattle.std.specs.Prelude.{Bool, true, false, slice_get, slice_index_or, if◌then◌else◌}
 use Rattle.jc_base.specs.declared.reason.Reason.{Reason}
@@ -12,21 +12,21 @@ use Rattle.jc_check.specs.Carried.{state_at, types_of}
 use Rattle.jc_check.specs.declared.mark.ByteMark.{ByteMark}
 use Rattle.jc_check.specs.declared.mark.ByteMark.TheVariants.{Inside, Start, Holds}
 
--- what stands at a byte before the certificate's states are looked at
+-- the mark of a byte before the certificate's states are marked
 abbrev pub mark_of : Bool → ByteMark
 mark_of true = Start
 mark_of false = Inside
 
--- the table marks where instructions begin, and no more; past the code nothing does
+-- the table marks where instructions begin, and nothing else; past the code no instruction does
 pub record MarksStarts (code : List ℕ) (listing : List PlacedInstr) (marks : List ByteMark) : Type 0 where
   pub len : length marks ≡ length code
   pub each : (pc : ℕ) → slice_index_or marks pc Inside ≡ mark_of (begins listing pc)
 
--- a claim has the method's number of locals, and no more operands than it may have
+-- a claim has as many locals as the method, and at most its maximum of operands
 abbrev pub claim_fits : Method → Claim → Bool
 claim_fits m c = (length c.locals == length m.arguments + m.max_locals) && nat_le (length c.operands) m.max_stack
 
--- the claim of a number stands at a pc
+-- the claim with a number stands at a pc
 pub record IsHeld (m : Method) (listing : List PlacedInstr) (claims : List Claim) (pc k : ℕ) : Type 0 where
   pub begin : begins listing pc ≡ true
   pub claim : Claim
@@ -34,7 +34,7 @@ pub record IsHeld (m : Method) (listing : List PlacedInstr) (claims : List Claim
   pub state : state_at claims pc ≡ Some (types_of claim)
   pub shape : claim_fits m claim ≡ true
 
--- what a mark says of its pc: within an instruction, where one begins, or where the claim of a number is
+-- the meaning of a mark at its pc: within an instruction, the first byte of one, or that with the claim of a number
 abbrev pub IsMark : Method → List PlacedInstr → List Claim → ℕ → ByteMark → Type 0
 IsMark m listing claims pc Inside = (begins listing pc ≡ false) × (state_at claims pc ≡ None)
 IsMark m listing claims pc Start = (begins listing pc ≡ true) × (state_at claims pc ≡ None)
@@ -46,20 +46,20 @@ pub record IsTable (rules : Rules) (m : Method) (listing : List PlacedInstr) (cl
   pub len : length marks ≡ length m.code
   pub each : (pc : ℕ) → IsMark m listing claims pc (slice_index_or marks pc Inside)
 
--- what holds of the instructions that a method's table is of
+-- a property of the instructions of a method's table
 abbrev pub ForMethod : Rules → Method → List ByteMark → (List PlacedInstr → Type 0) → Type 0
 ForMethod rules m marks holds =
     (listing : List PlacedInstr) (claims : List Claim) → IsTable rules m listing claims marks → holds listing
 
--- the same, whatever method it is
+-- the same, for any method
 abbrev pub ForTable : List ByteMark → (List PlacedInstr → Type 0) → Type 0
 ForTable marks holds = (rules : Rules) (m : Method) → ForMethod rules m marks holds
 
--- what holds of the instructions of a table without claims
+-- a property of the instructions of a table without claims
 abbrev pub ForStarts : Rules → Method → List ByteMark → (List PlacedInstr → Type 0) → Type 0
 ForStarts rules m marks holds = (listing : List PlacedInstr) → IsTable rules m listing [] marks → holds listing
 
--- a number is that of a claim in the method's shape
+-- the number of a mark is that of a claim with the method's shape
 abbrev pub IsSafe : Method → List Claim → ByteMark → Type 0
 IsSafe m claims (Holds k) = (c : Claim) × (slice_get claims k ≡ Some c) × (claim_fits m c ≡ true)
 IsSafe m claims Inside = ⊤
@@ -69,7 +69,7 @@ pub record AreSafe (m : Method) (claims : List Claim) (marks : List ByteMark) : 
   pub len : length marks ≡ length m.code
   pub each : (pc : ℕ) → IsSafe m claims (slice_index_or marks pc Inside)
 
--- what goes on, as a flag beside the types
+-- what goes on, as a flag besides the types
 abbrev pub Flowed : Result Bool Reason → Types → Result (Option Types) Reason → Type 0
 Flowed (Ok true) t flow = flow ≡ Ok (Some t)
 Flowed (Ok false) t flow = flow ≡ Ok None
@@ -78,7 +78,7 @@ Flowed (Err reason) t flow = flow ≡ Err reason
 abbrev pub flowing : Bool → Types → Option Types
 flowing live t = if live then Some t else None
 
--- a state has the method's number of locals, and room for the operands that the method may have
+-- a state has as many locals as the method, and room for its greatest number of operands
 pub record HasRoom (m : Method) (s : StateWithRoom) : Type 0 where
   pub locals : length s.types.locals ≡ length m.arguments + m.max_locals
   pub room : s.room ≡ m.max_stack

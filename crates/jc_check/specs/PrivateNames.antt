@@ -1,4 +1,4 @@
--- Private. How a certificate of a world's last package may name a class, if the class's package is there.
+-- Private. The name that a certificate of a world's last package has for a class, if the class's package is there.
 use Rattle.std.specs.Prelude.{◌+◌, ◌==◌, List, length, Option, Some, slice_get, if◌then◌else◌}
 use Rattle.std.specs.Option.{option_map}
 use Rattle.jc_cap_desc.specs.Shape.{Shape}

@@ -1,4 +1,4 @@
--- Private. What the handlers of a method saw last, and caught.
+-- Private. The locals that the exception handlers of a method saw last, and with which they caught.
 use Rattle.std.specs.Prelude.{◌≡◌, ◌≢◌, ℕ, ◌+◌, List, [], length, Bool, true, false, Option, Some, None}
 use Rattle.std.specs.Prelude.{Ok, slice_get}
 use Rattle.std.specs.Option.{option_map_or}
@@ -20,20 +20,20 @@ pub record Seen : Type 0 where
 abbrev pub covers_seen : Handler → Seen → Bool
 covers_seen h seen = option_map_or (λ pc. covers h pc) seen.pc false
 
--- locals as a state: a handler looks at no operand
+-- locals as a state: a handler ignores the operands
 abbrev pub locals_alone : List Ty → Types
 locals_alone locals = record { locals = locals; operands = [] }
 
--- a handler caught what it saw
+-- a handler caught with what it saw
 pub record WasCaught (rules : Rules) (claims : List Claim) (seen : Seen) (h : Handler) : Type 0 where
   pub catches : covers_seen h seen ≡ true
       → catches_at rules claims (locals_alone seen.locals) h.goes_on h.caught ≡ Ok tt
 
--- so did each handler
+-- each handler did
 pub record WereCaught (rules : Rules) (claims : List Claim) (handlers : List Handler) (seen : Seen) : Type 0 where
   pub each : (n : ℕ) (h : Handler) → slice_get handlers n ≡ Some h → WasCaught rules claims seen h
 
--- what was seen has the method's number of locals, if the method has handlers
+-- the seen locals are as many as the method's, if the method has handlers
 abbrev pub FitsSeen : Method → Seen → Type 0
 FitsSeen m seen = m.handlers ≢ [] → length seen.locals ≡ length m.arguments + m.max_locals
 
@@ -42,7 +42,7 @@ pub record HasSeenNothing (m : Method) (seen : Seen) : Type 0 where
   pub fits : FitsSeen m seen
   pub none : seen.pc ≡ None
 
--- what the pass keeps of what was seen
+-- the invariant of the pass for the seen locals
 pub record HasSeen (rules : Rules) (input : PassInput) (seen : Seen) : Type 0 where
   pub fits : FitsSeen input.method.now seen
   pub caught : ForListing rules input (λ listing.

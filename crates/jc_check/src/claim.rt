@@ -1,4 +1,4 @@
-//! What a certificate claims of a place, with the classes that its names stand for.
+//! The claim of a certificate for a place, with its classes resolved.
 
 ghost use Rattle.std.specs.Prelude.{◌≡◌, option_map, length, vec_capacity, IfOk, IfSome};
 ghost use Rattle.jc_cert.specs.Cert.{stated};
@@ -41,7 +41,7 @@ fn type_found<R: CheckRules>(rules: &R, ty: StatedType) -> Option<Ty>
     }
 }
 
-/// The types that are stated, if the classes of all of them are found.
+/// The types that are stated, if all their classes resolve.
 pub(crate) fn types_found<R: CheckRules>(
     alloc: Global,
     rules: &R,

@@ -1,4 +1,4 @@
-//! The classes that names in a package's certificate stand for, and the names of classes.
+//! The classes that a certificate of a package names, and the names of classes.
 
 ghost use Rattle.std.specs.Prelude.{◌≡◌, ◌≤◌, false, None, Some, IfSome};
 ghost use Rattle.jc_classes.specs.Subtype.{is_class_at};
@@ -11,7 +11,7 @@ use jc_cert::SpelledClass;
 use jc_classes::ClassTable;
 use jc_names::{ClassName, PackagePlace};
 
-/// A class, and no interface.
+/// The class with a name, if it isn't an interface.
 fn if_class(table: &ClassTable, class: ClassName) -> Option<ClassName>
     ensures { result ≡ if_class table.now class }
 {
@@ -19,7 +19,7 @@ fn if_class(table: &ClassTable, class: ClassName) -> Option<ClassName>
     if found.is_class() { Some(class) } else { None }
 }
 
-/// The class whose record stands at an offset of the package that stands there.
+/// The class whose record stands at an offset of the package at place `home`.
 fn class_with_record(table: &ClassTable, home: PackagePlace, offset: u16) -> Option<ClassName>
     ensures { result ≡ class_with_record table.now home offset }
 {
@@ -27,7 +27,7 @@ fn class_with_record(table: &ClassTable, home: PackagePlace, offset: u16) -> Opt
     if_class(table, class)
 }
 
-/// The class that a name in the certificate of a world's last package stands for.
+/// The class that a name in a certificate of a world's last package stands for.
 #[tactic(auto, unfolding(crate::specs::Package::class_of_name))]
 pub fn class_of_name(table: &ClassTable, name: SpelledClass) -> Option<ClassName>
     ensures { result ≡ class_of_name table.now name }
@@ -43,7 +43,7 @@ pub fn class_of_name(table: &ClassTable, name: SpelledClass) -> Option<ClassName
     }
 }
 
-/// How a certificate of a world's last package may name a class, if the class's package is there.
+/// The name that a certificate of a world's last package has for a class, if the class's package is there.
 fn spelled_name(table: &ClassTable, class: ClassName) -> Option<SpelledClass>
     ensures { result ≡ spelled_name table.now class }
 {
@@ -63,7 +63,7 @@ fn spelled_name(table: &ClassTable, class: ClassName) -> Option<SpelledClass>
     }
 }
 
-/// The name by which a certificate of a world's last package names a class; an interface has none.
+/// The name that a certificate of a world's last package has for a class; an interface has none.
 #[tactic(auto, using(crate::proofs::Names::unnamed, crate::proofs::Names::not_found, crate::proofs::Names::another))]
 pub fn name_of_class(table: &ClassTable, class: ClassName) -> Option<SpelledClass>
     requires { IsBuilt table.now }

@@ -1,4 +1,4 @@
-//! Why code isn't carried.
+//! Faults of code that isn't accepted.
 
 ghost use Rattle.std.specs.Prelude.{◌≡◌};
 ghost use Rattle.jc_check.specs.FirstFault.{reason_of};
@@ -9,14 +9,14 @@ use jc_code::CodeFault;
 use std::alloc::{AllocError, AllocFailed};
 use thiserror::Error;
 
-/// A fault of a method: a reason, and the pc of the instruction that it is told of.
+/// A fault of a method: a reason, and the pc for which it is reported.
 #[derive(Clone, Copy, Debug, PartialEq, Eq)]
 pub struct Fault {
     pub pc: u16,
     pub reason: Reason,
 }
 
-/// The reason that is told of a fault in decoding.
+/// The reason that is reported for a fault in decoding.
 pub fn reason_for(fault: CodeFault) -> Reason
     ensures { result ≡ reason_of fault }
 {
@@ -37,7 +37,7 @@ pub(crate) struct MethodFault {
 /// Why code isn't accepted with a certificate.
 #[derive(Clone, Copy, Debug, PartialEq, Eq, Drop, Error)]
 pub enum WordFault {
-    /// The first fault, at the pc of the instruction that it is told of.
+    /// The first fault, with the pc for which it is reported.
     #[error("refused")]
     Refused { pc: u16, reason: Reason },
     /// No memory was left.

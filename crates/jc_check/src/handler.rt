@@ -1,4 +1,4 @@
-//! Handlers as the check sees them.
+//! Exception handlers for the check.
 
 ghost use Rattle.std.specs.Prelude.{◌≡◌};
 ghost use Rattle.jc_check.specs.Method.{covers};
@@ -6,8 +6,8 @@ ghost use Rattle.jc_check.specs.Method.{covers};
 use jc_names::ClassName;
 use std::marker::Model;
 
-/// A handler: the first pc that it covers and how many it covers, the pc at which it goes on, and the class that it
-/// catches, if its entry of the constant pool names one that may be thrown.
+/// An exception handler: the first pc that it covers and the number of pcs, the pc at which it goes on, and the class
+/// that it catches, if its entry of the constant pool names one that may be thrown.
 #[derive(Drop)]
 pub struct Handler {
     pub start: u16,

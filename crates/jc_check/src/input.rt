@@ -1,10 +1,10 @@
-//! What the pass goes by.
+//! The input of the pass.
 
 use crate::claim::Claim;
 use crate::mark::ByteMark;
 use crate::method::Method;
 
-/// What the pass goes by, beside the rules: the method, the table of its marks, and what the certificate claims.
+/// The input of the pass, besides the rules: the method, the table of its marks, and the certificate's claims.
 #[derive(Drop)]
 pub(crate) struct PassInput<'c, 'a> {
     pub(crate) method: &'c Method<'a>,

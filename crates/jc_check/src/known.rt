@@ -1,4 +1,4 @@
-//! What the types of a linked package's methods name, and how many there are.
+//! The classes in the types of a linked package's methods, and the numbers of locals and operands.
 
 ghost use Rattle.std.specs.Prelude.{◌≡◌, ◌+◌, ◌-◌, ◌<◌, ◌^◌, ℕ, true, Some, Ok, Contains, length, slice_get};
 ghost use Rattle.std.specs.Option.{option_map_or};
@@ -32,32 +32,33 @@ fn nargs_of(declared: &DeclaredMethod) -> u8
     }
 }
 
-/// A method's header counts with bytes. It does nothing but look at it.
+/// The numbers of a method's header are bytes. It does nothing except look at the header.
 fn header_is_small(declared: &DeclaredMethod)
     ensures { IsSmallHeader declared.now }
 {
-    // Only their contracts count: each number is a byte.
+    // Only their contracts are needed: each number is a byte.
     let _arguments = nargs_of(declared);
     let _locals = max_locals_of(declared);
     let _operands = max_stack_of(declared);
 }
 
-/// What holds of the world of a linked package: types name classes of it, and methods have the headers that they have
-/// to. It does nothing.
+/// Laws of the world of a linked package: its types name its classes, and its methods have the headers that they need.
+/// It does nothing.
 fn world_laws(linked: &Linked)
     ensures names { NameClasses linked.now.world }
     ensures methods { HaveMethods linked.now.world }
     ensures headed { AreHeaded linked.now.world (length linked.now.world - 1) }
     ensures resolved { IsResolved linked.now.world (length linked.now.world - 1) linked.now.body }
 {
-    // Only their contracts count: what always holds of a table and of a linked package.
+    // Only their contracts are needed: the invariants of a table and of a linked package.
     let _count = linked.table().len();
     let _body = linked.body();
     built_worlds_are_sound();
     built_worlds_name_classes();
 }
 
-/// The frame of a method with code is small: the method's header counts with bytes. It does nothing but look at it.
+/// The frame of a method with code is small, since the numbers of its header are bytes. It does nothing except look at
+/// the header.
 #[tactic(auto, using(crate::proofs::Knowing::few_locals, crate::proofs::Knowing::no_locals, crate::proofs::Knowing::few_operands, crate::proofs::Knowing::no_operands))]
 fn frame_is_small(linked: &Linked, body: &MethodCode)
     ensures { IsSmallFrame linked.now body.now }
@@ -69,7 +70,8 @@ fn frame_is_small(linked: &Linked, body: &MethodCode)
     }
 }
 
-/// The frames of the methods before one are small, and this one's is. It does nothing but look at it.
+/// If the frames of the methods before one are small, they are with this one added. It does nothing except look at the
+/// header.
 #[tactic(auto, using(crate::proofs::Knowing::small_step))]
 fn one_frame_more(linked: &Linked, body: &MethodCode)
     ensures { (n : ℕ) → slice_get linked.now.body.kept.methods n ≡ Some body.now → AreSmallFrames linked.now n
@@ -78,8 +80,8 @@ fn one_frame_more(linked: &Linked, body: &MethodCode)
     frame_is_small(linked, body);
 }
 
-/// The frames of all methods with code are small. It does nothing but look at their headers: that these count with
-/// bytes is what their types say, and no list of methods says it of each.
+/// The frames of all methods with code are small. It does nothing except look at their headers. The type of a header
+/// says that its numbers are bytes, but no list of methods says so for each.
 #[tactic(auto, using(crate::proofs::Knowing::none_small))]
 fn frames_are_small(linked: &Linked)
     ensures { AreSmallFrames linked.now (length linked.now.body.kept.methods) }
@@ -90,8 +92,9 @@ fn frames_are_small(linked: &Linked)
     }
 }
 
-/// The types that a linked package's methods begin with, catch and come to name classes of its world, and their counts
-/// are small. It does nothing but look at the methods' headers.
+/// The types at the entries of a linked package's methods, the classes that they catch, and the types after their
+/// instructions name classes of its world, and their numbers of locals and operands are small. It does nothing except
+/// look at the methods' headers.
 pub fn types_name_classes(linked: &Linked)
     ensures entry { (n : ℕ) (b : MethodBody) → slice_get linked.now.body.kept.methods n ≡ Some b
         → AreKnown (is_class_at linked.now.world) (entry_of (method_of linked.now b)) }

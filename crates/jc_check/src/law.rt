@@ -9,8 +9,8 @@ ghost use Rattle.jc_check.specs.Carried.{Carries};
 ghost use Rattle.jc_check.specs.FirstFault.{IsFirstFault};
 ghost use Rattle.jc_check.specs.declared.fault.Fault.{Fault};
 
-/// A method with the states of a certificate either is carried or has a first fault, never both, and it has one first
-/// fault. So it is by all rules whose listings have their laws. It does nothing.
+/// With the states of a certificate, either a method is carried or it has a first fault, never both, and the first
+/// fault is unique. This holds for all rules whose decoder has the laws of listings. It does nothing.
 pub fn first_fault_laws()
     ensures either { (rules : Rules) → ListingLaws rules.decoder → (m : Method) (states : List Stated)
         → Carries rules m states ⊎ ((fault : Fault) × IsFirstFault rules m states fault) }

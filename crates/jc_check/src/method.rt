@@ -1,4 +1,4 @@
-//! A method as the check sees it.
+//! A method for the check.
 
 ghost use Rattle.std.specs.Prelude.{◌≡◌};
 ghost use Rattle.jc_check.specs.Method.{word_method};
@@ -8,14 +8,14 @@ use jc_types::Ty;
 use std::alloc::Global;
 use std::marker::Model;
 
-/// How many locals code alone has.
+/// The number of locals of code alone.
 pub const WORD_LOCALS: usize = 2;
 
-/// How many operands code alone may have.
+/// The greatest number of operands of code alone.
 pub const WORD_MAX_STACK: usize = 8;
 
-/// A method: its code, the types of its arguments, how many locals it has beside them, how many operands it may have,
-/// the type of its result, if it isn't void, and its handlers.
+/// A method: its code, the types of its arguments, the number of its other locals, the greatest number of its operands,
+/// the type of its result, if it isn't void, and its exception handlers.
 #[derive(Drop)]
 pub struct Method<'a> {
     pub code: &'a [u8],

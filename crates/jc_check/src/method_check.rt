@@ -24,7 +24,7 @@ use jc_cert::StateRow;
 use jc_types::State;
 use std::alloc::Global;
 
-// What goes on from the entry, and the pass from there.
+// Enters the code with the entry state, and runs the pass.
 fn check_flow<R: CheckRules>(
     rules: &R,
     input: &PassInput,
@@ -46,7 +46,7 @@ fn check_flow<R: CheckRules>(
     }
 }
 
-// A method with some code whose marks are blank, and the state at its entry.
+// Checks a method with code, from blank marks and the state at its entry.
 fn check_code<R: CheckRules>(
     alloc: Global,
     rules: &R,
@@ -80,8 +80,8 @@ fn check_code<R: CheckRules>(
     Ok(())
 }
 
-/// Checks a method with the certificate's states for it. All that is allocated for the check is allocated here, and
-/// where the certificate's states are looked at.
+/// Checks a method with the certificate's states for it. All memory of the check is allocated here, and where the
+/// certificate's states are resolved.
 pub(crate) fn check_method<R: CheckRules>(
     alloc: Global,
     rules: &R,

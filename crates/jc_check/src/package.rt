@@ -51,7 +51,7 @@ impl Checked {
         &self.linked
     }
 
-    /// The same, to be put into a world.
+    /// The package, to be added to a world.
     pub fn into_linked(self) -> Linked
         ensures linked { result ≡ self }
         ensures carried { IsPackageCarried self }
@@ -68,7 +68,7 @@ pub(crate) fn methods_of(linked: &Linked) -> &[MethodCode]
     &linked.body().kept().methods
 }
 
-/// What is told of a method that isn't carried by a certificate's rows.
+/// The fault of a method, if a certificate's rows don't carry it.
 fn uncarried(
     alloc: Global,
     linked: &Linked,
@@ -90,7 +90,7 @@ fn uncarried(
     }
 }
 
-/// Whether a method stands before the one of which a fault is told, if one is.
+/// Whether a method's offset is below that of the reported method, if there is one.
 fn stands_before(body: &MethodCode, told: Option<MethodFault>) -> bool
     ensures { result ≡ option_map_or (λ f. nat_lt body.now.offset f.method) told true }
 {
@@ -100,7 +100,7 @@ fn stands_before(body: &MethodCode, told: Option<MethodFault>) -> bool
     }
 }
 
-/// What is told of the method with the least offset that isn't carried, with one method more.
+/// The fault of the method with the least offset that isn't carried, with one method more.
 fn told_with(
     alloc: Global,
     linked: &Linked,
@@ -122,7 +122,7 @@ fn told_with(
     }
 }
 
-/// What is told of the method with the least offset that isn't carried, if there is one.
+/// The fault of the method with the least offset that isn't carried, if there is one.
 fn first_uncarried(
     alloc: Global,
     linked: &Linked,
@@ -163,7 +163,7 @@ fn package_refusal(alloc: Global, linked: &Linked, cert: &Cert) -> Result<(), Lo
     }
 }
 
-/// The same, with what becomes of a certificate that carries the package.
+/// The same, and also that a certificate that carries the package is accepted.
 #[tactic(auto, using(crate::proofs::Least::memory_alone))]
 fn first_refusal(alloc: Global, linked: &Linked, cert: &Cert) -> Result<(), LoadFault>
     ensures cert { IsCert cert.now }
@@ -177,8 +177,8 @@ fn first_refusal(alloc: Global, linked: &Linked, cert: &Cert) -> Result<(), Load
     package_refusal(alloc, linked, cert)
 }
 
-/// A package of a world that was built is well typed where a certificate carries it: each of its methods with code is.
-/// It does nothing.
+/// A package of a built world is well typed if a certificate carries it: each of its methods with code is. It does
+/// nothing.
 pub fn carried_packages_are_typed()
     ensures { (l : LinkedPackage) → IsBuilt l.world → IsSmall l.world → (of : List Row) → CarriesPackage l of
         → IsPackageTyped l }
@@ -189,18 +189,18 @@ pub fn carried_packages_are_typed()
     effects_keep_shapes();
 }
 
-/// So is a linked package that is carried. It does nothing.
+/// The same for a linked package. It does nothing.
 fn carried_is_typed(linked: &Linked)
     ensures { (of : List Row) → CarriesPackage linked.now of → IsPackageTyped linked.now }
 {
-    // Only its contract counts: what always holds of a table.
+    // Only its contract is needed: the invariant of a table.
     let _count = linked.table().len();
     carried_packages_are_typed();
 }
 
-/// Checks that a certificate carries a linked package. The first refusal is told: of rows of the certificate for
-/// offsets at which no method with code stands the first, at pc 0; else of the methods that aren't carried the one with
-/// the least offset, with its first fault, in the order of the tests. Want of memory may be told in place of an answer.
+/// Checks that a certificate carries a linked package. It reports the first refusal: if the certificate has rows for
+/// offsets without a method with code, the first such row, at pc 0; otherwise the method with the least offset that
+/// isn't carried, with its first fault, in the order of the tests. Out of memory may be reported instead of any result.
 pub fn check(alloc: Global, linked: Linked, cert: &Cert) -> Result<Checked, LoadFault>
     ensures accepted { IfOk result (λ checked. (checked ≡ linked) × CarriesPackage linked cert.now) }
     ensures typed { IfOk result IsPackageTyped }

@@ -1,4 +1,4 @@
-//! The methods of a linked package as the check sees them.
+//! The methods of a linked package for the check.
 
 ghost use Rattle.std.specs.Prelude.{◌≡◌, ◌-◌, ◌++◌, map, IfOk, [], OnOk, IfErr, ◌<◌, ◌^◌, length, vec_capacity};
 ghost use Rattle.std.specs.Option.{option_and_then, option_map_or};
@@ -29,10 +29,10 @@ use std::alloc::{AllocError, Global};
 
 const THROWABLE: ClassName = ClassName::Api(ApiClass::Throwable);
 
-/// The index of the constant pool that stands for all that may be thrown.
+/// The index of the constant pool that catches everything that may be thrown.
 const CATCHES_ALL: u16 = 0;
 
-/// The class that an entry of the constant pool names, where its objects may be thrown.
+/// The class that an entry of the constant pool names, if its objects may be thrown.
 fn thrown_class(table: &ClassTable, target: &PoolTarget) -> Option<ClassName>
     ensures { result ≡ thrown_class table.now target.now }
 {
@@ -97,7 +97,7 @@ fn handlers_of(
     Ok(handlers)
 }
 
-/// Puts the types of a method's parameters behind others.
+/// Appends the types of a method's parameters.
 fn put_parameters(
     arguments: &mut Vec<Ty>,
     parameters: &[DeclaredType<ClassName>],
@@ -128,7 +128,7 @@ fn arguments_of(
     Ok(arguments)
 }
 
-/// How many locals a method has beside its arguments.
+/// The number of a method's locals besides its arguments.
 pub(crate) fn max_locals_of(declared: &DeclaredMethod) -> u8
     ensures { result ≡ max_locals_of declared.now }
 {
@@ -138,7 +138,7 @@ pub(crate) fn max_locals_of(declared: &DeclaredMethod) -> u8
     }
 }
 
-/// How many operands a method may have.
+/// The greatest number of a method's operands.
 pub(crate) fn max_stack_of(declared: &DeclaredMethod) -> u8
     ensures { result ≡ option_map_or (λ h. h.max_stack) declared.now.method.header 0 }
 {
@@ -148,7 +148,7 @@ pub(crate) fn max_stack_of(declared: &DeclaredMethod) -> u8
     }
 }
 
-/// What a method's row and header say of its frames.
+/// The types and limits of a method's frames, from its row and header.
 #[derive(Drop)]
 struct FrameTypes {
     arguments: Vec<Ty>,
@@ -157,7 +157,7 @@ struct FrameTypes {
     returned: Option<Ty>,
 }
 
-/// That of the method at an offset of a linked package.
+/// The same for the method at an offset of a linked package.
 fn frame_types_of(alloc: Global, linked: &Linked, offset: u16) -> Result<FrameTypes, AllocError>
     ensures arguments { IfOk result (λ types. types.arguments.items
         ≡ option_map_or (arguments_of linked.now.world) (own_method linked.now offset) []) }
@@ -184,7 +184,7 @@ fn frame_types_of(alloc: Global, linked: &Linked, offset: u16) -> Result<FrameTy
     })
 }
 
-/// A method with code of a linked package as it is checked.
+/// A method with code of a linked package, for the check.
 pub fn method_of<'m>(
     alloc: Global,
     linked: &Linked,

@@ -1,4 +1,4 @@
-//! What the code of a linked package is checked by.
+//! The rules of a linked package's code.
 
 ghost use Rattle.jc_check.specs.Package.{package_rules};
 
@@ -13,7 +13,7 @@ use jc_link::Linked;
 use jc_names::ClassName;
 use jc_types::{State, Ty};
 
-/// The rules of a linked package: all instructions, read against its constant pool, and the classes of its world.
+/// The rules of a linked package: all instructions, with its constant pool, and the classes of its world.
 #[derive(Drop)]
 pub(crate) struct PackageRules<'l> {
     pub(crate) linked: &'l Linked,

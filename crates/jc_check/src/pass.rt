@@ -44,7 +44,7 @@ fn is_caught<R: CheckRules>(rules: &R, state: &State, class: ClassName, claim: &
     )
 }
 
-/// A class that is caught where a handler goes on.
+/// Whether a caught class fits the claim at the pc where a handler goes on.
 fn catch_at<R: CheckRules>(
     rules: &R,
     input: &PassInput,
@@ -68,7 +68,7 @@ fn catch_at<R: CheckRules>(
     }
 }
 
-/// A class that was caught where a handler goes on, with locals that differ within a range alone.
+/// The same for a handler that caught before, with locals that differ only within a range.
 fn catch_changed<R: CheckRules>(
     rules: &R,
     input: &PassInput,
@@ -97,8 +97,8 @@ fn catch_changed<R: CheckRules>(
     }
 }
 
-/// A handler at an instruction: where it covers it, the state before it is caught. A handler that caught the locals
-/// that were seen last looks at no more than those that changed.
+/// A handler at an instruction: if it covers the instruction, it catches in the state before it. A handler that caught
+/// with the locals seen last tests only the locals that changed.
 #[tactic(auto, unfolding(crate::specs::FirstFault::handles))]
 fn handle<R: CheckRules>(
     rules: &R,
@@ -127,7 +127,7 @@ fn handle<R: CheckRules>(
     }
 }
 
-/// Each handler in turn.
+/// Each handler in order.
 fn handle_each<R: CheckRules>(
     rules: &R,
     input: &PassInput,
@@ -200,7 +200,7 @@ fn arrive_at<R: CheckRules>(
     }
 }
 
-/// The branch of an index from a state to its place.
+/// The branch with an index from a state to its target.
 #[tactic(auto, unfolding(crate::specs::FirstFault::arrives))]
 fn arrive<R: CheckRules>(
     rules: &R,
@@ -223,7 +223,7 @@ fn arrive<R: CheckRules>(
     }
 }
 
-/// Each branch of an instruction in turn.
+/// Each branch of an instruction in order.
 fn arrive_all<R: CheckRules>(
     rules: &R,
     input: &PassInput,
@@ -243,7 +243,7 @@ fn arrive_all<R: CheckRules>(
     Ok(())
 }
 
-/// What goes on to a pc: the state as it is (true), or nothing, where the certificate has a state above it.
+/// The state that goes on to a pc: the current one (true), or none, if the certificate has a state above it.
 #[tactic(auto, unfolding(crate::specs::FirstFault::falls_to))]
 pub(crate) fn fall_to<R: CheckRules>(
     rules: &R,
@@ -271,7 +271,7 @@ pub(crate) fn fall_to<R: CheckRules>(
     }
 }
 
-/// An instruction on the state before it: whether the state goes on to the instruction behind it.
+/// Checks an instruction with the state before it, and returns whether the state goes on to the next instruction.
 #[tactic(auto, unfolding(crate::specs::FirstFault::visit_live))]
 fn visit_live_at<R: CheckRules>(
     rules: &R,
@@ -306,8 +306,8 @@ fn visit_live_at<R: CheckRules>(
     }
 }
 
-/// An instruction on what flows into it: the certificate's state, if it has one, else the state that flows in
-/// (where it is live); with neither it is skipped.
+/// Checks an instruction with what flows into it: the certificate's state, if it has one, otherwise the state that
+/// flows in, if `live` holds. With neither the instruction is skipped.
 #[tactic(auto, unfolding(crate::specs::FirstFault::visit))]
 fn visit_at<R: CheckRules>(
     rules: &R,
@@ -344,8 +344,8 @@ fn visit_at<R: CheckRules>(
     }
 }
 
-/// The instructions by ascending pc, the first with the state that flows into it (where it is live). The state isn't to
-/// be used behind it.
+/// Checks the instructions by ascending pc; a state flows into the first if `live` holds. After it the state mustn't be
+/// used.
 pub(crate) fn walk_code<R: CheckRules>(
     rules: &R,
     input: &PassInput,

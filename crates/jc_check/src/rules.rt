@@ -1,4 +1,4 @@
-//! What code is checked by.
+//! The rules by which code is checked.
 
 ghost use Rattle.std.specs.Option.{option_copied};
 ghost use Rattle.std.specs.Prelude.{◌≡◌, ◌≤◌, length};
@@ -14,10 +14,10 @@ use jc_effects::transfer_word;
 use jc_names::ClassName;
 use jc_types::{ClassOrder, NoClasses, State, Ty};
 
-/// What code is checked by: how it decodes, what its instructions do to types, how its classes are ordered, and which
-/// classes the names in a certificate stand for.
+/// The rules by which code is checked: how it decodes, the effects of its instructions on types, the order of its
+/// classes, and the classes that the names in a certificate stand for.
 pub(crate) trait CheckRules {
-    /// What orders the classes.
+    /// The order of the classes.
     type Order: ClassOrder;
 
     ghost rules: { Self → Rules };
@@ -26,12 +26,12 @@ pub(crate) trait CheckRules {
     fn decode<'a>(&self, code: &'a [u8], pc: usize) -> Result<Instr<'a>, CodeFault>
         ensures { result ≡ (rules self.now).decoder code.now pc };
 
-    /// Where the instruction behind the one at a pc begins.
+    /// The pc of the next instruction.
     fn next_pc(&self, code: &[u8], pc: usize) -> Result<usize, CodeFault>
         ensures { result ≡ next_pc_of ((rules self.now).decoder code.now pc) };
 
-    /// Puts the types after an operation in place of those before it, in a method of at most `max_stack` operands that
-    /// returns a value of the type `returned`, or none. The state isn't to be used after a reason.
+    /// Applies an operation to a state, in a method of at most `max_stack` operands that returns a value of the type
+    /// `returned`, or none. After a reason the state mustn't be used.
     fn transfer(
         &self,
         operation: &Operation,
@@ -58,7 +58,7 @@ pub(crate) trait CheckRules {
         ensures { ListingLaws (rules self.now).decoder };
 }
 
-/// Code alone: it has the instructions on words, and names no class.
+/// The rules of code alone: it has only the instructions on words, and names no class.
 #[derive(Clone, Copy)]
 pub(crate) struct WordRules {
     classes: NoClasses,

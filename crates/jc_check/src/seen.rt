@@ -1,4 +1,4 @@
-//! What the handlers of a method saw last.
+//! The locals that the exception handlers of a method saw last.
 
 ghost use Rattle.std.specs.Prelude.{◌≡◌, ◌≢◌, [], length, Some, None, IfOk};
 ghost use Rattle.jc_types.specs.PrivateRanges.{AgreeOutside};
@@ -9,7 +9,7 @@ use jc_types::{LocalRange, Ty, differing};
 use std::alloc::{AllocError, Global};
 use std::marker::Model;
 
-/// The locals before the instruction at which the handlers were looked at last, and its pc, if there was one.
+/// The locals before the instruction at which the handlers were tested last, and its pc, if there was one.
 #[derive(Drop)]
 pub(crate) struct SeenLocals {
     locals: Vec<Ty>,
@@ -25,7 +25,7 @@ impl Model for SeenLocals {
 }
 
 impl SeenLocals {
-    /// Nothing, with room for as many locals as these. Without handlers it takes no memory.
+    /// No locals, with room for as many as these. Without handlers it takes no memory.
     pub(crate) fn none(
         alloc: Global,
         locals: &[Ty],
@@ -42,7 +42,7 @@ impl SeenLocals {
         Ok(SeenLocals { locals, pc: None })
     }
 
-    /// Whether a handler covers the instruction.
+    /// Whether a handler covers that instruction.
     pub(crate) fn is_covered_by(&self, handler: &Handler) -> bool
         ensures { result ≡ covers_seen handler.now self.now }
     {
@@ -52,7 +52,7 @@ impl SeenLocals {
         }
     }
 
-    /// The least range outside of which these locals are those that were seen.
+    /// A range outside of which these locals equal those that were seen.
     pub(crate) fn changed(&self, locals: &[Ty]) -> LocalRange
         requires { length self.now.locals ≡ length locals.now }
         ensures { AgreeOutside result self.now.locals locals.now }
@@ -60,7 +60,7 @@ impl SeenLocals {
         differing(&self.locals, locals)
     }
 
-    /// Takes over the locals before the instruction at a pc.
+    /// Records the locals before the instruction at a pc.
     pub(crate) fn note(&mut self, pc: u16, locals: &[Ty])
         requires { length self.old.locals ≡ length locals.now }
         ensures { self.new ≡ record { locals = locals.now; pc = Some pc } }

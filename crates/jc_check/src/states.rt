@@ -1,4 +1,4 @@
-//! The rows of a certificate, by the methods that they are for.
+//! The rows of a certificate, by their methods.
 
 ghost use Rattle.std.specs.Prelude.{◌≡◌, ◌<◌, ◌^◌, ◌==◌, ℕ, not, length, map, slice_get, IfSome};
 ghost use Rattle.std.specs.List.{find};
@@ -11,7 +11,7 @@ use jc_base::NumberSet;
 use jc_cert::{MethodRow, StateRow};
 use jc_link::MethodCode;
 
-/// The row at a place.
+/// The row at an index.
 fn row_at(of: &[MethodRow], place: usize) -> Option<&MethodRow>
     ensures { option_map (λ m. m.now) result ≡ slice_get of.now place }
 {
@@ -33,7 +33,7 @@ fn row_for(of: &[MethodRow], offset: u16) -> Option<&MethodRow>
     }
 }
 
-/// The states of the row for the method at an offset, if there is one; else none.
+/// The states of the row for the method at an offset; none if there is no row.
 pub(crate) fn states_for(of: &[MethodRow], offset: u16) -> &[StateRow]
     requires { IsCert (rows of.now) }
     ensures states { map stated result.now ≡ stated_for (rows of.now) offset }
@@ -45,7 +45,7 @@ pub(crate) fn states_for(of: &[MethodRow], offset: u16) -> &[StateRow]
     }
 }
 
-/// The offsets at which methods with code stand.
+/// The offsets of the methods with code.
 fn code_offsets(methods: &[MethodCode]) -> NumberSet
     ensures { (offset : ℕ) → has_number result offset ≡ has_code_at methods.now offset }
 {
@@ -63,7 +63,7 @@ fn row_outside<'c>(of: &'c [MethodRow], offsets: &NumberSet) -> Option<&'c Metho
     of.iter().find(|row| !offsets.contains(row.offset))
 }
 
-/// The offset of the first row for one at which no method with code stands.
+/// The offset of the first row for an offset without a method with code.
 pub(crate) fn stray_offset(of: &[MethodRow], methods: &[MethodCode]) -> Option<u16>
     ensures { result ≡ stray_offset methods.now (rows of.now) }
 {

@@ -26,7 +26,7 @@ use jc_base::Reason;
 use jc_cert::StateRow;
 use std::alloc::{AllocError, Global};
 
-/// A table without marks for so many bytes.
+/// A table without marks for `count` bytes.
 pub(crate) fn no_marks(alloc: Global, count: usize) -> Result<Vec<ByteMark>, AllocError>
     ensures marks { IfOk result (λ marks. marks.items ≡ replicate count Inside) }
     ensures room { IfOk result (λ marks. vec_capacity marks ≡ count) }
@@ -38,7 +38,7 @@ pub(crate) fn no_marks(alloc: Global, count: usize) -> Result<Vec<ByteMark>, All
     Ok(marks)
 }
 
-/// Goes from instruction to instruction, and marks where they begin. After a fault the marks aren't to be used.
+/// Steps from instruction to instruction, and marks where they begin. After a fault the marks mustn't be used.
 pub(crate) fn mark_starts<R: CheckRules>(
     rules: &R,
     method: &Method,
@@ -71,7 +71,7 @@ pub(crate) fn mark_starts<R: CheckRules>(
     Ok(())
 }
 
-/// The mark at a pc; past the code nothing begins.
+/// The mark at a pc; `Inside` past the code.
 #[inline(always)]
 pub(crate) fn mark_at(marks: &[ByteMark], pc: usize) -> ByteMark
     ensures { result ≡ slice_index_or marks.now pc Inside }
@@ -106,7 +106,7 @@ fn stand_handler(marks: &[ByteMark], handler: &Handler) -> Result<(), Reason>
     }
 }
 
-/// The handlers in order: each goes on where an instruction begins, and catches a class.
+/// Tests the handlers in order: each goes on where an instruction begins, and catches a class.
 pub(crate) fn stand_handlers(marks: &[ByteMark], handlers: &[Handler]) -> Result<(), Fault>
     ensures { ForTable marks.now (λ listing. result ≡ handlers_stand listing handlers.now) }
 {
@@ -129,7 +129,7 @@ fn fits(method: &Method, row: &StateRow) -> bool
         && row.operands.len() <= usize::from(method.max_stack)
 }
 
-/// The state of a row with its classes, if they are found.
+/// The state of a row with its classes, if they resolve.
 #[tactic(auto, unfolding(crate::specs::Claim::claim_of))]
 fn claim_found<R: CheckRules>(
     alloc: Global,
@@ -151,7 +151,7 @@ fn claim_found<R: CheckRules>(
     }))
 }
 
-/// A row's state: it stands where an instruction begins, in the method's shape, and its classes are found.
+/// Tests a row's state: an instruction begins at its pc, it has the method's shape, and its classes resolve.
 fn stand_state<R: CheckRules>(
     alloc: Global,
     rules: &R,
@@ -187,7 +187,7 @@ fn mismatch(pc: u16) -> WordFault
     }
 }
 
-/// Marks the place of the claim of a number, unless one is there already.
+/// Marks the place of the claim with a number, unless one is there already.
 fn hold(marks: &mut [ByteMark], pc: usize, number: u16)
     requires within { pc < length marks.old }
     ensures len { length marks.new ≡ length marks.old }
@@ -203,7 +203,7 @@ fn hold(marks: &mut [ByteMark], pc: usize, number: u16)
     }
 }
 
-/// The certificate's states with their classes, and marks where they are. After a fault the marks aren't to be used.
+/// The certificate's states with their classes; it marks where they stand. After a fault the marks mustn't be used.
 pub(crate) fn mark_states<R: CheckRules>(
     alloc: Global,
     rules: &R,

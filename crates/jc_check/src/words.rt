@@ -1,4 +1,4 @@
-//! Code alone, checked with its certificate.
+//! The check of code alone with its certificate.
 
 ghost use Rattle.std.specs.Prelude.{⊤, ◌≡◌, ◌<◌, ◌^◌, map, length, option_map, IfOk, IfErr, IfSome, MatchResult};
 ghost use Rattle.jc_cert.specs.Cert.{IsCert, stated};
@@ -66,10 +66,10 @@ fn states_for(cert: &Cert) -> Option<&[StateRow]>
     }
 }
 
-/// Checks that a certificate carries code, which is a static method without arguments, with a short result,
-/// `WORD_LOCALS` locals and at most `WORD_MAX_STACK` operands. The first fault is told, in the order of the tests: a
-/// row of the certificate for another method, empty code, decoding, the certificate's states, and the instructions by
-/// ascending pc.
+/// Checks that a certificate carries code, as a static method without arguments, with a short result, `WORD_LOCALS`
+/// locals and at most `WORD_MAX_STACK` operands. It reports the first fault, in the order of the tests: a row of the
+/// certificate for another method, empty code, decoding, the certificate's states, and the instructions by ascending
+/// pc.
 pub fn check_words<'a>(
     alloc: Global,
     code: &'a [u8],

@@ -1,4 +1,4 @@
--- Objects that examples access, by what the verdict hangs on.
+-- The facts of the objects in the examples.
 use Rattle.std.specs.Prelude.{ℕ, Bool, true, false, Option, None, Some}
 use Rattle.jc_names.specs.declared.owner.Owner.{Owner}
 use Rattle.jc_store.specs.declared.kind.ClearingEvent.{ClearingEvent}
@@ -36,7 +36,7 @@ array_in context mark clears selected = record {
   selected = selected;
 }
 
--- an object that is called by a shareable interface, or cast to one: its class implements Shareable, or it doesn't
+-- an object that is called by a shareable interface, or cast to one; its class implements Shareable or not
 abbrev pub service_in : ℕ → Mark → Bool → Facts
 service_in context mark shareable = record {
   owner = owner_in context;
@@ -49,7 +49,7 @@ service_in context mark shareable = record {
   selected = None;
 }
 
--- an object of context 1 in which a reference to an object with a mark is stored
+-- an object of context 1 to which a reference to an object with a mark is stored
 abbrev pub storing : Mark → Facts
 storing mark = record {
   owner = owner_in 1;

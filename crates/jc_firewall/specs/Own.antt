@@ -1,4 +1,4 @@
--- What a store says of an object, and the verdict on an access to it.
+-- The store's facts of an object, and the verdict on an access to it.
 use Rattle.std.specs.Prelude.{◌≡◌, ℕ, ◌&&◌, false}
 use Rattle.std.specs.Option.{option_map_or}
 use Rattle.jc_store.specs.Store.{IsOwn, Store}
@@ -7,8 +7,8 @@ use Rattle.jc_firewall.specs.declared.access.Access.{Access}
 use Rattle.jc_firewall.specs.declared.access.Verdict.TheVariants.{Allowed}
 use Rattle.jc_firewall.specs.declared.access.Facts.{Facts}
 
--- an applet's access to an object that is its context's own, by the facts of that object; and nothing is stored that
--- may not be
+-- an applet's access to an object that is its context's own, with the facts of that object; no reference is stored that
+-- may not be stored
 pub record IsOwnAccess (s : Store) (number active : ℕ) (access : Access) (f : Facts) : Type 0 where
   pub own : IsOwn s number active
   pub of_applet : active ≡ runtime_context → ⊥
@@ -16,7 +16,7 @@ pub record IsOwnAccess (s : Store) (number active : ℕ) (access : Access) (f : 
   pub clears : f.clears ≡ own.object.kind.clears
   pub storable : stores_reference access && option_map_or is_never_stored f.stored false ≡ false
 
--- it is allowed, whatever the access, the other facts, and the applet that is selected
+-- such an access is allowed, whatever its kind, the other facts, and the selected applet
 abbrev pub OwnIsAllowed : Type 0
 OwnIsAllowed = (s : Store) (number active : ℕ) (access : Access) (f : Facts) → IsOwnAccess s number active access f
     → verdict_of access active f ≡ Allowed

@@ -1,6 +1,5 @@
 -- The firewall (Java Card Runtime Environment Specification, Applet Isolation and Object Sharing: Class and Object
--- Access Behavior; and Transient Objects for arrays that are cleared on deselect). A table: the first row that fits
--- decides.
+-- Access Behavior; and Transient Objects for arrays that are cleared on deselect), as a table of the accesses.
 use Rattle.std.specs.Prelude.{ℕ, ◌==◌, Bool, true, false, not, ◌&&◌, ◌||◌, if◌then◌else◌, Option, None, Some}
 use Rattle.std.specs.Option.{option_map_or}
 use Rattle.jc_store.specs.declared.kind.ClearingEvent.{ClearingEvent}
@@ -44,7 +43,7 @@ is_global_array PermanentEntryPoint = false
 is_global_array TemporaryEntryPoint = false
 is_global_array GlobalArray = true
 
--- no reference to such an object may be stored
+-- a reference to an object with such a mark may not be stored
 abbrev pub is_never_stored : Mark → Bool
 is_never_stored Plain = false
 is_never_stored PermanentEntryPoint = false
@@ -90,7 +89,7 @@ pub data AccessRow : Type 0 where
   casts : AccessRow
   shared_casts : AccessRow
 
--- an array is cast as its components are used
+-- a cast of an array is in the row of its components
 abbrev pub row_of : Access → Facts → AccessRow
 row_of PutStaticReference f = static_fields
 row_of PutReferenceField f = fields
@@ -106,7 +105,7 @@ row_of Throw f = throws
 row_of CheckCast f = if f.is_array then components else if f.is_shared_interface then shared_casts else casts
 row_of InstanceOf f = if f.is_array then components else if f.is_shared_interface then shared_casts else casts
 
--- the first of these that holds decides, and else a rule denies
+-- the first condition that holds decides; otherwise a rule denies
 abbrev pub allowed_if : Bool → Verdict → Verdict
 allowed_if condition otherwise = if condition then Allowed else otherwise
 
@@ -131,7 +130,7 @@ verdict_in casts active f = allowed_if (is_own active f || is_entry_point f.mark
 verdict_in shared_casts active f =
     allowed_if (is_own active f || is_entry_point f.mark || f.is_shareable) (Denied SharedCasts)
 
--- all is allowed to the runtime, and what it calls it calls as the object's owner
+-- the runtime may access every object, and calls a method as the object's owner
 abbrev pub verdict_for_runtime : AccessRow → Facts → Verdict
 verdict_for_runtime static_fields f = Allowed
 verdict_for_runtime fields f = Allowed
@@ -143,14 +142,14 @@ verdict_for_runtime throws f = Allowed
 verdict_for_runtime casts f = Allowed
 verdict_for_runtime shared_casts f = Allowed
 
--- what may not be stored is denied before all else
+-- a reference that may not be stored is denied before everything else
 abbrev pub verdict_of : Access → ℕ → Facts → Verdict
 verdict_of access active f =
     if active == runtime_context then verdict_for_runtime (row_of access f) f
     else if stores_reference access && option_map_or is_never_stored f.stored false then Denied Storing
     else verdict_in (row_of access f) active f
 
--- what is told of an access by the verdict on it
+-- the denial of an access, from its verdict
 abbrev pub denial_by : Access → Facts → Verdict → Option Denial
 denial_by access f Allowed = None
 denial_by access f (AllowedSwitch owner) = None

@@ -3,10 +3,10 @@
 use jc_names::Owner;
 use jc_store::{ClearingEvent, Mark};
 
-/// What is done to an object.
+/// A kind of access to an object.
 #[derive(Clone, Copy, Debug, PartialEq, Eq)]
 pub enum Access {
-    /// putstatic of a reference. The object is the one that is stored.
+    /// putstatic of a reference; the object is the one to which the reference refers.
     PutStaticReference,
     /// putfield of a reference.
     PutReferenceField,
@@ -34,7 +34,7 @@ pub enum Access {
     InstanceOf,
 }
 
-/// What the verdict on an access hangs on, beside the active context.
+/// The facts of which the verdict on an access is computed, besides the active context.
 #[derive(Clone, Copy, Debug, PartialEq, Eq)]
 pub struct Facts {
     pub owner: Owner,
@@ -42,54 +42,57 @@ pub struct Facts {
     pub is_array: bool,
     /// The event that clears the object, if it is transient.
     pub clears: Option<ClearingEvent>,
-    /// The mark of the object to which a reference is stored, if one is.
+    /// The mark of the object to which a stored reference refers, if a reference is stored.
     pub stored: Option<Mark>,
     /// Whether the object's class implements Shareable.
     pub is_shareable: bool,
-    /// Whether what is called or cast to is an interface that is Shareable or extends it.
+    /// Whether the interface that is called or cast to is Shareable or extends it.
     pub is_shared_interface: bool,
-    /// The context of the applet that is selected, if one is.
+    /// The context of the selected applet, if one is selected.
     pub selected: Option<u8>,
 }
 
-/// Why an access is denied.
+/// The rule by which an access is denied.
 #[derive(Clone, Copy, Debug, PartialEq, Eq)]
 pub enum Rule {
-    /// Rule 1: no reference to a temporary entry point or a global array is stored.
+    /// Rule 1: a reference to a temporary entry point or a global array may not be stored.
     Storing,
-    /// Rule 2: components are those of an own or a global array.
+    /// Rule 2: the array has to be the context's own, or global.
     Components,
-    /// Rule 3: fields are those of an own object.
+    /// Rule 3: the object of a field has to be the context's own.
     Fields,
-    /// Rule 4: methods are those of an own object or of the runtime.
+    /// Rule 4: the object of a called method has to be the context's own or an entry point, or for invokevirtual a
+    /// global array.
     Calls,
-    /// Rule 5: methods of shareable interfaces are those of an own, the runtime's or a shareable object.
+    /// Rule 5: the object of a called method of a shareable interface has to be the context's own, an entry point or
+    /// shareable.
     SharedCalls,
-    /// Rule 6: an own object is thrown, or one of the runtime.
+    /// Rule 6: a thrown object has to be the context's own or an entry point.
     Throws,
-    /// Rule 7: an own object is cast, or one of the runtime.
+    /// Rule 7: an object that is cast has to be the context's own or an entry point.
     Casts,
-    /// Rule 8: an own object, one of the runtime or a shareable one is cast to a shareable interface.
+    /// Rule 8: an object that is cast to a shareable interface has to be the context's own, an entry point or
+    /// shareable.
     SharedCasts,
-    /// Rule 9: an array that is cleared on deselect is used while an applet of the active context is selected.
+    /// Rule 9: an array that is cleared on deselect may be used only while an applet of the active context is selected.
     Selection,
 }
 
-/// An access that is denied.
+/// A denied access.
 #[derive(Clone, Copy, Debug, PartialEq, Eq)]
 pub struct Denial {
     pub access: Access,
     /// The owner of the object.
     pub owner: Owner,
-    /// Why it is denied.
+    /// The rule by which it is denied.
     pub rule: Rule,
 }
 
-/// Whether an access is allowed.
+/// The verdict on an access.
 #[derive(Clone, Copy, Debug, PartialEq, Eq)]
 pub enum Verdict {
     Allowed,
-    /// It is allowed, and makes an owner active.
+    /// It is allowed, and switches to this owner.
     AllowedSwitch(Owner),
     Denied(Rule),
 }

@@ -37,7 +37,7 @@ fn is_global_array(mark: Mark) -> bool
     }
 }
 
-/// Whether a reference is stored to an object of which none may be.
+/// Whether a reference is stored that may not be stored.
 fn stores_unstorable(facts: &Facts) -> bool
     ensures { result ≡ option_map_or is_never_stored facts.now.stored false }
 {
@@ -147,7 +147,7 @@ fn on_cast(active: u8, facts: &Facts) -> Verdict
     }
 }
 
-/// What is decided where the active context isn't the runtime's, and nothing is stored that may not be.
+/// The verdict if the active context isn't the runtime's, and no reference is stored that may not be stored.
 #[inline]
 fn between_applets(access: Access, active: u8, facts: &Facts) -> Verdict
     ensures { result ≡ verdict_in (row_of access facts.now) active facts.now }
@@ -172,7 +172,7 @@ fn between_applets(access: Access, active: u8, facts: &Facts) -> Verdict
     }
 }
 
-/// What is decided where the runtime itself is active.
+/// The verdict if the runtime is active.
 #[inline]
 fn of_runtime(access: Access, facts: &Facts) -> Verdict
     ensures { result ≡ verdict_for_runtime (row_of access facts.now) facts.now }
@@ -212,8 +212,8 @@ fn stores_reference(access: Access) -> bool
     }
 }
 
-/// Whether an access is allowed to code that runs in the active context (Java Card Runtime Environment Specification,
-/// Class and Object Access Behavior).
+/// The verdict on an access of code in the active context (Java Card Runtime Environment Specification, Class and
+/// Object Access Behavior).
 #[inline]
 pub fn decide(access: Access, active: u8, facts: &Facts) -> Verdict
     ensures { result ≡ verdict_of access active facts.now }
@@ -227,7 +227,7 @@ pub fn decide(access: Access, active: u8, facts: &Facts) -> Verdict
     }
 }
 
-/// What is told of an access that is denied; nothing of one that is allowed.
+/// The denial of an access, or `None` if it is allowed.
 pub fn denial(access: Access, active: u8, facts: &Facts) -> Option<Denial>
     ensures { result ≡ denial_by access facts.now (verdict_of access active facts.now) }
 {

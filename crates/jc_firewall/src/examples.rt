@@ -1,5 +1,5 @@
-//! Examples of verdicts: what the prover computes of the table, in numbers. Context 1 is active where no other is named,
-//! context 0 is the runtime's.
+//! Examples of verdicts, which the prover computes from the table. Context 1 is active if no other is named; context 0
+//! is the runtime's.
 
 ghost use Rattle.std.specs.Prelude.{◌≡◌, false, true, None, Some};
 ghost use Rattle.jc_store.specs.declared.kind.ClearingEvent.TheVariants.{Deselect, Reset};
@@ -15,7 +15,7 @@ ghost use Rattle.jc_firewall.specs.declared.access.Access.TheVariants.{StoreRefe
 ghost use Rattle.jc_firewall.specs.declared.access.Rule.TheVariants as rules;
 ghost use Rattle.jc_firewall.specs.declared.access.Verdict.TheVariants.{Allowed, AllowedSwitch, Denied};
 
-/// Static fields, and what is stored. It does nothing.
+/// Static fields, and stored references. It does nothing.
 pub fn references_are_stored()
     ensures own { verdict_of PutStaticReference 1 (object_in 1 Plain) ≡ Allowed }
     ensures foreign { verdict_of PutStaticReference 1 (object_in 2 Plain) ≡ Allowed }
@@ -119,7 +119,7 @@ pub fn casts_are_of_own_objects_or_of_services()
     ensures global_array { verdict_of CheckCast 1 (array_in 0 GlobalArray None None) ≡ Allowed }
 {}
 
-/// The runtime, which is active. It does nothing.
+/// The runtime is active. It does nothing.
 pub fn all_is_allowed_to_the_runtime()
     ensures read { verdict_of GetField 0 (object_in 2 Plain) ≡ Allowed }
     ensures written { verdict_of StoreComponent 0 (array_in 2 Plain (Some Deselect) None) ≡ Allowed }

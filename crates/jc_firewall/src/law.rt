@@ -1,8 +1,9 @@
-//! What the store says of an object, and the firewall of an access to it.
+//! The law that joins the store and the firewall.
 
 ghost use Rattle.jc_firewall.specs.Own.{OwnIsAllowed};
 
-/// Each access to an object that is its context's own is allowed to an applet, where nothing is stored that may not be.
+/// An applet may access its context's own objects in every way, if no reference is stored that may not be stored. It
+/// does nothing.
 pub fn own_is_allowed()
     ensures { OwnIsAllowed }
 {}

@@ -1,4 +1,4 @@
-//! The firewall between the applets on a card: which access to an object is allowed.
+//! The firewall between the applets on a card: the verdict on each access to an object.
 #![tactic(auto)]
 
 mod access;

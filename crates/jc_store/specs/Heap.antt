@@ -1,5 +1,5 @@
 -- Objects and the heap (Java Card Virtual Machine Specification, Objects; Java Card Runtime Environment Specification,
--- Object ownership, Transient objects). What a component holds isn't said here: words in a store, tagged values in the
+-- Object ownership, Transient objects). The type of components is a parameter: words in a store, tagged values in the
 -- defensive machine.
 use Rattle.std.specs.Prelude.{ℕ, zero, suc, ◌+◌, ◌==◌, ◌&&◌, Bool, true, false, List, [], ◌∷◌, ◌++◌, map, length}
 use Rattle.std.specs.Prelude.{Option}
@@ -10,8 +10,8 @@ use Rattle.jc_store.specs.declared.kind.ClearingEvent.TheVariants.{Reset, Desele
 use Rattle.jc_store.specs.declared.kind.ObjectKind.{ObjectKind}
 use Rattle.jc_names.specs.declared.owner.Owner.{Owner}
 
--- what it is, whose it is, and its components: the fields of an instance, those of the topmost class first, or the
--- elements of an array
+-- the kind of an object, its owner, and its components: the fields of an instance, those of the topmost class first, or
+-- the elements of an array
 pub record Object (V : Type 0) : Type 0 where
   pub kind : ObjectKind
   pub owner : Owner
@@ -38,11 +38,11 @@ abbrev pub cells_in : {V : Type 0} → Heap V → ℕ
 cells_in [] = 0
 cells_in (object ∷ heap) = 1 + length object.cells + cells_in heap
 
--- an object with a value in one of its components
+-- an object with one component set
 abbrev pub with_cell : {V : Type 0} → Object V → ℕ → V → Object V
 with_cell object index value = record { kind = object.kind; owner = object.owner; cells = set object.cells index value }
 
--- the heap in which the object with a number is another one
+-- the heap with the object with a number replaced
 abbrev pub with_object : {V : Type 0} → Heap V → ℕ → Object V → Heap V
 with_object heap zero object = heap
 with_object heap (suc n) object = set heap n object
@@ -61,12 +61,12 @@ is_cleared_by event context object =
     option_map_or (is_same_event event) object.kind.clears false
     && option_map_or (λ c. c == object.owner.context) context true
 
--- an object with the same value in all components
+-- an object with all components set to its kind's blank value
 abbrev pub blanked : {V : Type 0} → (ObjectKind → V) → Object V → Object V
 blanked blank object =
     record { kind = object.kind; owner = object.owner; cells = map (λ value. blank object.kind) object.cells }
 
--- the heap behind an event: the objects that it clears hold what is blank for their kind
+-- the heap after an event: the objects that it clears have blank components
 abbrev pub cleared : {V : Type 0} → (ObjectKind → V) → ClearingEvent → Option ℕ → Heap V → Heap V
 cleared blank event context heap =
     map (λ object. if is_cleared_by event context object then blanked blank object else object) heap

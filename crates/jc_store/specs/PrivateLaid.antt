@@ -1,4 +1,4 @@
--- Private. Objects laid one behind the other over one array of cells, and two rows for each of them.
+-- Private. Objects laid one after the other over one array of cells, and two rows for each of them.
 use Rattle.std.specs.Prelude.{◌≡◌, ℕ, zero, suc, ◌+◌, ◌-◌, ◌<◌, ◌≤◌, ◌^◌, List, Option, None, Some, if◌then◌else◌}
 use Rattle.std.specs.Prelude.{[], ◌∷◌, ◌++◌, length, map, take, drop, replicate, slice_range}
 use Rattle.jc_store.specs.Heap.{Heap, Object, blanked, cells_in, is_cleared_by}
@@ -10,8 +10,8 @@ use Rattle.jc_store.specs.declared.kind.ClearingEvent.TheVariants.{Reset, Desele
 use Rattle.jc_store.specs.declared.kind.ObjectKind.{ObjectKind}
 use Rattle.jc_names.specs.declared.owner.Owner.{Owner}
 
--- an object without its components: what it is, whose it is, the number of its class, where its components begin, and
--- how many it has
+-- an object without its components: its kind, its owner, the number of its class, where its components begin, and how
+-- many it has
 pub record Header : Type 0 where
   pub kind : ObjectKind
   pub owner : Owner
@@ -19,9 +19,9 @@ pub record Header : Type 0 where
   pub start : ℕ
   pub len : ℕ
 
--- ---- its two rows
+-- ---- the two rows of an object
 
--- the context to which each access is allowed: the owner's, and none where it is cleared on deselect
+-- the context that may access the object in every way: the owner's, or 255 if it is cleared on deselect
 abbrev pub fast_in : Option ClearingEvent → Owner → ℕ
 fast_in None owner = owner.context
 fast_in (Some Reset) owner = owner.context
@@ -56,18 +56,18 @@ abbrev pub headers_of : List Head → List Rest → List Header
 headers_of [] rests = []
 headers_of (null ∷ heads) rests = joined heads rests
 
--- the rows are those of headers
+-- the two lists are the rows of headers
 pub record AreRows (heads : List Head) (rests : List Rest) : Type 0 where
   pub heads_are : heads ≡ null_head ∷ map head_of (headers_of heads rests)
   pub rests_are : rests ≡ map rest_of (headers_of heads rests)
 
--- the numbers of their classes
+-- the numbers of the classes of headers
 abbrev pub classes_in : List Header → List ℕ
 classes_in headers = map (λ (h : Header). h.class) headers
 
--- ---- their components
+-- ---- the components of an object
 
--- the object that a header is of
+-- the object of a header
 abbrev pub object_in : List ℕ → Header → Object ℕ
 object_in cells h = record { kind = h.kind; owner = h.owner; cells = slice_range cells h.start (h.start + h.len) }
 
@@ -75,13 +75,13 @@ object_in cells h = record { kind = h.kind; owner = h.owner; cells = slice_range
 abbrev pub objects_in : List ℕ → List Header → Heap ℕ
 objects_in cells headers = map (object_in cells) headers
 
--- from a cell on, the components of each object begin where those of the one before end, and the last end at a cell
+-- from cell `start` on, the components of each object begin where those of the one before end; the last end at `end`
 abbrev pub AreLaid : ℕ → List Header → ℕ → Type 0
 AreLaid start [] end = end ≡ start
 AreLaid start (h ∷ headers) end = (h.start ≡ start) × AreLaid (start + h.len) headers end
 
--- how much of a store is used: the lengths of its arrays, and how many rows of each kind there is room for; the cell
--- behind the last component; and the most objects and cells
+-- the used part of a store: the lengths of its arrays, and their room for rows of each kind; the cell after the last
+-- component; and the most objects and cells
 pub record Sizes : Type 0 where
   pub heads : ℕ
   pub head_room : ℕ
@@ -92,7 +92,7 @@ pub record Sizes : Type 0 where
   pub most_objects : ℕ
   pub most_cells : ℕ
 
--- the objects lie within the cells, with one cell left for each of them, and the cells behind them are 0; room for
+-- the objects lie within the cells, with one cell left for each of them, and the cells after them are 0; room for
 -- exactly the most headers is reserved
 pub record IsLaid (headers : List Header) (cells : List ℕ) (s : Sizes) : Type 0 where
   pub laid : AreLaid 0 headers s.used
@@ -106,24 +106,24 @@ pub record IsLaid (headers : List Header) (cells : List ℕ) (s : Sizes) : Type 
   pub few_objects : s.most_objects < 2 ^ 16
   pub few_cells : s.most_cells < 2 ^ 16
 
--- and their rows are such, with room for exactly the most
+-- the rows are those of objects that are laid so, with room for exactly the most
 pub record IsStored (heads : List Head) (rests : List Rest) (cells : List ℕ) (s : Sizes) : Type 0 where
   pub rows : AreRows heads rests
   pub laid : IsLaid (headers_of heads rests) cells s
   pub head_count : s.heads ≡ length heads
   pub head_reserved : s.head_room ≡ s.most_objects + 1
 
--- so many cells hold all of them
+-- the components of all objects lie within `count` cells
 pub record AreWithin (headers : List Header) (count : ℕ) : Type 0 where
   pub end : ℕ
   pub laid : AreLaid 0 headers end
   pub within : end ≤ count
 
--- the cells with 0 in so many of them, from one on
+-- the cells with `len` of them set to 0, from `start` on
 abbrev pub zeroed : List ℕ → ℕ → ℕ → List ℕ
 zeroed cells start len = take start cells ++ replicate len 0 ++ drop (start + len) cells
 
--- there is room for one object more with so many components
+-- there is room for one more object with `len` components
 pub record HasRoom (s : Store) (len : ℕ) : Type 0 where
   pub objects : length s.objects < s.most_objects
   pub cells : cells_in s.objects + 1 + len ≤ s.most_cells
@@ -133,14 +133,14 @@ pub record HasRoom (s : Store) (len : ℕ) : Type 0 where
 abbrev pub if_cleared : ClearingEvent → Option ℕ → Object ℕ → Object ℕ
 if_cleared event context object = if is_cleared_by event context object then blanked (λ kind. 0) object else object
 
--- the first of these objects are cleared
+-- the first n of these objects are cleared
 abbrev pub first_cleared : ClearingEvent → Option ℕ → ℕ → Heap ℕ → Heap ℕ
 first_cleared event context zero heap = heap
 first_cleared event context (suc n) [] = []
 first_cleared event context (suc n) (object ∷ heap) =
     if_cleared event context object ∷ first_cleared event context n heap
 
--- the objects of the first headers were cleared, and nothing was changed behind the last
+-- the objects of the first n headers were cleared, and nothing after the last object changed
 pub record AreCleared (headers : List Header) (event : ClearingEvent) (context : Option ℕ) (n : ℕ)
     (before after : List ℕ) : Type 0 where
   pub objects : objects_in after headers ≡ first_cleared event context n (objects_in before headers)

@@ -1,4 +1,4 @@
-//! Many cells at once.
+//! Blocks of cells.
 
 ghost use Rattle.std.specs.Prelude.{◌≡◌, ◌+◌, ◌++◌, ◌≤◌, ◌<◌, drop, length, replicate, slice_range};
 ghost use Rattle.jc_store.specs.Blocks.{put_over};
@@ -8,13 +8,13 @@ use crate::header::Head;
 // How many words are written at once.
 const BLOCK: usize = 16;
 
-// How many cells are moved at once, where there are so many, and behind them.
+// How many cells are moved at once, as long as there are as many, and then.
 const LARGE: usize = 64;
 
 const SMALL: usize = 8;
 
-// How many words are written before what is written is copied. What was written just now is slow to read in larger
-// pieces, so that it doesn't pay for fewer.
+// How many words are written before they are copied. Words that were just written are slow to read in larger pieces, so
+// copying doesn't pay for fewer.
 const FIRST: usize = 256;
 
 /// The components of an object.
@@ -27,7 +27,7 @@ pub(crate) fn part_of(cells: &[u16], head: Head) -> &[u16]
     &cells[start..start + usize::from(head.len)]
 }
 
-/// So many components of an object, from an index on.
+/// The `count` components of an object from an index on.
 #[inline]
 pub(crate) fn some_of(cells: &[u16], head: Head, index: usize, count: usize) -> &[u16]
     requires within { head.start + index + count ≤ length cells.now }
@@ -37,7 +37,7 @@ pub(crate) fn some_of(cells: &[u16], head: Head, index: usize, count: usize) -> 
     &cells[start..start + count]
 }
 
-// Puts a word into a block of cells.
+// Fills a block of cells with a word.
 #[inline]
 fn fill_block(cells: &mut [u16], start: usize, word: u16)
     requires within { start + 16 ≤ length cells.old }
@@ -46,7 +46,7 @@ fn fill_block(cells: &mut [u16], start: usize, word: u16)
     cells[start..start + BLOCK].fill(word);
 }
 
-// Puts a word into each cell, in blocks. The last block may begin within the one before.
+// Fills cells with a word, in blocks. The last block may overlap the one before.
 #[inline]
 fn fill_in_blocks(cells: &mut [u16], word: u16)
     ensures { cells.new ≡ replicate (length cells.old) word }
@@ -64,8 +64,8 @@ fn fill_in_blocks(cells: &mut [u16], word: u16)
     fill_block(cells, end - BLOCK, word);
 }
 
-// Puts a word into each cell of which so many in front hold it already. What is written is copied behind it, twice as
-// many cells each time: the C library copies more at a time than a block.
+// Fills cells with a word; the first `first` hold it already. What is written is copied after itself, twice as many
+// cells each time: the C library copies more at a time than a block.
 #[inline(never)]
 fn fill_by_copies(cells: &mut [u16], first: usize, word: u16)
     requires filled { cells.old ≡ replicate first word ++ drop first cells.old }
@@ -82,7 +82,7 @@ fn fill_by_copies(cells: &mut [u16], first: usize, word: u16)
     }
 }
 
-/// Puts a word into so many components of an object, from an index on.
+/// Fills the `count` components of an object from an index on with a word.
 #[inline]
 pub(crate) fn fill_part(cells: &mut [u16], head: Head, index: usize, count: usize, word: u16)
     requires within { head.start + index + count ≤ length cells.old }
@@ -95,7 +95,7 @@ pub(crate) fn fill_part(cells: &mut [u16], head: Head, index: usize, count: usiz
         part.fill(0);
         return;
     }
-    // called in one place, so that LLVM takes it in
+    // called in one place, so LLVM inlines it
     let first = count.min(FIRST);
     fill_in_blocks(&mut part[..first], word);
     if first < count {
@@ -103,7 +103,7 @@ pub(crate) fn fill_part(cells: &mut [u16], head: Head, index: usize, count: usiz
     }
 }
 
-// Puts a byte into each cell.
+// Writes a byte to each cell.
 #[inline]
 fn put_each(cells: &mut [u16], bytes: &[u8])
     requires sized { length cells.old ≡ length bytes.now }
@@ -114,7 +114,7 @@ fn put_each(cells: &mut [u16], bytes: &[u8])
     }
 }
 
-/// Puts bytes into components of an object, one into each, from an index on.
+/// Writes bytes to components of an object, one to each, from an index on.
 #[inline]
 pub(crate) fn put_part(cells: &mut [u16], head: Head, index: usize, bytes: &[u8])
     requires within { head.start + index + length bytes.now ≤ length cells.old }
@@ -124,7 +124,7 @@ pub(crate) fn put_part(cells: &mut [u16], head: Head, index: usize, bytes: &[u8]
     put_each(&mut cells[start..start + bytes.len()], bytes);
 }
 
-// Copies so many cells to others that lie behind them.
+// Copies `count` cells to later ones that don't overlap them.
 #[inline]
 fn copy_behind(cells: &mut [u16], from: usize, to: usize, count: usize)
     requires to_within { to + count ≤ length cells.old }
@@ -135,7 +135,7 @@ fn copy_behind(cells: &mut [u16], from: usize, to: usize, count: usize)
     back[..count].copy_from_slice(&front[from..from + count]);
 }
 
-// Copies so many cells to others that lie in front of them.
+// Copies `count` cells to earlier ones that don't overlap them.
 #[inline]
 fn copy_before(cells: &mut [u16], from: usize, to: usize, count: usize)
     requires from_within { from + count ≤ length cells.old }
@@ -146,7 +146,7 @@ fn copy_before(cells: &mut [u16], from: usize, to: usize, count: usize)
     front[to..to + count].copy_from_slice(&back[..count]);
 }
 
-// Moves a block of cells, as through a copy of it.
+// Moves a block of cells; source and target may overlap.
 #[inline]
 fn move_block<const N: usize>(cells: &mut [u16], from: usize, to: usize)
     requires from_within { from + N ≤ length cells.old }
@@ -158,7 +158,7 @@ fn move_block<const N: usize>(cells: &mut [u16], from: usize, to: usize)
     cells[to..to + N].copy_from_slice(&block);
 }
 
-// Moves blocks of cells upwards, the last one first. It tells how many in front of them are left.
+// Moves blocks of cells upwards, the last one first. It returns how many cells at the front are left.
 #[inline]
 fn move_blocks_up<const N: usize>(cells: &mut [u16], from: usize, to: usize, count: usize) -> usize
     requires some { 0 < N }
@@ -177,7 +177,7 @@ fn move_blocks_up<const N: usize>(cells: &mut [u16], from: usize, to: usize, cou
     left
 }
 
-// Moves blocks of cells downwards, the first one first. It tells how many cells are moved.
+// Moves blocks of cells downwards, the first one first. It returns how many cells were moved.
 #[inline]
 fn move_blocks_down<const N: usize>(
     cells: &mut [u16],
@@ -200,7 +200,7 @@ fn move_blocks_down<const N: usize>(
     moved
 }
 
-// Copies so many cells to others behind the first of them.
+// Copies `count` cells upwards; source and target may overlap.
 #[inline]
 fn move_up(cells: &mut [u16], from: usize, to: usize, count: usize)
     requires upwards { from ≤ to }
@@ -212,7 +212,7 @@ fn move_up(cells: &mut [u16], from: usize, to: usize, count: usize)
     cells.copy_within(from..from + small, to);
 }
 
-// Copies so many cells to others in front of the last of them.
+// Copies `count` cells downwards; source and target may overlap.
 #[inline]
 fn move_down(cells: &mut [u16], from: usize, to: usize, count: usize)
     requires downwards { to ≤ from }
@@ -225,7 +225,7 @@ fn move_down(cells: &mut [u16], from: usize, to: usize, count: usize)
     cells.copy_within(from + moved..from + count, to + moved);
 }
 
-/// Copies so many components of an object to those of an object, from indexes on, as through a copy of them.
+/// Copies `count` components of an object to those of another, from indexes on; source and target may overlap.
 #[inline]
 pub(crate) fn copy_part(
     cells: &mut [u16],

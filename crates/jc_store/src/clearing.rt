@@ -1,4 +1,4 @@
-//! The clearing of transient arrays.
+//! Clearing of transient arrays.
 
 ghost use Rattle.std.specs.Prelude.{◌≡◌, ◌+◌, ◌≤◌, ℕ, List, Some, length, drop, slice_get};
 ghost use Rattle.jc_store.specs.Heap.{cleared, is_cleared_by, is_same_event};
@@ -36,7 +36,7 @@ fn is_cleared(rest: Rest, event: ClearingEvent, context: Option<u8>) -> bool
     is_its && is_there
 }
 
-/// Puts 0 into the components of an object.
+/// Sets the components of an object to 0.
 fn clear_object(head: Head, cells: &mut [u16])
     requires within { head.start + head.len ≤ length cells.old }
     ensures { cells.new ≡ zeroed cells.old head.start head.len }
@@ -46,7 +46,7 @@ fn clear_object(head: Head, cells: &mut [u16])
     cells[start..end].fill(0);
 }
 
-/// Puts 0 into the components of an object, if an event clears it.
+/// Sets the components of an object to 0, if an event clears it.
 fn clear_if(head: Head, rest: Rest, cells: &mut [u16], event: ClearingEvent, context: Option<u8>)
     requires within { head.start + head.len ≤ length cells.old }
     ensures { (headers : List Header) (n : ℕ) (before : List ℕ) → AreWithin headers (length cells.old)
@@ -58,7 +58,7 @@ fn clear_if(head: Head, rest: Rest, cells: &mut [u16], event: ClearingEvent, con
     }
 }
 
-/// Clears the objects of an event.
+/// Clears the objects that an event clears.
 pub(crate) fn clear_objects(
     heads: &[Head],
     rests: &[Rest],

@@ -1,4 +1,4 @@
-//! What is kept of each object beside its components.
+//! The data of each object besides its components.
 
 ghost use Rattle.std.specs.Prelude.{◌≡◌, ◌+◌, ◌-◌, ◌<◌, ◌≤◌, Some, length, slice_get, unwrap_or};
 ghost use Rattle.jc_store.specs.PrivateLaid.{fast_in, null_head};
@@ -6,11 +6,11 @@ ghost use Rattle.jc_store.specs.PrivateLaid.{fast_in, null_head};
 use crate::kind::{ClearingEvent, ObjectKind};
 use jc_names::Owner;
 
-/// The context that no object is the own one of.
+/// The context number that no context has.
 const NONE: u8 = 255;
 
-/// What each access asks of an object, in eight bytes: where its components begin among the cells, and how many it has;
-/// the number of its class; and the context to which each access to it is allowed.
+/// The data that each access to an object needs, in eight bytes: where its components begin among the cells, and how
+/// many it has; the number of its class; and the context that may access it in every way.
 #[derive(Clone, Copy)]
 pub(crate) struct Head {
     pub(crate) start: u16,
@@ -20,7 +20,7 @@ pub(crate) struct Head {
 }
 
 impl Head {
-    /// The head of number 0, which stands for null.
+    /// The head with number 0, for null.
     pub(crate) const NULL: Head = Head {
         start: 0,
         len: 0,
@@ -29,15 +29,14 @@ impl Head {
     };
 }
 
-/// The rest: what an object is, and whose it is.
+/// The rest: the kind and the owner of an object.
 #[derive(Clone, Copy)]
 pub(crate) struct Rest {
     pub(crate) kind: ObjectKind,
     pub(crate) owner: Owner,
 }
 
-/// The context to which each access to an object is allowed: its owner's. It is none where the object is cleared on
-/// deselect.
+/// The context that may access an object in every way: its owner's, or `NONE` if the object is cleared on deselect.
 #[inline]
 pub(crate) fn fast_of(clears: Option<ClearingEvent>, owner: Owner) -> u8
     ensures { result ≡ fast_in clears owner }
@@ -57,7 +56,7 @@ pub(crate) fn head_at(heads: &[Head], number: u16) -> Head
     heads[usize::from(number)]
 }
 
-/// The head with a number; that of null where there is none.
+/// The head with a number, or that of null if there is none.
 #[inline]
 pub(crate) fn head_or_null(heads: &[Head], number: u16) -> Head
     ensures { result ≡ unwrap_or (slice_get heads.now number) null_head }
@@ -68,7 +67,7 @@ pub(crate) fn head_or_null(heads: &[Head], number: u16) -> Head
     }
 }
 
-/// The rest of what is kept of the object with a number.
+/// The rest of the object with a number.
 #[inline]
 pub(crate) fn rest_at(rests: &[Rest], number: u16) -> Rest
     requires some { 0 < number }
@@ -78,7 +77,7 @@ pub(crate) fn rest_at(rests: &[Rest], number: u16) -> Rest
     rests[usize::from(number) - 1]
 }
 
-/// What the component of an object at an index holds.
+/// The component of an object at an index.
 #[inline]
 pub(crate) fn cell_at(cells: &[u16], head: Head, index: u16) -> u16
     requires within { head.start + index < length cells.now }

@@ -17,11 +17,11 @@ pub enum ObjectType {
     ReferenceArray(ClassName),
 }
 
-/// How an object is marked for the firewall (Java Card Runtime Environment Specification, Applet Isolation and Object
+/// The mark of an object for the firewall (Java Card Runtime Environment Specification, Applet Isolation and Object
 /// Sharing: JCRE entry point objects, global arrays).
 #[derive(Clone, Copy, Debug, PartialEq, Eq)]
 pub enum Mark {
-    /// An object like any other.
+    /// An object without a mark.
     Plain,
     /// A permanent entry point of the runtime: references to it may be stored.
     PermanentEntryPoint,
@@ -40,7 +40,7 @@ pub enum ClearingEvent {
     Deselect,
 }
 
-/// What an object is, and stays.
+/// The properties of an object that never change.
 #[derive(Clone, Copy, Debug, PartialEq, Eq)]
 pub struct ObjectKind {
     pub object_type: ObjectType,

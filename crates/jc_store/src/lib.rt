@@ -1,4 +1,4 @@
-//! The objects on a card: who owns them, what they are, and their cells.
+//! The objects on a card: their owners, their kinds, and their cells.
 #![tactic(auto)]
 
 mod block;

@@ -16,8 +16,8 @@ use jc_names::Owner;
 use std::alloc::{AllocError, Global};
 use std::marker::Model;
 
-/// The objects on a card, by numbers from 1 on. All the room that they may ever take is reserved when the store is
-/// made; no other call takes memory.
+/// The objects on a card, by numbers from 1 on. All their memory is reserved when the store is made; no other call
+/// allocates.
 #[derive(Drop)]
 pub struct Store {
     heads: Vec<Head>,
@@ -55,8 +55,8 @@ impl Model for Store {
 }
 
 impl Store {
-    /// A store without an object, with room for so many objects, and for so many cells: an object takes one, and one
-    /// for each of its components.
+    /// A store without objects, with room for this many objects and cells: an object takes one cell, and one for each
+    /// of its components.
     pub fn new(alloc: Global, objects: u16, cells: u16) -> Result<Store, AllocError>
         ensures { IfOk result (λ s.
             s ≡ record { objects = []; classes = []; most_objects = objects; most_cells = cells }) }
@@ -75,8 +75,8 @@ impl Store {
         })
     }
 
-    /// Makes an object whose components are 0, if there is room for it. The answer is its number. The number that is
-    /// handed in for its class is kept; what it means is the caller's matter.
+    /// Makes an object whose components are 0, if there is room for it, and returns its number. It keeps the number
+    /// `class` that the caller gives for the object's class; its meaning is the caller's matter.
     #[inline(always)]
     pub fn make(&mut self, kind: ObjectKind, owner: Owner, len: usize, class: u16) -> Option<u16>
         ensures number { IfSome result (λ number. number ≡ next_number self.old.objects) }
@@ -101,7 +101,7 @@ impl Store {
         Some(self.rests.len() as u16)
     }
 
-    // Whether there is room for one object more with so many components.
+    // Whether there is room for one more object with `len` components.
     #[inline]
     fn has_room(&self, len: usize) -> bool
         ensures room { result ≡ true → HasRoom self.now len }
@@ -112,7 +112,7 @@ impl Store {
         objects < usize::from(self.most_objects) && len < left
     }
 
-    /// What an object is.
+    /// The kind of an object.
     #[inline]
     pub fn kind_of(&self, number: u16) -> ObjectKind
         requires there { IsThere self.now number }
@@ -121,7 +121,7 @@ impl Store {
         rest_at(&self.rests, number).kind
     }
 
-    /// Whether an object with a number is there. None has number 0.
+    /// Whether there is an object with a number. Number 0 is no object's.
     #[inline]
     pub fn is_there(&self, number: u16) -> bool
         ensures yes { result ≡ true → IsThere self.now number }
@@ -130,7 +130,7 @@ impl Store {
         number != 0 && number <= self.objects_used()
     }
 
-    /// Whose an object is.
+    /// The owner of an object.
     #[inline]
     pub fn owner_of(&self, number: u16) -> Owner
         requires there { IsThere self.now number }
@@ -139,7 +139,7 @@ impl Store {
         rest_at(&self.rests, number).owner
     }
 
-    /// The number that was handed in for an object's class.
+    /// The number that the caller gave for an object's class.
     #[inline]
     pub fn class_number(&self, number: u16) -> u16
         requires there { IsThere self.now number }
@@ -148,9 +148,9 @@ impl Store {
         head_at(&self.heads, number).class
     }
 
-    /// Whether an object is a context's own: its owner's context is that one, and it isn't cleared on deselect. So each
-    /// access to it is allowed to that context. Null is no context's own. No context is 255: a yes for that one says
-    /// nothing.
+    /// Whether an object is a context's own: its owner's context is that one, and it isn't cleared on deselect. Then
+    /// the context may access it in every way. Null is no context's own. No context has the number 255, and for it the
+    /// result means nothing.
     #[inline]
     pub fn is_own(&self, number: u16, context: u8) -> bool
         requires there { IsReference self.now number }
@@ -169,8 +169,8 @@ impl Store {
         head_at(&self.heads, number).len
     }
 
-    /// How many components the objects before an object have. The components of all lie one behind the other in their
-    /// order, so this is where its own begin: a reader of many at a time may begin where its words are aligned.
+    /// How many components the objects before an object have. The components of all objects lie one after the other, in
+    /// order, so this is where its own begin. A reader of many at a time may begin where its words are aligned.
     #[inline]
     pub fn components_before(&self, number: u16) -> u16
         requires there { IsThere self.now number }
@@ -179,7 +179,7 @@ impl Store {
         head_at(&self.heads, number).start
     }
 
-    /// What the component of an object at an index holds.
+    /// The component of an object at an index.
     #[inline]
     pub fn get(&self, number: u16, index: u16) -> u16
         requires there { HasCell self.now number index }
@@ -190,7 +190,7 @@ impl Store {
         cell_at(&self.cells, head, index)
     }
 
-    /// Puts a word into the component of an object at an index.
+    /// Sets the component of an object at an index.
     #[inline]
     pub fn set(&mut self, number: u16, index: u16, word: u16)
         requires there { HasCell self.old number index }
@@ -201,7 +201,7 @@ impl Store {
         self.cells[usize::from(head.start) + usize::from(index)] = word;
     }
 
-    /// The components of an object; none where there is no object with the number.
+    /// The components of an object; none if there is no object with the number.
     #[inline]
     pub fn components(&self, number: u16) -> &[u16]
         ensures { result.now ≡ components_of self.now.objects number }
@@ -210,7 +210,7 @@ impl Store {
         part_of(&self.cells, head)
     }
 
-    /// So many components of an object, from an index on.
+    /// The `count` components of an object from an index on.
     #[inline]
     pub fn part(&self, number: u16, index: usize, count: usize) -> &[u16]
         requires there { HasCells self.now number index count }
@@ -221,7 +221,7 @@ impl Store {
         some_of(&self.cells, head, index, count)
     }
 
-    /// Puts a word into so many components of an object, from an index on.
+    /// Fills the `count` components of an object from an index on with a word.
     #[inline]
     pub fn fill(&mut self, number: u16, index: usize, count: usize, word: u16)
         requires there { HasCells self.old number index count }
@@ -233,7 +233,7 @@ impl Store {
         fill_part(&mut self.cells, head, index, count, word);
     }
 
-    /// Puts bytes into components of an object, one into each, from an index on.
+    /// Writes bytes to components of an object, one to each, from an index on.
     #[inline]
     pub fn put_bytes(&mut self, number: u16, index: usize, bytes: &[u8])
         requires there { HasCells self.old number index (length bytes.now) }
@@ -245,7 +245,7 @@ impl Store {
         put_part(&mut self.cells, head, index, bytes);
     }
 
-    /// Copies so many components of an object to those of an object, from indexes on, as through a copy of them.
+    /// Copies `count` components of an object to those of another, from indexes on; source and target may overlap.
     #[inline]
     pub fn copy(
         &mut self,
@@ -284,7 +284,7 @@ impl Store {
         self.used + self.rests.len() as u16
     }
 
-    /// Clears the transient arrays of an event: those of a context, or all. Their components are 0 then.
+    /// Clears the transient arrays that an event clears, of one context or of all: sets their components to 0.
     pub fn clear(&mut self, event: ClearingEvent, context: Option<u8>)
         ensures { self.new ≡ with_objects self.old (cleared (λ kind. 0) event context self.old.objects) }
     {

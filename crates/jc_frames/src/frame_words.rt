@@ -7,7 +7,7 @@ ghost use Rattle.jc_frames.specs.PrivateLaid.{IsChanged, IsWithin, frame_in};
 use crate::header::FrameSize;
 use crate::place::FramePlace;
 
-/// How many operands are in use; no more than there is room for.
+/// How many operands are in use, at most as many as there is room for.
 #[inline]
 pub(crate) fn depth_at(place: &FramePlace) -> u8
     ensures { result ≡ min place.now.header.depth place.now.operands }
@@ -15,7 +15,7 @@ pub(crate) fn depth_at(place: &FramePlace) -> u8
     place.header.depth.min(place.operands)
 }
 
-/// How many locals the frame at a place has, and how many operands it may have.
+/// How many locals the frame at a place has, and the most operands that it may have.
 #[inline]
 #[tactic(auto, using(crate::proofs::Words::part_length))]
 pub(crate) fn size_at(place: &FramePlace, _words: &[u16]) -> FrameSize
@@ -39,7 +39,7 @@ pub(crate) fn in_use_at(place: &FramePlace, _words: &[u16]) -> u8
     depth_at(place)
 }
 
-// Where the operands begin among the words.
+// The index of the first operand among the words.
 #[inline]
 fn operands_at(place: &FramePlace) -> usize
     ensures { result ≡ place.now.start + place.now.locals }
@@ -47,7 +47,7 @@ fn operands_at(place: &FramePlace) -> usize
     usize::from(place.start) + usize::from(place.locals)
 }
 
-/// The operand with an index, counted from the top; 0 where there is none.
+/// The operand with an index, counted from the top, or 0 if there is none.
 #[inline]
 pub(crate) fn operand_at(place: &FramePlace, words: &[u16], index: u8) -> u16
     requires { IsWithin place.now words.now }
@@ -61,7 +61,7 @@ pub(crate) fn operand_at(place: &FramePlace, words: &[u16], index: u8) -> u16
     }
 }
 
-/// So many of the top operands, the deepest first; all that are in use where there are fewer.
+/// The top `count` operands, the deepest first; all that are in use if there are fewer.
 #[inline]
 pub(crate) fn arguments_at<'w>(place: &FramePlace, words: &'w [u16], count: u8) -> &'w [u16]
     requires { IsWithin place.now words.now }
@@ -82,7 +82,7 @@ pub(crate) fn locals_at<'w>(place: &FramePlace, words: &'w [u16]) -> &'w [u16]
     &words[start..start + usize::from(place.locals)]
 }
 
-/// The local with an index; 0 where there is none.
+/// The local with an index, or 0 if there is none.
 #[inline]
 pub(crate) fn local_at(place: &FramePlace, words: &[u16], index: u8) -> u16
     requires { IsWithin place.now words.now }
@@ -95,7 +95,7 @@ pub(crate) fn local_at(place: &FramePlace, words: &[u16], index: u8) -> u16
     }
 }
 
-/// Puts an operand on top, where there is room for it.
+/// Pushes an operand, if there is room for it.
 #[inline]
 pub(crate) fn push_at(place: &mut FramePlace, words: &mut [u16], word: u16)
     requires { IsWithin place.old words.old }
@@ -108,7 +108,7 @@ pub(crate) fn push_at(place: &mut FramePlace, words: &mut [u16], word: u16)
     }
 }
 
-/// Puts an operand on top, where there is room for it, and sets the pc.
+/// Pushes an operand, if there is room for it, and sets the pc.
 #[inline(always)]
 pub(crate) fn put_at(place: &mut FramePlace, words: &mut [u16], word: u16, pc: u16)
     requires { IsWithin place.old words.old }
@@ -118,7 +118,7 @@ pub(crate) fn put_at(place: &mut FramePlace, words: &mut [u16], word: u16, pc: u
     place.header.pc = pc;
 }
 
-/// The same in place of so many operands, or of all where there are fewer.
+/// The same in place of the top `count` operands, or of all if there are fewer.
 #[inline(always)]
 pub(crate) fn replace_at(place: &mut FramePlace, words: &mut [u16], count: u8, word: u16, pc: u16)
     requires { IsWithin place.old words.old }

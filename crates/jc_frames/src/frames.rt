@@ -1,4 +1,4 @@
-//! The frames of the methods that run.
+//! The frames of the running methods.
 
 ghost use Rattle.std.specs.Prelude.{◌≡◌, ◌+◌, ◌≤◌, ℕ, List, true, false, [], ◌∷◌, Some, None};
 ghost use Rattle.std.specs.Prelude.{length, nat_le, take, drop, reverse, slice_range, IfOk};
@@ -19,8 +19,7 @@ use crate::place::{FramePlace, copy_arguments, place_under, put_arguments, top_o
 use std::alloc::{AllocError, Global};
 use std::marker::Model;
 
-/// The frames of the methods that run. All the room that they may ever take is reserved when they are made; no
-/// other call takes memory.
+/// The frames of the running methods. All their memory is reserved when they are made; no other call allocates.
 #[derive(Drop)]
 pub struct Frames {
     places: Vec<FramePlace>,
@@ -55,7 +54,7 @@ impl Model for Frames {
 }
 
 impl Frames {
-    /// No frame, with room for so many frames, and for so many words of their locals and operands.
+    /// No frame, with room for this many frames, and for this many words of their locals and operands.
     pub fn new(alloc: Global, frames: u8, words: u16) -> Result<Frames, AllocError>
         ensures { IfOk result (λ s. s ≡ record { frames = []; most_frames = frames; most_words = words }) }
     {
@@ -78,7 +77,7 @@ impl Frames {
         self.places.len() as u8
     }
 
-    /// Whether there are as many as there may be.
+    /// Whether there are as many frames as there may be.
     #[inline]
     pub fn are_most(&self) -> bool
         ensures { result ≡ nat_le self.now.most_frames (length self.now.frames) }
@@ -86,7 +85,7 @@ impl Frames {
         usize::from(self.most_frames) <= self.places.len()
     }
 
-    // Whether there is room for one frame more of a size.
+    // Whether there is room for one more frame of a size.
     #[inline(always)]
     fn has_room(&self, size: FrameSize) -> bool
         ensures room { result ≡ true → HasRoom self.now size }
@@ -97,7 +96,7 @@ impl Frames {
         self.places.len() < usize::from(self.most_frames) && wanted <= left
     }
 
-    /// Puts a frame on top, if there is room for it: the arguments are its first locals, and its other words hold
+    /// Pushes a frame, if there is room for it: the arguments are its first locals, and its other words may be
     /// anything.
     #[inline]
     pub fn push_frame(&mut self, header: FrameHeader, size: FrameSize, arguments: &[u16]) -> bool
@@ -122,8 +121,8 @@ impl Frames {
         true
     }
 
-    // Puts a frame on top, where there is room for it: so many operands of the frame that was on top, from an index on,
-    // are its first locals, and its other words hold anything.
+    // Pushes a frame for which there is room. The `count` operands of the top frame from an index on are its first
+    // locals, and its other words may be anything.
     #[inline(always)]
     fn put_call(&mut self, header: FrameHeader, size: FrameSize, first: u8, count: u8)
         requires there { HasOperands self.old first count }
@@ -150,7 +149,7 @@ impl Frames {
         );
     }
 
-    /// Takes the top frame away.
+    /// Pops the top frame.
     #[inline]
     pub fn pop_frame(&mut self)
         requires there { HasTop self.old }
@@ -161,7 +160,7 @@ impl Frames {
         let _ = self.places.pop();
     }
 
-    /// What is known of the top frame, if there is one.
+    /// The header of the top frame, if there is one.
     #[inline]
     pub fn top(&self) -> Option<FrameHeader>
         ensures { result ≡ of_top None (λ f. Some f.header) self.now }
@@ -170,7 +169,7 @@ impl Frames {
         Some(place.header)
     }
 
-    /// What is known of the frame that has so many others on top of it, if there is one.
+    /// The header of the frame under this many others, if there is one.
     #[inline]
     #[tactic(auto, using(crate::proofs::Under::header_is))]
     pub fn frame_under(&self, others: u8) -> Option<FrameHeader>
@@ -180,7 +179,7 @@ impl Frames {
         Some(place.header)
     }
 
-    /// How many locals the top frame has, and how many operands it may have; none where there is no frame.
+    /// How many locals the top frame has, and the most operands that it may have; 0 and 0 if there is no frame.
     #[inline]
     pub fn top_size(&self) -> FrameSize
         ensures locals { result.locals ≡ of_top 0 (λ f. length f.locals) self.now }
@@ -195,7 +194,7 @@ impl Frames {
         size_at(place, &self.words)
     }
 
-    /// How many operands of the top frame are in use; none where there is no frame.
+    /// How many operands of the top frame are in use; 0 if there is no frame.
     #[inline]
     pub fn depth(&self) -> u8
         ensures { result ≡ of_top 0 (λ f. length (in_use f)) self.now }
@@ -206,7 +205,7 @@ impl Frames {
         in_use_at(place, &self.words)
     }
 
-    /// The operand of the top frame with an index, counted from the top; 0 where there is none.
+    /// The operand of the top frame with an index, counted from the top, or 0 if there is none.
     #[inline]
     pub fn operand(&self, index: u8) -> u16
         ensures { result ≡ of_top 0 (operand_in index) self.now }
@@ -217,7 +216,7 @@ impl Frames {
         operand_at(place, &self.words, index)
     }
 
-    /// The local of the top frame with an index; 0 where there is none.
+    /// The local of the top frame with an index, or 0 if there is none.
     #[inline]
     pub fn local(&self, index: u8) -> u16
         ensures { result ≡ of_top 0 (local_in index) self.now }
@@ -228,7 +227,7 @@ impl Frames {
         local_at(place, &self.words, index)
     }
 
-    /// So many of the top operands of the top frame, the deepest first; all that are in use where there are fewer.
+    /// The top `count` operands of the top frame, the deepest first; all that are in use if there are fewer.
     #[inline]
     pub fn arguments(&self, count: u8) -> &[u16]
         ensures { result.now ≡ of_top [] (arguments_in count) self.now }
@@ -250,7 +249,7 @@ impl Frames {
         locals_at(place, &self.words)
     }
 
-    /// Puts an operand on top, where there is room for it.
+    /// Pushes an operand, if there is room for it.
     #[inline]
     pub fn push_operand(&mut self, word: u16)
         ensures { self.new ≡ on_top (pushed word) self.old }
@@ -261,7 +260,7 @@ impl Frames {
         push_at(place, &mut self.words, word);
     }
 
-    /// Puts an operand on top, where there is room for it, and the frame is at another pc.
+    /// Pushes an operand, if there is room for it, and sets the pc.
     #[inline(always)]
     pub fn put(&mut self, word: u16, pc: u16)
         ensures { self.new ≡ on_top (put word pc) self.old }
@@ -272,7 +271,7 @@ impl Frames {
         put_at(place, &mut self.words, word, pc);
     }
 
-    /// The same in place of so many operands, or of all where there are fewer.
+    /// The same in place of the top `count` operands, or of all if there are fewer.
     #[inline(always)]
     pub fn replace(&mut self, count: u8, word: u16, pc: u16)
         ensures { self.new ≡ on_top (replaced count word pc) self.old }
@@ -283,7 +282,7 @@ impl Frames {
         replace_at(place, &mut self.words, count, word, pc);
     }
 
-    /// Takes so many operands away, or all where there are fewer.
+    /// Drops the top `count` operands, or all if there are fewer.
     #[inline(always)]
     pub fn drop_operands(&mut self, count: u8)
         ensures { self.new ≡ on_top (dropped count) self.old }
@@ -294,7 +293,7 @@ impl Frames {
         place.header.depth = depth_at(place).saturating_sub(count);
     }
 
-    /// The top frame is at another pc.
+    /// Sets the pc of the top frame.
     #[inline]
     pub fn set_pc(&mut self, pc: u16)
         ensures { self.new ≡ on_top (at_pc pc) self.old }
@@ -305,7 +304,7 @@ impl Frames {
         place.header.pc = pc;
     }
 
-    /// The top frame is at another pc, and so many operands are in use.
+    /// Sets the pc of the top frame and the number of its operands in use.
     #[inline]
     pub fn place_top(&mut self, pc: u16, depth: u8)
         ensures { self.new ≡ on_top (placed pc depth) self.old }
@@ -317,7 +316,7 @@ impl Frames {
         place.header.depth = depth;
     }
 
-    /// The locals of the top frame and behind them its operands, for writing; no words where there is no frame.
+    /// The locals of the top frame and then its operands, for writing; no words if there is no frame.
     #[inline]
     pub fn words(&mut self) -> &mut [u16]
         ensures* given_back { sem 𝓛 (LendsWords self.entry result) }
@@ -328,9 +327,9 @@ impl Frames {
         self.words.slice_mut(start..end)
     }
 
-    /// Puts a frame on top, if there is room for it: its first locals are so many of the top operands of the frame that
-    /// was on top, which loses them; its other words hold anything. Where the operands aren't there, or there are fewer
-    /// locals, the answer is false.
+    /// Pushes a frame, if there is room for it. The top `words` operands of the frame that was on top are its first
+    /// locals, and that frame loses them; its other words may be anything. It returns false if there are fewer
+    /// operands, or fewer locals.
     #[inline(always)]
     pub fn enter_call(&mut self, header: FrameHeader, size: FrameSize, words: u8) -> bool
         ensures pushed { (top : Frame) (below : List Frame) → self.old.frames ≡ top ∷ below
@@ -356,9 +355,9 @@ impl Frames {
         true
     }
 
-    /// Puts a frame on top, if there is room for it: the arguments are its first locals, and its other words hold
-    /// anything. The frame that was on top loses so many operands, or all where there are fewer. Where there are fewer
-    /// locals than arguments, the answer is false.
+    /// Pushes a frame, if there is room for it: the arguments are its first locals, and its other words may be
+    /// anything. The frame that was on top loses the top `words` operands, or all if there are fewer. It returns false
+    /// if there are fewer locals than arguments.
     #[inline]
     pub fn enter_with(
         &mut self,
@@ -381,7 +380,7 @@ impl Frames {
         self.push_frame(header, size, arguments)
     }
 
-    /// Takes the top frame away, if there is one.
+    /// Pops the top frame, if there is one.
     #[inline]
     pub fn drop_frame(&mut self)
         ensures { self.new ≡ with_frames self.old (drop 1 self.old.frames) }
@@ -391,7 +390,7 @@ impl Frames {
         }
     }
 
-    /// Takes so many frames away from the top; all, where there are fewer.
+    /// Pops the top `count` frames, or all if there are fewer.
     pub fn drop_frames(&mut self, count: u8)
         ensures { self.new ≡ with_frames self.old (drop count self.old.frames) }
     {
@@ -400,7 +399,7 @@ impl Frames {
         }
     }
 
-    /// Takes all frames away.
+    /// Pops all frames.
     #[inline]
     pub fn clear(&mut self)
         ensures { self.new ≡ with_frames self.old [] }
@@ -410,14 +409,15 @@ impl Frames {
     }
 }
 
-/// As many words as were lent are left in a slice, so what is left are the locals and the operands.
+/// As many words as were borrowed are left in a slice, so what is left are the locals and the operands. It does
+/// nothing.
 pub fn lending_laws()
     ensures words { (top : Frame) (below : List Frame) (left : List ℕ)
         → length left ≡ length top.locals + length top.operands
         → with_words_left (top ∷ below) left ≡ with_words top left ∷ below }
 {}
 
-/// What holds of the operands in use.
+/// Laws of the operands in use. It does nothing.
 pub fn operand_laws()
     ensures in_use { (f : Frame) (words : List ℕ) → in_use (with_in_use f words) ≡ words }
     ensures within { (f : Frame) → length (in_use f) ≤ length f.operands }

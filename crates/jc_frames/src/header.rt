@@ -1,4 +1,4 @@
-//! What is known of a frame beside its words.
+//! Headers of frames.
 
 use jc_names::Owner;
 
@@ -14,11 +14,11 @@ pub struct CodePlace {
 #[derive(Clone, Copy, Debug, PartialEq, Eq)]
 pub struct FrameHeader {
     pub method: CodePlace,
-    /// Of a frame that waits the pc of its call.
+    /// The pc; in a waiting frame that of its call.
     pub pc: u16,
     /// How many operands are in use.
     pub depth: u8,
-    /// The owner that is active in the frame.
+    /// The active owner.
     pub active: Owner,
     /// The owner that was active before the last switch, if there was one.
     pub previous: Option<Owner>,
@@ -27,8 +27,8 @@ pub struct FrameHeader {
 /// How many words a frame takes.
 #[derive(Clone, Copy, Debug, PartialEq, Eq)]
 pub struct FrameSize {
-    /// The locals, the arguments among them.
+    /// The locals, the arguments included.
     pub locals: u16,
-    /// The operands that it may have.
+    /// The most operands that it may have.
     pub operands: u8,
 }

@@ -1,11 +1,11 @@
-//! Where frames lie among the words.
+//! The places of frames among the words.
 
 ghost use Rattle.std.specs.Prelude.{◌≡◌, ◌+◌, ◌-◌, ◌<◌, ◌≤◌, Some, length, reverse, slice_get, vec_len};
 ghost use Rattle.jc_frames.specs.PrivateLaid.{first_word, part, put_at};
 
 use crate::header::FrameHeader;
 
-/// A frame: where its words begin, and how many locals, and operands behind them, there is room for.
+/// A frame: where its words begin, and how many locals, and operands after them, it has room for.
 #[derive(Clone, Copy)]
 pub(crate) struct FramePlace {
     pub(crate) header: FrameHeader,
@@ -23,7 +23,7 @@ pub(crate) fn top_of(places: &[FramePlace]) -> FramePlace
     places[places.len() - 1]
 }
 
-/// The place of the frame that has so many others on top of it, if there is one.
+/// The place of the frame under this many others, if there is one.
 #[inline]
 pub(crate) fn place_under(places: &[FramePlace], others: u8) -> Option<FramePlace>
     ensures { result ≡ slice_get (reverse places.now) others }
@@ -36,7 +36,7 @@ pub(crate) fn place_under(places: &[FramePlace], others: u8) -> Option<FramePlac
     }
 }
 
-/// Where the words of the top frame begin; at the first word where there is no frame.
+/// The index of the first word of the top frame, or 0 if there is no frame.
 #[inline]
 pub(crate) fn top_start(places: &[FramePlace]) -> u16
     ensures { result ≡ first_word (reverse places.now) }
@@ -47,7 +47,7 @@ pub(crate) fn top_start(places: &[FramePlace]) -> u16
     }
 }
 
-/// Puts the arguments into the words from one on.
+/// Writes the arguments to the words from an index on.
 pub(crate) fn put_arguments(words: &mut Vec<u16>, start: usize, arguments: &[u16])
     requires within { start + length arguments.now ≤ vec_len words.old }
     ensures items { words.new.items ≡ put_at words.old.items start arguments.now }
@@ -63,7 +63,7 @@ fn put_words(words: &mut [u16], start: usize, arguments: &[u16])
     words[start..start + arguments.len()].copy_from_slice(arguments);
 }
 
-/// Copies words that stand before one to the words from there on.
+/// Copies words that lie before an index to the words from there on.
 #[inline]
 pub(crate) fn copy_arguments(words: &mut Vec<u16>, from: usize, count: usize, start: usize)
     requires before { from + count ≤ start }
@@ -74,7 +74,7 @@ pub(crate) fn copy_arguments(words: &mut Vec<u16>, from: usize, count: usize, st
     copy_words(words, from, count, start);
 }
 
-/// So many words are copied one by one: a copy of all at once would wait for those that were just written.
+/// Up to this many words are copied one by one: a copy of all at once would wait for those that were just written.
 const FEW_WORDS: usize = 4;
 
 /// The same in a slice.

@@ -1,4 +1,4 @@
--- What is wrong with a line that is no command, and where. It is told to people: what a script comes to doesn't hang on
+-- The fault of a line that is no command, and its place. It is a message for people: no result of a script depends on
 -- it.
 use Rattle.std.specs.Prelude.{ℕ, ◌+◌, ◌-◌, ◌/◌, ◌%◌, ◌==◌, ◌&&◌, Bool, true, false, not, nat_le, nat_lt}
 use Rattle.std.specs.Prelude.{List, [], ◌∷◌, ◌++◌, codes, length, Option, Some, None, option_map}
@@ -28,18 +28,18 @@ fault_at cause column = record { cause = cause; column = column }
 
 -- ---- one word, of which the first byte stands in a column
 
--- what may be printed: a byte of ASCII from the space on
+-- whether a byte is printable: in ASCII, from the space on
 abbrev pub is_printable : ℕ → Bool
 is_printable b = nat_le 32 b && nat_lt b 127
 
--- a byte where a digit should stand
+-- a byte in place of a digit
 abbrev pub byte_cause : ℕ → LineCause
 byte_cause b = if is_printable b then NoDigit b else Unprintable b
 
 abbrev pub odd_fault : ℕ → List ℕ → Option LineFault
 odd_fault column word = if length word % 2 == 0 then None else Some (fault_at OddDigit (column + length word - 1))
 
--- the first byte that is no digit, or a digit without another
+-- the first byte that is no digit, or an odd number of digits
 abbrev pub digits_fault : ℕ → List ℕ → Option LineFault
 digits_fault column word =
     option_map_or (λ at. Some (fault_at (byte_cause (get_or word at 0)) (column + at)))
@@ -73,7 +73,7 @@ word_fault forms.Aid column (b ∷ word) = aid_fault column (b ∷ word)
 word_fault Bytes column (b ∷ word) = digits_fault column (b ∷ word)
 word_fault Budget column (b ∷ word) = budget_fault column (b ∷ word)
 
--- ---- the words behind the first
+-- ---- the words after the first
 
 abbrev pub extra_fault : ℕ → List ℕ → LineFault
 extra_fault column [] = fault_at BlankTooMany column
@@ -82,12 +82,12 @@ extra_fault column (b ∷ word) = fault_at WordTooMany column
 abbrev pub missing_fault : ℕ → ℕ → Option LineFault
 missing_fault needed column = if needed == 0 then None else Some (fault_at WordMissing column)
 
--- how many bytes words take, with one space behind each
+-- how many bytes words take, with one space after each
 abbrev pub spread : List (List ℕ) → ℕ
 spread [] = 0
 spread (word ∷ words) = length word + 1 + spread words
 
--- the first fault of words that should have these forms, so many of them at least. Between two words there is a space
+-- the first fault of words that should have these forms, at least `needed` of them. Words are separated by one space
 unfoldable pub words_fault : List Form → ℕ → ℕ → List (List ℕ) → Option LineFault
 words_fault [] needed column [] = None
 words_fault [] needed column (word ∷ words) = Some (extra_fault column word)
@@ -98,17 +98,17 @@ words_fault (form ∷ forms) needed column (word ∷ words) =
 
 -- ---- names in quotes, in a session
 
--- whether a name begins with a quote that has no other
+-- whether a name begins with a quote that isn't closed
 abbrev pub is_open : List ℕ → Bool
 is_open [] = false
 is_open (b ∷ text) = is_quote b && not (is_some (position is_quote text))
 
--- such a quote in front of a line's last bytes
+-- such a quote at the beginning of a line's last bytes
 abbrev pub open_fault : (line last : List ℕ) → Option LineFault
 open_fault line last =
     if is_open last then Some (fault_at OpenQuote (length line + 1 - length last)) else None
 
--- or in front of the second name, where the first is one
+-- or at the beginning of the second name, if the first is a name
 abbrev pub second_fault : (line last : List ℕ) → Option LineFault
 second_fault line last = do
   folder ← cut_name last
@@ -123,7 +123,7 @@ quote_fault line = do
 
 -- ---- a line
 
--- the forms of a command's words, and how many of them have to stand there
+-- the forms of a command's words, and how many of them are needed
 pub record Layout : Type 0 where
   pub forms : List Form
   pub needed : ℕ
@@ -132,7 +132,7 @@ abbrev pub is_session : Dialect → Bool
 is_session Script = false
 is_session Session = true
 
--- bytes stand in one word; in a session in as many as a line can have
+-- bytes are one word; in a session as many words as a line can have
 abbrev pub byte_forms : Dialect → List Form
 byte_forms Script = Bytes ∷ []
 byte_forms Session = replicate 512 Bytes
@@ -159,7 +159,7 @@ keyword_fault (b ∷ word) =
     (position (λ b. not (is_printable b)) (b ∷ word))
     (fault_at UnknownCommand 1)
 
--- behind the first word and a space
+-- the words after the first word and a space
 abbrev pub command_fault : List Form → ℕ → List ℕ → List (List ℕ) → LineFault
 command_fault forms needed keyword words =
     unwrap_or (words_fault forms needed (length keyword + 2) words) (fault_at UnknownCommand 1)
@@ -173,7 +173,7 @@ abbrev pub fault_among : Dialect → List (List ℕ) → LineFault
 fault_among dialect [] = fault_at UnknownCommand 1
 fault_among dialect (keyword ∷ words) = fault_behind dialect keyword words
 
--- white space at the end of a session's line is left out
+-- in a session white space at the end of a line doesn't count
 abbrev pub looked_at : Dialect → List ℕ → List ℕ
 looked_at Script line = line
 looked_at Session line = trimmed line
@@ -183,7 +183,7 @@ abbrev pub quote_fault_in : Dialect → List ℕ → Option LineFault
 quote_fault_in Script line = None
 quote_fault_in Session line = quote_fault line
 
--- a quote without another, or the first fault among the words
+-- the fault of an open quote, or else the first fault among the words
 abbrev pub fault_of : Dialect → List ℕ → LineFault
 fault_of dialect line = unwrap_or (quote_fault_in dialect line) (fault_among dialect (words_of line))
 

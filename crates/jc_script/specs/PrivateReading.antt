@@ -10,17 +10,17 @@ use Rattle.jc_script.specs.declared.reader.NextLine.TheVariants as next
 use Rattle.jc_script.specs.declared.reader.Part.{Part}
 use Rattle.jc_script.specs.declared.reader.Part.TheVariants as parts
 
--- no line feed is among bytes
+-- these bytes have no line feed
 abbrev pub NoFeed : List ℕ → Type 0
 NoFeed bytes = AllByRecursion (λ b. (b == 10) ≡ false) bytes
 
--- what came of a reader's bytes; nothing did at their end
+-- a chunk from a reader; it is empty only at the reader's end
 pub record Fills (unread : List ℕ) (before after : Option (List ℕ)) (some : Bool) : Type 0 where
   pub came : Consumes before after unread
   pub ended : some ≡ false → IsAtEnd after × (unread ≡ [])
   pub there : some ≡ true → 0 < length unread
 
--- the rest of a line, and what stands behind its line feed
+-- the rest of a line, and the bytes after its line feed
 pub record EndsPart (before after : SoFar) : Type 0 where
   pub piece : List ℕ
   pub unread : before.unread ≡ piece ++ 10 ∷ after.unread
@@ -28,7 +28,7 @@ pub record EndsPart (before after : SoFar) : Type 0 where
   pub line : after.line ≡ before.line ++ piece
   pub short : length after.line ≤ most_in_line
 
--- all that was unread belongs to the line
+-- all unread bytes belong to the line
 pub record GoesOnPart (before after : SoFar) : Type 0 where
   pub unread : after.unread ≡ []
   pub feedless : NoFeed before.unread
@@ -46,7 +46,7 @@ TakesPart before after parts.Ended = EndsPart before after
 TakesPart before after parts.GoesOn = GoesOnPart before after
 TakesPart before after parts.TooLong = IsTooLong before after
 
--- bytes are a line so far and what is left behind it
+-- bytes are a line so far and the bytes left after it
 pub record IsSoFar (bytes line left : List ℕ) : Type 0 where
   pub bytes_are : bytes ≡ line ++ left
   pub feedless : NoFeed line
@@ -56,7 +56,7 @@ AreSoFar (Some bytes) line (Some left) = IsSoFar bytes line left
 AreSoFar (Some bytes) line None = ⊥
 AreSoFar None line left = ⊤
 
--- the first line of bytes has too many: more than it may have stand in front of what is left
+-- the first line of these bytes is too long: more bytes than a line may have come before those that are left
 pub record BeginsLong (bytes rest : List ℕ) : Type 0 where
   pub front : List ℕ
   pub are : bytes ≡ front ++ rest
@@ -73,12 +73,12 @@ ReadsOn line (Some bytes) (Some rest) told = ReadsKnown line bytes rest told
 ReadsOn line (Some bytes) None told = ⊥
 ReadsOn line None after told = ⊤
 
--- what a line so far is where nothing is left
+-- what comes if nothing is left to read
 abbrev pub told_last : List ℕ → NextLine
 told_last [] = next.End
 told_last (b ∷ line) = next.Line
 
--- whether bytes are left, where they are known; they stay known
+-- whether bytes are left, if they are known; they stay known
 abbrev pub TellsKnown : List ℕ → NextLine → Type 0
 TellsKnown bytes next.Line = ⊥
 TellsKnown bytes next.End = bytes ≡ []
@@ -93,7 +93,7 @@ TellsMore None after next.Bad = ⊤
 
 -- ---- the rest of a line that is too long
 
--- it ends in what was read, or all of that belongs to it
+-- the line ends in what was read, or all of that belongs to it
 pub record EndsAmong (before after : List ℕ) : Type 0 where
   pub piece : List ℕ
   pub are : before ≡ piece ++ 10 ∷ after
@@ -103,7 +103,7 @@ abbrev pub SkipsPart : List ℕ → List ℕ → Bool → Type 0
 SkipsPart before after true = EndsAmong before after
 SkipsPart before after false = (after ≡ []) × NoFeed before
 
--- bytes without a line feed stand in front of those that are left
+-- bytes without a line feed come before those that are left
 pub record IsPast (bytes left : List ℕ) : Type 0 where
   pub piece : List ℕ
   pub are : bytes ≡ piece ++ left
@@ -114,7 +114,7 @@ ArePast (Some bytes) (Some left) = IsPast bytes left
 ArePast (Some bytes) None = ⊥
 ArePast None left = ⊤
 
--- a line feed stands behind them, or nothing does
+-- a line feed follows them, or nothing does
 pub data IsSkipped (bytes rest : List ℕ) : Type 0 where
   at_feed : EndsAmong bytes rest → IsSkipped bytes rest
   at_end : NoFeed bytes → rest ≡ [] → IsSkipped bytes rest

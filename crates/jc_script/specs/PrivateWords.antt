@@ -1,4 +1,4 @@
--- Private. The words that are left of a line, and names that are cut off.
+-- Private. The remaining words of a line, and names that are cut off.
 use Rattle.std.specs.Prelude.{ℕ, List, [], Option, Some, None, option_copied}
 use Rattle.jc_api.specs.Text.{words_of}
 use Rattle.jc_script.specs.Script as script

@@ -1,4 +1,4 @@
--- What is read of a script: a line, its end, or that the next line is none.
+-- The results of reading a script: a line, its end, or a line that is none.
 use Rattle.std.specs.Prelude.{⊤, ◌≡◌, ℕ, ◌≤◌, List, [], ◌∷◌, ◌++◌, length, Option, Some, None, option_map}
 use Rattle.jc_script.specs.Script.{Bad, line_at, lines_of, most_in_line, most_lines, session_line}
 use Rattle.jc_script.specs.declared.reader.NextLine.{NextLine}
@@ -9,11 +9,11 @@ pub record SoFar : Type 0 where
   pub unread : List ℕ
   pub line : List ℕ
 
--- the bytes that are left of the script, where those are known that its reader has
+-- the bytes that are left of the script, if its reader's bytes are known
 abbrev pub pending : List ℕ → Option (List ℕ) → Option (List ℕ)
 pending unread known = option_map (λ bytes. unread ++ bytes) known
 
--- the first of these lines isn't one, by its number
+-- the first of these lines is bad, with its number
 pub record BeginsBad (number : ℕ) (lines : List (List ℕ)) : Type 0 where
   pub first : List ℕ
   pub others : List (List ℕ)
@@ -26,7 +26,7 @@ pub record TakesLine (number : ℕ) (line bytes rest : List ℕ) : Type 0 where
   pub short : length line ≤ most_in_line
   pub few : number ≤ most_lines
 
--- what is told of bytes that are known; of others nothing is
+-- what a result means for bytes that are known; for others it means nothing
 abbrev pub TellsOf : ℕ → List ℕ → List ℕ → List ℕ → NextLine → Type 0
 TellsOf number line bytes rest next.Line = TakesLine number line bytes rest
 TellsOf number line bytes rest next.End = lines_of bytes ≡ []
@@ -44,7 +44,7 @@ pub record TakesShortLine (line bytes rest : List ℕ) : Type 0 where
   pub lines : lines_of bytes ≡ line ∷ lines_of rest
   pub short : length line ≤ most_in_line
 
--- a line was taken off that is none
+-- a line that is none was taken off
 pub record SkipsLine (bytes rest : List ℕ) : Type 0 where
   pub first : List ℕ
   pub lines : lines_of bytes ≡ first ∷ lines_of rest

@@ -1,4 +1,4 @@
--- Scripts: their lines, and the commands that lines ask for. A byte is its number: 10 is the line feed.
+-- Scripts: their lines, and the commands that these are. A byte is its number: 10 is the line feed.
 use Rattle.std.specs.Prelude.{ℕ, suc, ◌+◌, ◌-◌, ◌^◌, ◌==◌, ◌&&◌, ◌||◌, nat_le, nat_lt}
 use Rattle.std.specs.Prelude.{List, [], ◌∷◌, ◌++◌, drop, length, take, Option, Some, None}
 use Rattle.std.specs.Prelude.{Bool, bytes_eq, codes, not, position, if◌then◌else◌}
@@ -13,12 +13,12 @@ use Rattle.jc_api.specs.Text.{given, is_skipped, spelled_aid, words_of}
 
 -- ---- lines
 
--- the lines of a script: each ends with a line feed. What stands behind the last one is a line where it has a byte
+-- the lines of a script: each ends with a line feed. The bytes after the last line feed are a line if there are any
 unfoldable pub lines_of : List ℕ → List (List ℕ)
 lines_of [] = []
 lines_of (b ∷ bytes) = if b == 10 then [] ∷ lines_of bytes else onto_first b (lines_of bytes)
 
--- a line has at most so many bytes without its line feed, and a script so many lines
+-- the most bytes of a line without its line feed, and the most lines of a script
 abbrev pub most_in_line : ℕ
 most_in_line = 1024
 
@@ -27,8 +27,8 @@ most_lines = 100000
 
 -- ---- commands
 
--- a package and its certificate, by their names; an applet, the new instance and its data; a command of a reader; a
--- reset; and in a session how many cells and objects are used, and how many steps a call may make from now on
+-- a package and its certificate, by their names; an applet, the new instance and its data; a command APDU; a reset; and
+-- in a session how many cells and objects are used, and how many steps a call may make from now on
 pub data ScriptCommand : Type 0 where
   Load : (folder certificate : List ℕ) → ScriptCommand
   Install : (applet instance incoming : List ℕ) → ScriptCommand
@@ -38,7 +38,7 @@ pub data ScriptCommand : Type 0 where
   Objects : ScriptCommand
   Steps : (steps : ℕ) → ScriptCommand
 
--- where the first control byte of ASCII stands, as a carriage return or a tab is
+-- the index of the first control byte of ASCII, such as a carriage return or a tab
 abbrev pub control_in : List ℕ → Option ℕ
 control_in word = position is_ascii_control word
 
@@ -49,11 +49,11 @@ text_of word = if is_utf8 word then Some word else None
 abbrev pub name_of : List ℕ → Option (List ℕ)
 name_of word = if nat_lt 0 (length word) && not (is_some (control_in word)) then text_of word else None
 
--- one byte or more, two hexadecimal digits each
+-- at least one byte, two hexadecimal digits each
 abbrev pub bytes_of : List ℕ → Option (List ℕ)
 bytes_of word = if nat_lt 0 (length word) && nat_le (length word) most_in_line then given (decode_of word) else None
 
--- a budget of steps: decimal digits that spell 1 to 4,294,967,295. Zeros may lead
+-- a budget of steps: decimal digits that encode 1 to 4,294,967,295. Leading zeros are allowed
 abbrev pub is_budget : List ℕ → Bool
 is_budget text = list_all is_ascii_digit text && (nat_lt 0 (digits_value 10 text) && nat_lt (digits_value 10 text) (2 ^ 32))
 
@@ -63,7 +63,7 @@ budget_in text = if is_budget text then Some (digits_value 10 text) else None
 abbrev pub budget_of : List ℕ → Option ℕ
 budget_of word = text_of word >>= budget_in
 
--- a folder and a certificate, where both are names
+-- a folder and a certificate, if both are names
 abbrev pub loading : (folder certificate : List ℕ) → Option ScriptCommand
 loading folder certificate = do
   f ← name_of folder
@@ -75,7 +75,7 @@ unfoldable pub load_asked : List (List ℕ) → Option ScriptCommand
 load_asked (folder ∷ certificate ∷ []) = loading folder certificate
 load_asked _ = None
 
--- `install APPLET INSTANCE`, and DATA behind them
+-- `install APPLET INSTANCE`, and optionally DATA
 unfoldable pub install_asked : List (List ℕ) → Option ScriptCommand
 install_asked (applet ∷ instance ∷ []) = do
   a ← spelled_aid applet
@@ -100,7 +100,7 @@ unfoldable pub reset_asked : List (List ℕ) → Option ScriptCommand
 reset_asked [] = Some Reset
 reset_asked _ = None
 
--- by the first word
+-- the first word selects the command
 unfoldable pub asked : List (List ℕ) → Option ScriptCommand
 asked [] = None
 asked (keyword ∷ words) =
@@ -117,7 +117,7 @@ steps_asked (number ∷ []) = do
   Some (Steps n)
 steps_asked _ = None
 
--- bytes in several words, behind those so far: at most as many as a line of one word can spell
+-- bytes in several words, after those so far: at most as many as a line of one word can encode
 abbrev pub most_bytes : ℕ
 most_bytes = 512
 
@@ -134,7 +134,7 @@ pieces_asked (word ∷ words) = do
   bytes ← joined_behind [] (word ∷ words)
   Some (Apdu bytes)
 
--- in a session, by the first word
+-- in a session the first word selects the command, too
 unfoldable pub asked_in_session : List (List ℕ) → Option ScriptCommand
 asked_in_session [] = None
 asked_in_session (keyword ∷ words) =
@@ -144,7 +144,7 @@ asked_in_session (keyword ∷ words) =
 
 -- ---- names in quotes, in a session: `load "my folder" "my certificate"`
 
--- a name at the front of a text, and what stands behind it and a space, if a space stands there
+-- the first name of a text, and what follows after a space, if there is a space
 pub record Cut : Type 0 where
   pub name : List ℕ
   pub behind : Option (List ℕ)
@@ -155,29 +155,29 @@ is_space b = b == 32
 abbrev pub is_quote : ℕ → Bool
 is_quote b = b == 34
 
--- a name that doesn't begin with a quote goes up to the first space
+-- a name that doesn't begin with a quote ends before the first space
 abbrev pub cut_at_space : List ℕ → Cut
 cut_at_space text =
     option_map_or (λ at. record { name = take at text; behind = Some (drop (at + 1) text) }) (position is_space text)
     (record { name = text; behind = None })
 
--- behind a closing quote stands nothing, or a space
+-- a closing quote ends the text, or a space follows it
 abbrev pub behind_quote : (name text : List ℕ) → Option Cut
 behind_quote name [] = Some (record { name = name; behind = None })
 behind_quote name (b ∷ text) = if is_space b then Some (record { name = name; behind = Some text }) else None
 
--- behind an opening quote the name goes up to the next quote
+-- after an opening quote the name ends before the next quote
 abbrev pub cut_at_quote : List ℕ → Option Cut
 cut_at_quote text = do
   at ← position is_quote text
   behind_quote (take at text) (drop (at + 1) text)
 
--- a name that begins with a quote stands between two quotes
+-- a name that begins with a quote is between two quotes
 unfoldable pub cut_name : List ℕ → Option Cut
 cut_name [] = Some (cut_at_space [])
 cut_name (b ∷ text) = if is_quote b then cut_at_quote text else Some (cut_at_space (b ∷ text))
 
--- two names, one space between them and nothing behind them
+-- two names, separated by one space, with nothing after them
 unfoldable pub quoted_load : List ℕ → Option ScriptCommand
 quoted_load text = do
   folder ← cut_name text
@@ -185,7 +185,7 @@ quoted_load text = do
   certificate ← cut_name rest
   if is_some certificate.behind then None else loading folder.name certificate.name
 
--- what stands behind `load` and a space, in a line that has a quote
+-- the text after `load` and a space, in a line with a quote
 abbrev pub quoted_names : List ℕ → Option (List ℕ)
 quoted_names line =
     if bytes_eq (cut_at_space line).name (codes "load") && is_some (position is_quote line)
@@ -196,14 +196,14 @@ quoted_names line =
 unfoldable pub asked_by_line : List ℕ → Option ScriptCommand
 asked_by_line line = option_map_or quoted_load (quoted_names line) (asked_in_session (words_of line))
 
--- ---- what a line says
+-- ---- the meaning of a line
 
 pub data ScriptLine : Type 0 where
   Skipped : ScriptLine
   Asks : (command : ScriptCommand) → ScriptLine
   Bad : ScriptLine
 
--- an empty line and one whose first byte is # are skipped; words have one space between them
+-- an empty line and one whose first byte is # are skipped; words are separated by one space
 unfoldable pub said_by : List ℕ → ScriptLine
 said_by line = if is_skipped line then Skipped else option_map_or Asks (asked (words_of line)) Bad
 
@@ -211,7 +211,7 @@ said_by line = if is_skipped line then Skipped else option_map_or Asks (asked (w
 abbrev pub trimmed : List ℕ → List ℕ
 trimmed line = take (length line - suffix_len is_ascii_whitespace line) line
 
--- a line of a session: `cells`, `objects` and `steps` too; bytes of a command may stand in several words, and names in
+-- a session's line: also `cells`, `objects` and `steps`; the bytes of a command may be in several words, and names in
 -- quotes
 unfoldable pub said_trimmed : List ℕ → ScriptLine
 said_trimmed line =
@@ -220,15 +220,16 @@ said_trimmed line =
     else (if is_skipped line then Skipped
     else option_map_or Asks (asked_by_line line) Bad))
 
--- white space at its end counts for nothing
+-- white space at its end doesn't count
 abbrev pub said_in_session : List ℕ → ScriptLine
 said_in_session line = said_trimmed (trimmed line)
 
--- whatever its number is
+-- the meaning of a session's line, whatever its number
 abbrev pub session_line : List ℕ → ScriptLine
 session_line line = if nat_lt most_in_line (length line) then Bad else said_in_session line
 
--- a line by its number, from 1 on: one that is too long is bad, and so is one too many
+-- the meaning of a line by its number, from 1 on: a line that is too long is bad, and so is a line whose number is too
+-- great
 abbrev pub line_at : ℕ → List ℕ → ScriptLine
 line_at number line =
     if nat_lt most_lines number || nat_lt most_in_line (length line) then Bad else said_by line

@@ -1,4 +1,4 @@
--- What is told of a line, in the words of scripts.
+-- The code's lines and commands as the definitions of scripts.
 use Rattle.jc_script.specs.Script as script
 use Rattle.jc_script.specs.declared.command.ScriptCommand.{ScriptCommand}
 use Rattle.jc_script.specs.declared.command.ScriptCommand.TheVariants as commands

@@ -1,4 +1,4 @@
-//! Bytes that are read at once, to be taken part by part.
+//! A chunk of bytes from a reader, which is taken part by part.
 
 ghost use Rattle.std.specs.Prelude.{◌≡◌, ◌≤◌, ◌==◌, [], length, drop, IfOk, OnErr};
 ghost use Rattle.std.specs.Io.KnownBytes.{Consumes, IsAtEnd, Keeps};
@@ -6,7 +6,7 @@ ghost use Rattle.std.specs.Io.KnownBytes.{Consumes, IsAtEnd, Keeps};
 use std::io::{self, Read};
 use std::marker::Model;
 
-/// How many bytes are read at once, at most.
+/// The most bytes that are read at once.
 const MOST: usize = 4096;
 
 /// Bytes that were read. Some of them may be taken already.
@@ -28,7 +28,7 @@ impl Model for Chunk {
 }
 
 impl Chunk {
-    /// None.
+    /// An empty chunk.
     pub(crate) fn new() -> Chunk
         ensures { result ≡ [] }
     {
@@ -39,14 +39,14 @@ impl Chunk {
         }
     }
 
-    /// Whether none is left.
+    /// Whether no byte is left.
     pub(crate) fn is_empty(&self) -> bool
         ensures { result ≡ (length self.now == 0) }
     {
         self.at == self.end
     }
 
-    /// Those that are left.
+    /// The bytes that are left.
     pub(crate) fn left(&self) -> &[u8]
         ensures bytes { result.now ≡ self.now }
         ensures few { length result.now ≤ 4096 }
@@ -54,7 +54,7 @@ impl Chunk {
         &self.bytes[self.at..self.end]
     }
 
-    /// Takes so many of the first.
+    /// Takes the first `count` bytes.
     pub(crate) fn take(&mut self, count: usize)
         requires { count ≤ length self.old }
         ensures { self.new ≡ drop count self.old }
@@ -62,7 +62,7 @@ impl Chunk {
         self.at += count;
     }
 
-    /// Reads bytes in place of those that are left: how many. None comes only at the reader's end.
+    /// Replaces the bytes by new ones from the reader, and returns how many came. It is 0 only at the reader's end.
     pub(crate) fn fill<R: Read>(&mut self, reader: &mut R) -> io::Result<usize>
         ensures filled { IfOk result (λ count. count ≡ length self.new) }
         ensures came { IfOk result (λ count. Consumes (R.remaining reader.old) (R.remaining reader.new) self.new) }

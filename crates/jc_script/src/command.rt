@@ -1,4 +1,4 @@
-//! What a line of a script asks for.
+//! The commands of a script's lines.
 
 ghost use Rattle.std.specs.Prelude.{◌≡◌, ◌≤◌, [], length, option_map};
 ghost use Rattle.jc_script.specs.Script as script;
@@ -16,47 +16,47 @@ use jc_base::Aid;
 /// The most bytes of a line, without its line feed.
 pub const MOST_IN_LINE: usize = 1024;
 
-/// The most bytes that a line can spell in hexadecimal.
+/// The most bytes that a line can encode in hexadecimal.
 pub const MOST_BYTES: usize = MOST_IN_LINE / 2;
 
 /// A command for a card.
 #[derive(Debug, Drop)]
 pub enum ScriptCommand<'a> {
-    /// A package is loaded: the folder of its component files, and the file of its certificate.
+    /// Loads a package: the folder of its component files, and the file of its certificate.
     Load {
         folder: &'a str,
         certificate: &'a str,
     },
-    /// An applet is installed: its AID, that of the new instance, and data for its install method.
+    /// Installs an applet: its AID, that of the new instance, and data for its install method.
     Install {
         applet: Aid,
         instance: Aid,
         incoming: &'a [u8],
     },
-    /// A reader sends a command.
+    /// A command APDU from a reader.
     Apdu(&'a [u8]),
-    /// The card is reset.
+    /// Resets the card.
     Reset,
-    /// How many cells are used: a line of a session.
+    /// Asks how many cells are used; only in a session.
     Cells,
-    /// How many objects there are: a line of a session.
+    /// Asks how many objects there are; only in a session.
     Objects,
-    /// How many steps a call may make from now on, at least 1: a line of a session.
+    /// Sets how many steps a call may make from now on, at least 1; only in a session.
     Steps(u32),
 }
 
-/// What a line says.
+/// The meaning of a line.
 #[derive(Debug, Drop)]
 pub enum ScriptLine<'a> {
-    /// Nothing: it is empty, or a comment.
+    /// The line is empty, or a comment.
     Skipped,
-    /// It asks for a command.
+    /// The line is a command.
     Asks(ScriptCommand<'a>),
-    /// It is none.
+    /// The line is neither.
     Bad,
 }
 
-/// A folder and a certificate, where both are names.
+/// A folder and a certificate, if both are names.
 fn loading<'a>(folder: &'a [u8], certificate: &'a [u8]) -> Option<ScriptCommand<'a>>
     ensures { option_map shown_command result ≡ loading folder.now certificate.now }
 {
@@ -78,7 +78,7 @@ fn load_asked(mut words: Words) -> Option<ScriptCommand>
     loading(folder, certificate)
 }
 
-/// Two names, of which some stand in quotes, with one space between them.
+/// Two names, separated by one space; some of them are in quotes.
 #[tactic(auto, unfolding(crate::specs::Script::quoted_load))]
 fn quoted_load(text: &[u8]) -> Option<ScriptCommand<'_>>
     ensures { option_map shown_command result ≡ quoted_load text.now }
@@ -138,7 +138,7 @@ fn reset_asked(mut words: Words) -> Option<ScriptCommand>
     }
 }
 
-/// The command that words ask for, if they do.
+/// The command of these words, if they are one.
 #[tactic(auto, unfolding(crate::specs::Script::asked))]
 fn asked<'a>(mut words: Words<'a>, room: &'a mut [u8; MOST_BYTES]) -> Option<ScriptCommand<'a>>
     ensures { option_map shown_command result ≡ asked words.entry }
@@ -168,7 +168,7 @@ fn steps_asked(mut words: Words) -> Option<ScriptCommand>
     Some(ScriptCommand::Steps(budget_of(number)?))
 }
 
-/// The bytes that words spell, one behind the other, put down in this room, if there is room.
+/// The bytes that the words encode, one after the other, written to this room, if there is room.
 fn joined<'a>(words: &mut Words<'_>, room: &'a mut [u8; MOST_BYTES]) -> Option<&'a [u8]>
     ensures { option_map (λ bytes. bytes.now) result ≡ joined_behind [] words.old }
 {
@@ -192,7 +192,7 @@ fn pieces_asked<'a>(
     Some(ScriptCommand::Apdu(joined(&mut words, room)?))
 }
 
-/// The command that words of a session ask for, if they do.
+/// The command of a session's words, if they are one.
 #[tactic(auto, unfolding(crate::specs::Script::asked_in_session))]
 fn asked_in_session<'a>(
     words: Words<'a>,
@@ -211,7 +211,7 @@ fn asked_in_session<'a>(
     }
 }
 
-/// The command that a line of a session asks for, if it does.
+/// The command of a session's line, if it is one.
 #[tactic(auto, unfolding(crate::specs::Script::asked_by_line))]
 fn asked_by_line<'a>(line: &'a [u8], room: &'a mut [u8; MOST_BYTES]) -> Option<ScriptCommand<'a>>
     ensures { option_map shown_command result ≡ asked_by_line line.now }
@@ -222,7 +222,7 @@ fn asked_by_line<'a>(line: &'a [u8], room: &'a mut [u8; MOST_BYTES]) -> Option<S
     }
 }
 
-/// What a line says, of at most [`MOST_IN_LINE`] bytes. The bytes that it spells are put down in this room.
+/// The meaning of a line of at most [`MOST_IN_LINE`] bytes. The bytes that it encodes are written to this room.
 #[tactic(auto, unfolding(crate::specs::Script::said_by))]
 pub fn said_by<'a>(line: &'a [u8], room: &'a mut [u8; MOST_BYTES]) -> ScriptLine<'a>
     ensures { shown result ≡ script.said_by line.now }
@@ -236,15 +236,15 @@ pub fn said_by<'a>(line: &'a [u8], room: &'a mut [u8; MOST_BYTES]) -> ScriptLine
     }
 }
 
-/// What a line of a session says, of at most [`MOST_IN_LINE`] bytes: it may ask for what is used, and say a budget of
-/// steps, too. The names of `load` may stand in quotes.
+/// The meaning of a session's line of at most [`MOST_IN_LINE`] bytes. It may also ask how much is used, and set a
+/// budget of steps. The names of `load` may be in quotes.
 pub fn said_in_session<'a>(line: &'a [u8], room: &'a mut [u8; MOST_BYTES]) -> ScriptLine<'a>
     ensures { shown result ≡ script.said_in_session line.now }
 {
     said_trimmed(trimmed(line), room)
 }
 
-/// The same of a line without white space at its end.
+/// The same for a line without white space at its end.
 #[tactic(auto, unfolding(crate::specs::Script::said_trimmed))]
 fn said_trimmed<'a>(line: &'a [u8], room: &'a mut [u8; MOST_BYTES]) -> ScriptLine<'a>
     ensures { shown result ≡ script.said_trimmed line.now }

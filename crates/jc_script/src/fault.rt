@@ -1,42 +1,42 @@
-//! What is wrong with a line of a script.
+//! Faults of a script's line.
 
 ghost use Rattle.std.specs.Prelude.{◌≡◌};
 
 use crate::hexadecimal::Hexadecimal;
 use std::fmt;
 
-/// What is wrong with a line.
+/// The cause of a line's fault.
 #[derive(Clone, Copy, Debug, PartialEq, Eq)]
 pub enum LineCause {
-    /// A space begins or ends the line, or stands behind another.
+    /// A space begins or ends the line, or follows another space.
     BlankTooMany,
     /// The first word is no command.
     UnknownCommand,
     /// The command has too few words.
     WordMissing,
-    /// The command has too many.
+    /// The command has too many words.
     WordTooMany,
     /// A word in hexadecimal has an odd number of digits.
     OddDigit,
     /// A byte of such a word is no digit.
     NoDigit(u8),
-    /// A byte isn't printable, where a command or a digit should stand.
+    /// A byte isn't printable, in place of a command or a digit.
     Unprintable(u8),
     /// An AID has fewer than 5 or more than 16 bytes.
     AidLength,
     /// A name isn't UTF-8.
     NotText,
-    /// A name begins with a quote, and no other follows.
+    /// A name begins with a quote that isn't closed.
     OpenQuote,
     /// A budget of steps isn't 1 to 4,294,967,295 in decimal digits.
     NoBudget,
     /// The line has more than 1,024 bytes.
     TooLong,
-    /// It stands behind 100,000 lines.
+    /// It follows 100,000 lines.
     TooMany,
 }
 
-/// A byte that isn't printable, as it is written in a text of Rust.
+/// A byte that isn't printable, as Rust escapes it.
 #[derive(Clone, Copy)]
 struct Escaped {
     byte: u8,
@@ -88,11 +88,11 @@ impl fmt::Display for LineCause {
     }
 }
 
-/// What is wrong with a line, and where.
+/// A line's fault, and its place.
 #[derive(Clone, Copy, Debug, PartialEq, Eq)]
 pub struct LineFault {
     pub cause: LineCause,
-    /// The column of the first byte at fault, from 1 on, in bytes. Where something is missing it is the next one.
+    /// The column of the first byte at fault, from 1 on, in bytes. If something is missing it is the next column.
     pub column: usize,
 }
 

@@ -1,4 +1,4 @@
-//! What is wrong with a line that is no command: the first fault that a reader of the line meets.
+//! The first fault of a line that is no command.
 
 ghost use Rattle.std.specs.Prelude.{◌≡◌, ◌+◌, ◌<◌, ◌≤◌, length, not, position, IfSome};
 ghost use Rattle.std.specs.Char.{is_ascii_hexdigit};
@@ -14,14 +14,14 @@ use crate::words::{
     Words, budget_of, control_in, cut_name, name_of, quote_in, quoted_names, trimmed,
 };
 
-/// Whose line it is: a script's, or a session's, which has three commands more.
+/// The kind of the line: a script's, or a session's, which has three more commands.
 #[derive(Clone, Copy, Debug, PartialEq, Eq)]
 pub enum Dialect {
     Script,
     Session,
 }
 
-/// What a word has to be.
+/// The form that a word has to have.
 #[derive(Clone, Copy, Debug, PartialEq, Eq)]
 enum Form {
     /// The name of a file or a folder.
@@ -41,14 +41,14 @@ fn fault_at(cause: LineCause, column: usize) -> LineFault
     LineFault { cause, column }
 }
 
-/// Whether a byte may be printed: it is one of ASCII, from the space on.
+/// Whether a byte is printable: in ASCII, from the space on.
 fn is_printable(byte: u8) -> bool
     ensures { result ≡ is_printable byte }
 {
     32 <= byte && byte < 127
 }
 
-/// What is wrong with a byte where a digit should stand.
+/// The fault of a byte in place of a digit.
 fn byte_cause(byte: u8) -> LineCause
     ensures { result ≡ byte_cause byte }
 {
@@ -59,7 +59,7 @@ fn byte_cause(byte: u8) -> LineCause
     }
 }
 
-/// A digit without another.
+/// The fault of an odd number of digits.
 fn odd_fault(column: usize, word: &[u8]) -> Option<LineFault>
     requires { column + length word.now ≤ 1027 }
     ensures { result ≡ odd_fault column word.now }
@@ -71,7 +71,7 @@ fn odd_fault(column: usize, word: &[u8]) -> Option<LineFault>
     }
 }
 
-/// Where the first byte stands that is no digit.
+/// The index of the first byte that is no digit.
 fn no_digit_in(word: &[u8]) -> Option<usize>
     ensures place { result ≡ position (λ b. not (is_ascii_hexdigit b)) word.now }
     ensures within { IfSome result (λ at. at < length word.now) }
@@ -79,7 +79,7 @@ fn no_digit_in(word: &[u8]) -> Option<usize>
     word.iter().position(|byte| !byte.is_ascii_hexdigit())
 }
 
-/// Where the first byte stands that isn't printable.
+/// The index of the first byte that isn't printable.
 fn unprintable_in(word: &[u8]) -> Option<usize>
     ensures place { result ≡ position (λ b. not (is_printable b)) word.now }
     ensures within { IfSome result (λ at. at < length word.now) }
@@ -87,7 +87,7 @@ fn unprintable_in(word: &[u8]) -> Option<usize>
     word.iter().position(|byte| !is_printable(*byte))
 }
 
-/// What is wrong with digits, of which the first stands in a column.
+/// The fault of digits that begin in a column.
 fn digits_fault(column: usize, word: &[u8]) -> Option<LineFault>
     requires { column + length word.now ≤ 1027 }
     ensures { result ≡ digits_fault column word.now }
@@ -98,7 +98,7 @@ fn digits_fault(column: usize, word: &[u8]) -> Option<LineFault>
     }
 }
 
-/// What is wrong with an AID's digits.
+/// The fault of an AID's digits.
 fn aid_fault(column: usize, word: &[u8]) -> Option<LineFault>
     requires { column + length word.now ≤ 1027 }
     ensures { result ≡ aid_fault column word.now }
@@ -125,7 +125,7 @@ fn control_fault(column: usize, word: &[u8]) -> Option<LineFault>
     }
 }
 
-/// What is wrong with a name.
+/// The fault of a name.
 fn name_fault(column: usize, word: &[u8]) -> Option<LineFault>
     requires { column + length word.now ≤ 1027 }
     ensures { result ≡ name_fault column word.now }
@@ -136,7 +136,7 @@ fn name_fault(column: usize, word: &[u8]) -> Option<LineFault>
     }
 }
 
-/// What is wrong with a budget of steps.
+/// The fault of a budget of steps.
 fn budget_fault(column: usize, word: &[u8]) -> Option<LineFault>
     ensures { result ≡ budget_fault column word.now }
 {
@@ -146,7 +146,7 @@ fn budget_fault(column: usize, word: &[u8]) -> Option<LineFault>
     }
 }
 
-/// What is wrong with a word.
+/// The fault of a word.
 fn word_fault(form: Form, column: usize, word: &[u8]) -> Option<LineFault>
     requires { column + length word.now ≤ 1027 }
     ensures { result ≡ word_fault form column word.now }
@@ -162,7 +162,7 @@ fn word_fault(form: Form, column: usize, word: &[u8]) -> Option<LineFault>
     }
 }
 
-/// What is wrong with a word that shouldn't stand there.
+/// The fault of a surplus word.
 fn extra_fault(column: usize, word: &[u8]) -> LineFault
     ensures { result ≡ extra_fault column word.now }
 {
@@ -173,7 +173,7 @@ fn extra_fault(column: usize, word: &[u8]) -> LineFault
     }
 }
 
-/// What is wrong where a word is missing, if it is needed.
+/// The fault of a missing word, if it is needed.
 fn missing_fault(needed: usize, column: usize) -> Option<LineFault>
     ensures { result ≡ missing_fault needed column }
 {
@@ -184,7 +184,7 @@ fn missing_fault(needed: usize, column: usize) -> Option<LineFault>
     }
 }
 
-/// The first fault of words that should have these forms, so many of them at least.
+/// The first fault of words that should have these forms, at least `needed` of them.
 fn words_fault(
     forms: &[Form],
     needed: usize,
@@ -213,7 +213,7 @@ fn words_fault(
     }
 }
 
-/// What is wrong with a first word that is no command.
+/// The fault of a first word that is no command.
 fn keyword_fault(keyword: &[u8]) -> LineFault
     requires { length keyword.now ≤ 1024 }
     ensures { result ≡ keyword_fault keyword.now }
@@ -227,7 +227,7 @@ fn keyword_fault(keyword: &[u8]) -> LineFault
     }
 }
 
-/// What is wrong behind a command's first word.
+/// The fault of the words after a command's first word.
 fn command_fault(forms: &[Form], needed: usize, keyword: &[u8], words: &mut Words<'_>) -> LineFault
     requires { length keyword.now + spread words.old ≤ 1024 }
     ensures { result ≡ command_fault forms.now needed keyword.now words.old }
@@ -248,7 +248,7 @@ fn byte_forms(dialect: Dialect) -> &'static [Form]
     }
 }
 
-/// What is wrong with a line of these words.
+/// The fault of a line with these words.
 fn fault_behind(dialect: Dialect, keyword: &[u8], words: &mut Words<'_>) -> LineFault
     requires { length keyword.now + spread words.old ≤ 1024 }
     ensures { result ≡ fault_behind dialect keyword.now words.old }
@@ -272,7 +272,7 @@ fn fault_behind(dialect: Dialect, keyword: &[u8], words: &mut Words<'_>) -> Line
     }
 }
 
-/// What of a line is looked at: of a session's not the white space at its end.
+/// The part of a line that counts: in a session without white space at its end.
 fn looked_at(dialect: Dialect, line: &[u8]) -> &[u8]
     ensures looked_at { result.now ≡ looked_at dialect line.now }
     ensures shorter { length result.now ≤ length line.now }
@@ -283,7 +283,7 @@ fn looked_at(dialect: Dialect, line: &[u8]) -> &[u8]
     }
 }
 
-/// Whether a name begins with a quote that has no other.
+/// Whether a name begins with a quote that isn't closed.
 fn is_open(text: &[u8]) -> bool
     ensures { result ≡ is_open text.now }
 {
@@ -293,7 +293,7 @@ fn is_open(text: &[u8]) -> bool
     }
 }
 
-/// Such a quote in front of a line's last bytes.
+/// The fault of such a quote at the beginning of a line's last bytes.
 fn open_fault(line: &[u8], last: &[u8]) -> Option<LineFault>
     requires { length line.now ≤ 1024 }
     ensures { result ≡ open_fault line.now last.now }
@@ -306,7 +306,7 @@ fn open_fault(line: &[u8], last: &[u8]) -> Option<LineFault>
     }
 }
 
-/// Such a quote in front of the second name, where the first is one.
+/// The fault of such a quote at the beginning of the second name, if the first is a name.
 fn second_fault(line: &[u8], last: &[u8]) -> Option<LineFault>
     requires { length line.now ≤ 1024 }
     ensures { result ≡ second_fault line.now last.now }
@@ -316,7 +316,7 @@ fn second_fault(line: &[u8], last: &[u8]) -> Option<LineFault>
     open_fault(line, folder.behind?)
 }
 
-/// A quote without another, in a line with names in quotes.
+/// The fault of an open quote, in a line with names in quotes.
 fn quote_fault(line: &[u8]) -> Option<LineFault>
     requires { length line.now ≤ 1024 }
     ensures { result ≡ quote_fault line.now }
@@ -328,7 +328,7 @@ fn quote_fault(line: &[u8]) -> Option<LineFault>
     }
 }
 
-/// A script has no names in quotes.
+/// The same in a session. A script has no names in quotes.
 fn quote_fault_in(dialect: Dialect, line: &[u8]) -> Option<LineFault>
     requires { length line.now ≤ 1024 }
     ensures { result ≡ quote_fault_in dialect line.now }
@@ -339,7 +339,7 @@ fn quote_fault_in(dialect: Dialect, line: &[u8]) -> Option<LineFault>
     }
 }
 
-/// What is wrong with the words of a line.
+/// The first fault among the words of a line.
 fn fault_among(dialect: Dialect, line: &[u8]) -> LineFault
     requires { length line.now ≤ 1024 }
     ensures { result ≡ fault_among dialect (words_of line.now) }
@@ -351,7 +351,7 @@ fn fault_among(dialect: Dialect, line: &[u8]) -> LineFault
     }
 }
 
-/// A quote without another, or the first fault among the words.
+/// The fault of an open quote, or else the first fault among the words.
 fn fault_of(dialect: Dialect, line: &[u8]) -> LineFault
     requires { length line.now ≤ 1024 }
     ensures { result ≡ fault_of dialect line.now }
@@ -362,8 +362,8 @@ fn fault_of(dialect: Dialect, line: &[u8]) -> LineFault
     }
 }
 
-/// What is wrong with a line that is no command, of at most [`MOST_IN_LINE`](crate::MOST_IN_LINE) bytes: the first
-/// fault from the left. It is for people: what a line does hangs on [`said_by`](crate::said_by) alone.
+/// The first fault, from the left, of a line of at most [`MOST_IN_LINE`](crate::MOST_IN_LINE) bytes that is no command.
+/// It is a message for people: the meaning of a line depends on [`said_by`](crate::said_by) alone.
 pub fn fault_in(dialect: Dialect, line: &[u8]) -> LineFault
     requires { length line.now ≤ 1024 }
     ensures { result ≡ fault_in dialect line.now }

@@ -7,7 +7,7 @@ ghost use Rattle.hex.specs.Hex.{encode_upper, upper_digits};
 use arrayvec::{ArrayVec, CapacityError};
 use std::fmt;
 
-/// The digit of a value, as a byte of ASCII.
+/// The digit of a value, as an ASCII byte.
 fn digit_byte(value: u8) -> u8
     requires { value < 16 }
     ensures digit { result ≡ slice_index upper_digits value }
@@ -29,7 +29,8 @@ fn digit_of(value: u8) -> char
     char::from(digit_byte(value))
 }
 
-/// Puts bytes behind a line, two digits each, in upper case. Where there is no room, the first of them may stand there.
+/// Appends bytes to a line, two digits each, in upper case. If there is no room, it may have appended the first of
+/// them.
 pub fn put_digits<const MOST: usize>(
     line: &mut ArrayVec<u8, MOST>,
     bytes: &[u8],

@@ -1,4 +1,4 @@
-//! Scripts: their lines, as they are read, and the commands that lines ask for.
+//! Scripts: reading their lines, and the commands that these are.
 #![tactic(auto)]
 
 mod chunk;

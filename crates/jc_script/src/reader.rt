@@ -20,13 +20,13 @@ pub const MOST_LINES: u32 = 100_000;
 /// The most calls of a reader.
 const MOST_CALLS: u32 = 16_777_216;
 
-/// Why no line is read.
+/// Why reading a line failed.
 #[derive(Debug, Drop, Error)]
 pub enum ReadFault {
-    /// The system says why.
+    /// The system reports an error.
     #[error("{0}")]
     System(io::Error),
-    /// It was read 16,777,216 times, and didn't end.
+    /// The reader was called 16,777,216 times, and didn't end.
     #[error("it was read 16777216 times and didn't end")]
     TooManyReads,
 }
@@ -36,7 +36,7 @@ pub enum ReadFault {
 pub enum NextLine {
     /// A line.
     Line,
-    /// Nothing.
+    /// The script ends.
     End,
     /// A line that is too long, or one line too many.
     Bad,
@@ -45,15 +45,16 @@ pub enum NextLine {
 /// How a line goes on in a chunk.
 #[derive(Clone, Copy)]
 enum Part {
-    /// It ended.
+    /// The line ends.
     Ended,
-    /// The chunk did.
+    /// The chunk ends.
     GoesOn,
-    /// It has too many bytes.
+    /// The line has too many bytes.
     TooLong,
 }
 
-/// Reads the lines of a script one by one, and no more than is there: a script can be a pipe. It takes no memory.
+/// Reads the lines of a script one by one, and never more than is available: a script can be a pipe. It takes no
+/// memory.
 #[derive(Drop)]
 pub struct ScriptReader {
     chunk: Chunk,
@@ -73,7 +74,7 @@ impl Model for ScriptReader {
 }
 
 impl ScriptReader {
-    /// A reader of a script from its beginning on.
+    /// A reader at the beginning of a script.
     pub fn new() -> ScriptReader
         ensures unread { result.unread ≡ [] }
         ensures line { result.line ≡ [] }
@@ -93,7 +94,7 @@ impl ScriptReader {
         self.line.as_slice()
     }
 
-    // Reads a chunk: whether bytes came.
+    // Reads a chunk, and returns whether bytes came.
     fn fill<R: Read>(&mut self, reader: &mut R) -> Result<bool, ReadFault>
         ensures line { self.new.line ≡ self.old.line }
         ensures filled { IfOk result
@@ -110,7 +111,7 @@ impl ScriptReader {
         Err(ReadFault::TooManyReads)
     }
 
-    // Where the first line feed that is unread stands.
+    // The index of the first unread line feed.
     fn feed(&self) -> Option<usize>
         ensures place { result ≡ position (λ b. b == 10) self.now.unread }
         ensures within { IfSome result (λ at. at < length self.now.unread) }
@@ -125,7 +126,7 @@ impl ScriptReader {
         self.chunk.left().len()
     }
 
-    // Takes so many bytes that don't belong to the line.
+    // Drops `count` bytes that don't belong to the line.
     fn skip(&mut self, count: usize)
         requires { count ≤ length self.old.unread }
         ensures unread { self.new.unread ≡ drop count self.old.unread }
@@ -135,7 +136,7 @@ impl ScriptReader {
         self.chunk.take(count);
     }
 
-    // Takes so many bytes that belong to the line, and puts them behind what there is of it, if there is room.
+    // Moves `count` bytes to the end of the line, if there is room.
     fn take_front(&mut self, count: usize) -> bool
         requires { count ≤ length self.old.unread }
         ensures taken { self.new.unread ≡ drop count self.old.unread }
@@ -150,7 +151,7 @@ impl ScriptReader {
         fits
     }
 
-    // Takes the bytes in front of a line feed, and that.
+    // Moves the bytes before a line feed to the line, and drops the line feed.
     fn take_line(&mut self, at: usize) -> Part
         requires { position (λ b. b == 10) self.old.unread ≡ Some at }
         ensures { TakesPart self.old self.new result }
@@ -162,7 +163,7 @@ impl ScriptReader {
         Part::Ended
     }
 
-    // Takes all that is unread, which has no line feed.
+    // Moves all unread bytes, which have no line feed, to the line.
     fn take_all(&mut self) -> Part
         requires { position (λ b. b == 10) self.old.unread ≡ None }
         ensures { TakesPart self.old self.new result }
@@ -174,7 +175,7 @@ impl ScriptReader {
         }
     }
 
-    // Puts what is unread of the line, up to a line feed, behind what there is of it.
+    // Moves the unread bytes up to a line feed to the line.
     fn take_part(&mut self) -> Part
         ensures { TakesPart self.old self.new result }
     {
@@ -184,7 +185,7 @@ impl ScriptReader {
         }
     }
 
-    // The next line, if it isn't one too many.
+    // The next line, if its number is allowed.
     fn next_short<R: Read>(&mut self, reader: &mut R) -> Result<NextLine, ReadFault>
         requires { self.old.line ≡ [] }
         ensures { IfOk result (ReadsOn self.new.line (pending self.old.unread (R.remaining reader.old))
@@ -203,7 +204,7 @@ impl ScriptReader {
         Err(ReadFault::TooManyReads)
     }
 
-    // What comes where nothing is left to read.
+    // What comes if nothing is left to read.
     fn last(&self) -> NextLine
         ensures told { result ≡ told_last self.now.line }
         ensures short { length self.now.line ≤ 1024 }
@@ -215,7 +216,7 @@ impl ScriptReader {
         }
     }
 
-    // What comes where a line would be one too many.
+    // What comes if a line's number would be too great.
     fn next_past<R: Read>(&mut self, reader: &mut R) -> Result<NextLine, ReadFault>
         ensures { IfOk result (TellsMore (pending self.old.unread (R.remaining reader.old))
             (pending self.new.unread (R.remaining reader.new))) }
@@ -227,7 +228,7 @@ impl ScriptReader {
         }
     }
 
-    // Takes what is unread of a line, with its line feed, and says whether that was there.
+    // Drops the unread bytes of a line and its line feed, and returns whether there was a line feed.
     fn skip_part(&mut self) -> bool
         ensures line { self.new.line ≡ self.old.line }
         ensures skipped { SkipsPart self.old.unread self.new.unread result }
@@ -244,7 +245,7 @@ impl ScriptReader {
         }
     }
 
-    // Takes what is left of a line, with its line feed, if it has one.
+    // Drops the rest of a line, with its line feed, if it has one.
     fn skip_rest<R: Read>(&mut self, reader: &mut R) -> Result<(), ReadFault>
         ensures { IfOk result (λ u. AreSkipped (pending self.old.unread (R.remaining reader.old))
             (pending self.new.unread (R.remaining reader.new))) }
@@ -260,8 +261,8 @@ impl ScriptReader {
         Err(ReadFault::TooManyReads)
     }
 
-    /// Reads the next line of a session, which may have any number. Of bytes that are known: a line was taken off; or
-    /// there is none left; or a line that is too long was taken off, whole, and isn't lent.
+    /// Reads the next line of a session, which may have any number of lines. If the reader's bytes are known: a line
+    /// was taken off; or none is left; or a line that is too long was taken off, whole, and isn't returned.
     pub fn next_in_session<R: Read>(&mut self, reader: &mut R) -> Result<NextLine, ReadFault>
         ensures { IfOk result (TellsInSession self.new.line (pending self.old.unread (R.remaining reader.old))
             (pending self.new.unread (R.remaining reader.new))) }
@@ -277,8 +278,9 @@ impl ScriptReader {
         }
     }
 
-    /// Reads the line with a number, from 1 on. Of bytes that are known: a line was taken off; or there is none left;
-    /// or the first one left is too long, or is one too many. Nothing is read behind a line that isn't there yet.
+    /// Reads the line with a number, from 1 on. If the reader's bytes are known: a line was taken off; or none is left;
+    /// or the first one left is too long, or its number is too great. It reads no byte after a line that isn't
+    /// complete.
     pub fn next<R: Read>(&mut self, reader: &mut R, number: u32) -> Result<NextLine, ReadFault>
         ensures { IfOk result (Tells number self.new.line (pending self.old.unread (R.remaining reader.old))
             (pending self.new.unread (R.remaining reader.new))) }

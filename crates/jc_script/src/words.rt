@@ -15,7 +15,7 @@ use crate::command::{MOST_BYTES, MOST_IN_LINE};
 use jc_base::Aid;
 use std::marker::Model;
 
-/// The words of a line, to be taken one after the other. There is one space between them.
+/// The words of a line, taken one by one. They are separated by one space.
 #[derive(Drop)]
 pub(crate) struct Words<'a> {
     left: Option<&'a [u8]>,
@@ -31,7 +31,7 @@ impl<'a> Model for Words<'a> {
 }
 
 impl<'a> Words<'a> {
-    /// The words of this line.
+    /// The words of a line.
     pub(crate) fn new(line: &'a [u8]) -> Words<'a>
         ensures { result ≡ words_of line.now }
     {
@@ -45,7 +45,7 @@ impl<'a> Words<'a> {
         Words { left: self.left }
     }
 
-    /// Takes the first word off, or answers `None` where there is none.
+    /// Takes the first word off, or returns `None` if there is none.
     pub(crate) fn next(&mut self) -> Option<&'a [u8]>
         ensures some { IfSome result (λ word. self.old ≡ word.now ∷ self.new) }
         ensures none { IfNone result ((self.old ≡ []) × (self.new ≡ [])) }
@@ -64,14 +64,14 @@ impl<'a> Words<'a> {
     }
 }
 
-/// Where the first space stands.
+/// The index of the first space.
 fn space_in(line: &[u8]) -> Option<usize>
     ensures { result ≡ position (λ b. b == 32) line.now }
 {
     line.iter().position(|b| *b == b' ')
 }
 
-/// Where the first quote stands.
+/// The index of the first quote.
 pub(crate) fn quote_in(text: &[u8]) -> Option<usize>
     ensures place { result ≡ position is_quote text.now }
     ensures within { IfSome result (λ at. at < length text.now) }
@@ -79,7 +79,7 @@ pub(crate) fn quote_in(text: &[u8]) -> Option<usize>
     text.iter().position(|b| *b == b'"')
 }
 
-/// A name at the front of a text, and what stands behind it and a space, if a space stands there.
+/// The first name of a text, and what follows after a space, if there is a space.
 #[derive(Drop)]
 pub(crate) struct Cut<'a> {
     pub(crate) name: &'a [u8],
@@ -102,7 +102,7 @@ fn cut_at_space(text: &[u8]) -> Cut<'_>
     }
 }
 
-/// A name and the text behind its closing quote: nothing, or a space and what follows.
+/// A name and the text after its closing quote: nothing, or a space and what follows.
 fn behind_quote<'a>(name: &'a [u8], text: &'a [u8]) -> Option<Cut<'a>>
     ensures { option_map shown_cut result ≡ behind_quote name.now text.now }
 {
@@ -121,7 +121,7 @@ fn behind_quote<'a>(name: &'a [u8], text: &'a [u8]) -> Option<Cut<'a>>
     }
 }
 
-/// Cuts at the next quote, behind an opening one.
+/// Cuts at the next quote, after an opening one.
 fn cut_at_quote(text: &[u8]) -> Option<Cut<'_>>
     ensures { option_map shown_cut result ≡ cut_at_quote text.now }
 {
@@ -129,7 +129,7 @@ fn cut_at_quote(text: &[u8]) -> Option<Cut<'_>>
     behind_quote(&text[..at], &text[at + 1..])
 }
 
-/// The name at the front of a text: it may stand between quotes.
+/// The first name of a text, which may be in quotes.
 #[tactic(auto, unfolding(crate::specs::Script::cut_name))]
 pub(crate) fn cut_name(text: &[u8]) -> Option<Cut<'_>>
     ensures { option_map shown_cut result ≡ cut_name text.now }
@@ -146,7 +146,7 @@ pub(crate) fn cut_name(text: &[u8]) -> Option<Cut<'_>>
     }
 }
 
-/// What stands behind `load` and a space, in a line that has a quote.
+/// The text after `load` and a space, in a line with a quote.
 pub(crate) fn quoted_names(line: &[u8]) -> Option<&[u8]>
     ensures { option_copied result ≡ quoted_names line.now }
 {
@@ -158,7 +158,7 @@ pub(crate) fn quoted_names(line: &[u8]) -> Option<&[u8]>
     }
 }
 
-/// Whether a line says nothing: it is empty, or its first byte is `#`.
+/// Whether a line is skipped: it is empty, or its first byte is `#`.
 pub(crate) fn is_skipped(line: &[u8]) -> bool
     ensures { result ≡ is_skipped line.now }
 {
@@ -168,7 +168,7 @@ pub(crate) fn is_skipped(line: &[u8]) -> bool
     }
 }
 
-/// Where the first control byte of ASCII stands, as a carriage return or a tab is.
+/// The index of the first control byte of ASCII, such as a carriage return or a tab.
 pub(crate) fn control_in(word: &[u8]) -> Option<usize>
     ensures place { result ≡ control_in word.now }
     ensures within { IfSome result (λ at. at < length word.now) }
@@ -186,7 +186,7 @@ fn text_of(word: &[u8]) -> Option<&str>
     }
 }
 
-/// The name of a file or folder that a word is: UTF-8 without control bytes.
+/// A word as the name of a file or folder: UTF-8 without control bytes.
 pub(crate) fn name_of(word: &[u8]) -> Option<&str>
     ensures { option_map (λ name. name.now) result ≡ name_of word.now }
 {
@@ -199,7 +199,7 @@ pub(crate) fn name_of(word: &[u8]) -> Option<&str>
     }
 }
 
-/// Puts down the bytes that hexadecimal digits spell, and says whether they do.
+/// Writes the bytes that hexadecimal digits encode, and returns whether they encode any.
 fn decode(word: &[u8], out: &mut [u8]) -> bool
     requires { length out.old ≡ length word.now / 2 }
     ensures spelled { OnTrue result (given (decode_of word.now) ≡ Some out.new) }
@@ -208,7 +208,7 @@ fn decode(word: &[u8], out: &mut [u8]) -> bool
     hex::decode_to_slice(word, out).is_ok()
 }
 
-/// The bytes that hexadecimal digits of either case spell, if they are one or more, put down in this room.
+/// The bytes that hexadecimal digits of either case encode, at least one, written to this room.
 pub(crate) fn bytes_of<'a>(word: &[u8], room: &'a mut [u8; MOST_BYTES]) -> Option<&'a [u8]>
     ensures { option_map (λ bytes. bytes.now) result ≡ bytes_of word.now }
 {
@@ -223,14 +223,14 @@ pub(crate) fn bytes_of<'a>(word: &[u8], room: &'a mut [u8; MOST_BYTES]) -> Optio
     }
 }
 
-/// Whether bytes are decimal digits alone.
+/// Whether all bytes are decimal digits.
 fn are_digits(bytes: &[u8]) -> bool
     ensures { result ≡ list_all is_ascii_digit bytes.now }
 {
     bytes.iter().all(|byte| byte.is_ascii_digit())
 }
 
-/// The number that decimal digits spell, from 1 to 4,294,967,295.
+/// The number that decimal digits encode, from 1 to 4,294,967,295.
 #[tactic(auto, using(crate::proofs::Budgets::budget_is))]
 fn budget_in(text: &str) -> Option<u32>
     requires { list_all is_ascii_digit text.now ≡ true }
@@ -242,7 +242,7 @@ fn budget_in(text: &str) -> Option<u32>
     }
 }
 
-/// The budget of steps that a word spells in decimal digits. Zeros may lead.
+/// The budget of steps that a word encodes in decimal digits. Leading zeros are allowed.
 pub(crate) fn budget_of(word: &[u8]) -> Option<u32>
     ensures { result ≡ budget_of word.now }
 {
@@ -254,7 +254,8 @@ pub(crate) fn budget_of(word: &[u8]) -> Option<u32>
     }
 }
 
-/// Puts the bytes that hexadecimal digits spell at the front of a room: how many, if they are one or more and fit.
+/// Writes the bytes that hexadecimal digits encode to the front of a room, and returns how many, if there is at least
+/// one and they fit.
 pub(crate) fn put_bytes(word: &[u8], room: &mut [u8]) -> Option<usize>
     ensures put { IfSome result (λ count. bytes_of word.now ≡ Some (take count room.new)) }
     ensures within { IfSome result (λ count. count ≤ length room.old) }
@@ -282,7 +283,7 @@ pub(crate) fn trimmed(line: &[u8]) -> &[u8]
     line.trim_ascii_end()
 }
 
-/// The AID that hexadecimal digits of either case spell.
+/// The AID that hexadecimal digits of either case encode.
 pub(crate) fn aid_of(word: &[u8]) -> Option<Aid>
     ensures { result ≡ spelled_aid word.now }
 {

@@ -1,19 +1,19 @@
--- Where packages and certificates are read: what is held there, how many readings failed, and what is asked.
+-- Sources of packages and certificates: their contents, the number of failed reads, and the names that were read.
 use Rattle.std.specs.Prelude.{⊤, ◌≡◌, ℕ, List, ◌++◌, Option, Some, None, Result, Ok, Err}
 use Rattle.jc_source.specs.declared.source.SourceFault.{SourceFault}
 use Rattle.jc_source.specs.declared.source.SourceFault.TheVariants.{Failed, Memory}
 
--- want of memory is no failure of what is read
+-- out of memory is no failed read
 abbrev pub failures_of : SourceFault → ℕ
 failures_of Failed = 1
 failures_of Memory = 0
 
--- how many failures a reading is
+-- the number of failures of a read
 abbrev pub failures_in : {A : Type 0} → Result A SourceFault → ℕ
 failures_in (Ok bytes) = 0
 failures_in (Err fault) = failures_of fault
 
--- a fact that holds where a reading failed. Of want of memory nothing is said
+-- a fact that holds if a read failed. Out of memory says nothing
 abbrev pub OfFailed : SourceFault → Type 0 → Type 0
 OfFailed Failed fact = fact
 OfFailed Memory fact = ⊤
@@ -22,17 +22,17 @@ abbrev pub IfFailed : {A : Type 0} → Result A SourceFault → Type 0 → Type 
 IfFailed (Ok read) fact = ⊤
 IfFailed (Err fault) fact = OfFailed fault fact
 
--- the same bytes are held under the same names, before and after
+-- the same bytes are held under the same names before and after
 pub record HoldSame (before after : List ℕ → List ℕ → Type 0) : Type 0 where
   pub still : (name bytes : List ℕ) → before name bytes → after name bytes
   pub already : (name bytes : List ℕ) → after name bytes → before name bytes
 
--- what a source is asked for, by its name
+-- a read of a source, by name
 pub data Asked : Type 0 where
   Image : (name : List ℕ) → Asked
   Certificate : (name : List ℕ) → Asked
 
--- it was asked for these one after the other, behind what it was asked before, where that is known
+-- these reads were recorded, in order, after the earlier ones, if those are known
 abbrev pub Asks : Option (List Asked) → Option (List Asked) → List Asked → Type 0
 Asks None after asked = ⊤
 Asks (Some before) None asked = ⊥

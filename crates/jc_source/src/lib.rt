@@ -1,4 +1,4 @@
-//! Where packages and certificates are read, by their names.
+//! Sources of packages and certificates, by their names.
 #![tactic(auto)]
 
 mod source;

@@ -1,34 +1,34 @@
-//! Where packages and certificates are read.
+//! Sources of packages and certificates.
 
 ghost use Rattle.std.specs.Prelude.{◌≡◌, ◌+◌, ◌<◌, ◌^◌, ℕ, List, [], ◌∷◌, Option, None, IfOk};
 ghost use Rattle.jc_source.specs.Source.{Asked, Asks, Certificate, HoldSame, IfFailed, Image, failures_in};
 
 use std::alloc::Global;
 
-/// Why nothing is read.
+/// Why nothing was read.
 #[derive(Clone, Copy, Debug, PartialEq, Eq)]
 pub enum SourceFault {
-    /// It isn't there, or can't be read.
+    /// It doesn't exist, or can't be read.
     Failed,
     /// No memory was left.
     Memory,
 }
 
-/// Where packages and certificates are read by their names. It counts the readings that failed, fewer than 2^31 of
-/// them. What is read is what it holds, and no reading changes that.
+/// A source of packages and certificates, by their names. It counts the reads that failed, fewer than 2^31. Each read
+/// returns what the source holds, and no read changes that.
 pub trait PackageSource {
     ghost failed: { Self → ℕ };
 
-    // What a source holds: a package's image is these bytes, under a name.
+    // A package's image in the source is these bytes, under a name.
     ghost holds_image: { Self → List ℕ → List ℕ → Type 0 };
 
-    // A certificate is these bytes, under a name.
+    // A certificate in the source is these bytes, under a name.
     ghost holds_certificate: { Self → List ℕ → List ℕ → Type 0 };
 
-    // What it was asked for, in order, where it tells.
+    // The names that were read so far, in order, if the source records them.
     ghost asked: { Self → Option (List Asked) } = { λ _. None };
 
-    // The last reading that failed asked for this.
+    // The last read that failed was of this name.
     ghost failed_at: { Self → Asked → Type 0 };
 
     /// The image of a package.
@@ -51,7 +51,7 @@ pub trait PackageSource {
         ensures same_images { HoldSame (holds_image self.old) (holds_image self.new) }
         ensures same_certificates { HoldSame (holds_certificate self.old) (holds_certificate self.new) };
 
-    /// How many readings have failed.
+    /// How many reads have failed.
     fn failures(&self) -> u32
         ensures { result ≡ failed self.now };
 }

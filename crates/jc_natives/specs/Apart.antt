@@ -1,5 +1,4 @@
--- What the runtime keeps names applets alone (Java Card Runtime Environment Specification, Contexts and Context
--- Switching).
+-- The runtime's state names only applets (Java Card Runtime Environment Specification, Contexts and Context Switching).
 use Rattle.std.specs.Prelude.{◌&&◌, Bool, true}
 use Rattle.std.specs.List.{list_all}
 use Rattle.std.specs.Option.{option_map_or}
@@ -8,7 +7,7 @@ use Rattle.jc_natives.specs.Kept.{Kept, is_instance_number}
 use Rattle.jc_natives.specs.declared.kept.Installing.{Installing}
 use Rattle.jc_natives.specs.declared.kept.Instance.{Instance}
 
--- an instance that is being installed is an applet's, and has a number of its own
+-- an instance that is being installed is in an applet's context, and has an instance number
 abbrev pub installs_applet : Installing → Bool
 installs_applet i = is_applets i.owner && is_instance_number i.owner.instance
 

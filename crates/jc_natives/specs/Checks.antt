@@ -1,6 +1,5 @@
--- What native members test of their arguments before they do anything, one test after the other (Java Card Runtime
--- Environment Specification, Applet Isolation and Object Sharing; Java Card API Specification, Util, AID, APDU:
--- exceptions).
+-- The tests of native members' arguments before their work, one after the other (Java Card Runtime Environment
+-- Specification, Applet Isolation and Object Sharing; Java Card API Specification, Util, AID, APDU: exceptions).
 use Rattle.std.specs.Prelude.{ℕ, ◌==◌, ◌&&◌, Bool, true, false, List, [], ◌∷◌, ◌++◌, length, Option, Some, None}
 use Rattle.std.specs.Prelude.{slice_get, if◌then◌else◌}
 use Rattle.std.specs.Option.{option_and_then, option_map, option_map_or}
@@ -26,24 +25,24 @@ use Rattle.jc_words.specs.Values.{Null, Ref, TaggedValue, Unset, Word}
 -- ---- tests, as data
 
 pub data Check : Type 0 where
-  -- the argument at a place is an object that may be used so
+  -- the argument at an index is an object that may be used in this way
   Uses : (place : ℕ) (way : Use) → Check
   -- it is null, or such an object
   UsesUnlessNull : (place : ℕ) (way : Use) → Check
-  -- the second argument may be called, where the first and it are AIDs
+  -- if the first two arguments are AIDs, the second may be called
   CallsOtherAid : Check
-  -- so many components from the offset at a place on lie within the array at a place, or there is null
+  -- `count` components from the offset at an index on lie within the array at an index, or the array is null
   HasRange : (array offset : ℕ) (count : Length) → Check
 
--- ---- what tests come to
+-- ---- results of tests
 
--- they pass; an object is thrown; or an argument isn't what is tested
+-- they pass; an object is thrown; or an argument isn't of the tested kind
 pub data TestEnd : Type 0 where
   Passed : TestEnd
   Refused : (object : ℕ) → TestEnd
   Unfit : TestEnd
 
--- the accesses that were made, and how the tests end
+-- the accesses that were made, and the end of the tests
 pub record Checked : Type 0 where
   pub touches : List Touch
   pub ends : TestEnd
@@ -57,7 +56,7 @@ refused object = record { touches = []; ends = Refused object }
 abbrev pub unfit : Checked
 unfit = record { touches = []; ends = Unfit }
 
--- further tests are made where those before passed
+-- further tests follow if those before passed
 abbrev pub goes_on : List Touch → TestEnd → Checked → Checked
 goes_on touches Passed later = record { touches = touches ++ later.touches; ends = later.ends }
 goes_on touches (Refused object) later = record { touches = touches; ends = Refused object }
@@ -68,8 +67,8 @@ followed first later = goes_on first.touches first.ends later
 
 -- ---- accesses
 
--- the access by which the firewall decides on a use of an object: of a constructor's, whose fields are set; of an array
--- that is read or written; of an object whose member is called
+-- the access by which the firewall decides on a use of an object: of a constructor's object, whose fields are set; of
+-- an array that is read or written; of an object whose member is called
 abbrev pub access_of : Use → Access
 access_of Fields = PutField
 access_of Loads = LoadComponent
@@ -95,7 +94,7 @@ by_verdict h way number (AllowedSwitch owner) =
 by_verdict h way number (Denied rule) =
     record { touches = touch_of h way number (Denied rule) ∷ []; ends = Refused security_exception }
 
--- no such access stores a reference, or asks for an interface
+-- no such access stores a reference, or is about an interface
 abbrev pub judged : Called → Use → ℕ → Object TaggedValue → Checked
 judged h way number object =
     by_verdict h way number (verdict_of (access_of way) h.call.active.context
@@ -103,7 +102,7 @@ judged h way number object =
 
 -- ---- objects
 
--- what a value leads to, where null comes to something of its own
+-- the test of a value's object; null has its own result
 abbrev pub uses_value : Called → Use → Checked → TaggedValue → Checked
 uses_value h way null (Word n) = unfit
 uses_value h way null (Ref n) = option_map_or (judged h way n) (object_at h.call.heap n) unfit
@@ -113,7 +112,7 @@ uses_value h way null Unset = unfit
 abbrev pub uses : Called → ℕ → Use → Checked → Checked
 uses h place way null = option_map_or (uses_value h way null) (slice_get h.call.arguments place) unfit
 
--- whether an object is an AID: of class AID or below it. Null is none
+-- whether an object is an AID: of class AID or below it. Null isn't
 abbrev pub is_aid_object : Called → Object TaggedValue → Bool
 is_aid_object h object = is_of_class h.shapes (Api Aid) object.kind.object_type
 

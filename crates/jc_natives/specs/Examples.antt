@@ -1,4 +1,4 @@
--- A small heap, on which examples of members are computed.
+-- A small heap, on which the examples of members are computed.
 use Rattle.std.specs.Prelude.{ℕ, List, [], ◌∷◌, map, Option, Some, None}
 use Rattle.std.specs.Option.{option_and_then, option_map}
 use Rattle.jc_api.specs.Numbered.{numbered}
@@ -25,13 +25,14 @@ abbrev pub object : ObjectType → ℕ → List TaggedValue → Object TaggedVal
 object type context cells =
     record { kind = record { object_type = type; mark = Plain; clears = None }; owner = owner context; cells = cells }
 
--- 1: an array of four bytes; 2: an array of another context; 3: an object that is its own; 4: an array of references
+-- 1: an array of four bytes; 2: an array of another context; 3: an object of the active context; 4: an array of
+-- references
 abbrev pub four : Heap TaggedValue
 four =
     object ByteArray 1 (Word 1 ∷ Word 2 ∷ Word 3 ∷ Word 4 ∷ []) ∷ object ByteArray 2 (Word 9 ∷ Word 9 ∷ [])
     ∷ object (Instance (Api ObjectClass)) 1 [] ∷ object (ReferenceArray (Api ObjectClass)) 1 (Ref 3 ∷ Null ∷ []) ∷ []
 
--- a call from context 1, while an applet of another one is selected
+-- a call from context 1, while an applet of another context is selected
 abbrev pub call_of : Kept → ℕ → List TaggedValue → NativeCall Kept
 call_of k number arguments = record {
   member = number;
@@ -51,7 +52,7 @@ on_four k number arguments = record { shapes = []; call = call_of k number argum
 abbrev pub member_at : ℕ → Option Member
 member_at number = option_map member_of_native (numbered natives number)
 
--- how its tests end
+-- the end of its tests
 abbrev pub tests_end : ℕ → List TaggedValue → Option TestEnd
 tests_end number arguments =
     option_map (λ m. (tested (on_four nothing_kept number arguments) m.tests).ends) (member_at number)
@@ -60,7 +61,7 @@ tests_end number arguments =
 abbrev pub work_by : Kept → ℕ → List TaggedValue → Option Work
 work_by k number arguments = option_and_then (λ m. m.does (on_four k number arguments)) (member_at number)
 
--- its answer: how it ends, and the components of all objects behind it
+-- its answer: its end, and the components of all objects after it
 abbrev pub answer_at : ℕ → List TaggedValue → Option (NativeAnswer Kept)
 answer_at number arguments = option_map (answer_by (on_four nothing_kept number arguments)) (member_at number)
 
@@ -72,6 +73,6 @@ cells_after number arguments =
     option_map (λ (a : NativeAnswer Kept). map (λ (o : Object TaggedValue). o.cells) a.heap)
     (answer_at number arguments)
 
--- what the other objects hold
+-- the components of the other objects
 abbrev pub the_others : List (List TaggedValue)
 the_others = (Word 9 ∷ Word 9 ∷ []) ∷ [] ∷ (Ref 3 ∷ Null ∷ []) ∷ []

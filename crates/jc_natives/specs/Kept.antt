@@ -1,6 +1,6 @@
--- What the runtime keeps beside the objects: which instances of applets there are, the one that is being installed, and
--- where the exchange of a command and its answer stands (Java Card Runtime Environment Specification, Applet Isolation
--- and Object Sharing: Contexts; Java Card API Specification, APDU, Applet).
+-- The state of the runtime besides the objects: the instances of applets, the one that is being installed, and the
+-- exchange of a command and its answer (Java Card Runtime Environment Specification, Applet Isolation and Object
+-- Sharing: Contexts; Java Card API Specification, APDU, Applet).
 use Rattle.std.specs.Prelude.{ℕ, ◌+◌, ◌-◌, ◌==◌, ◌&&◌, Bool, true, false, not, List, [], ◌∷◌, ◌++◌, length, take}
 use Rattle.std.specs.Prelude.{Option, Some, None, bytes_eq, nat_le, nat_lt, if◌then◌else◌}
 use Rattle.std.specs.List.{find, list_all}
@@ -12,9 +12,9 @@ use Rattle.jc_natives.specs.declared.kept.ApduState.TheVariants.{Closed, Fresh, 
 use Rattle.jc_natives.specs.declared.kept.Installing.{Installing}
 use Rattle.jc_natives.specs.declared.kept.Instance.{Instance}
 
--- the registered instances in their order; the instance that is being installed; how many instance numbers were given
--- out; the state of the APDU; the data that came with the command; its Le, 0 for none; the length of the answer that
--- was announced; the data sent so far; and whether an applet has the SELECT that selected it before it
+-- the registered instances in order; the instance that is being installed; how many instance numbers were assigned; the
+-- state of the APDU; the data of the command; its Le, 0 for none; the announced length of the answer; the data sent so
+-- far; and whether an applet has the SELECT that selected it
 pub record Kept : Type 0 where
   pub instances : List Instance
   pub installing : Option Installing
@@ -57,7 +57,7 @@ is_length_set Received = false
 is_length_set Outgoing = false
 is_length_set LengthSet = true
 
--- ---- what it keeps, with another part
+-- ---- the state with one part replaced
 
 abbrev pub with_state : Kept → ApduState → Kept
 with_state k state = record k { state = state }
@@ -68,7 +68,7 @@ with_announced k state announced = record k { state = state; announced = announc
 abbrev pub with_sent : Kept → List ℕ → Kept
 with_sent k sent = record k { sent = sent }
 
--- one instance more, and the one that is being installed has registered
+-- one more instance, and the one that is being installed has registered
 abbrev pub now_registered : Installing → Installing
 now_registered i = record i { registered = true }
 
@@ -78,7 +78,7 @@ with_instance k instance =
 
 -- ---- between calls
 
--- of a card that is new
+-- the state of a new card
 abbrev pub nothing_kept : Kept
 nothing_kept = record {
   instances = [];
@@ -92,18 +92,19 @@ nothing_kept = record {
   selecting = false;
 }
 
--- an install begins: of an instance, whose applet has this AID. Its number is given out then, however that ends
+-- an install begins: of an instance, whose applet has this AID. Its number is assigned then, whatever the end of the
+-- install
 abbrev pub with_install : Kept → Owner → List ℕ → Kept
 with_install k owner aid = record k {
   installing = Some (record { owner = owner; aid = aid; registered = false });
   numbers = owner.instance;
 }
 
--- an instance has registered in the install that goes on
+-- an instance has registered in the current install
 abbrev pub has_registered : Kept → Bool
 has_registered k = option_map_or (λ (i : Installing). i.registered) k.installing false
 
--- an install is over: where it failed the instance that registered is none, and it was the last
+-- an install ends: if it failed, the instance that registered, which is the last, is removed
 abbrev pub kept_instances : List Instance → Bool → List Instance
 kept_instances instances true = take (length instances - 1) instances
 kept_instances instances false = instances
@@ -114,7 +115,7 @@ after_install k succeeds = record k {
   installing = None;
 }
 
--- a command is before an applet: its data, its Le, and whether it is the SELECT that selected
+-- an applet has a command: its data, its Le, and whether it is the SELECT that selected the applet
 abbrev pub with_command : Kept → List ℕ → ℕ → Bool → Kept
 with_command k incoming expected selecting = record {
   instances = k.instances;
@@ -128,13 +129,13 @@ with_command k incoming expected selecting = record {
   selecting = selecting;
 }
 
--- no command is; what was sent stays until the next
+-- no applet has a command; the sent data stay until the next
 abbrev pub without_command : Kept → Kept
 without_command k = record k { state = Closed; selecting = false }
 
--- ---- what is sent
+-- ---- sent data
 
--- where a command has no Le, or 0, as many bytes are expected as may be
+-- a command without Le, or with Le 0, expects as many bytes as possible
 abbrev pub most_sent : ℕ
 most_sent = 256
 
@@ -159,7 +160,7 @@ is_aid bytes = has_aid_length (length bytes) && are_bytes bytes
 abbrev pub is_same_owner : Owner → Owner → Bool
 is_same_owner one other = one.context == other.context && one.instance == other.instance
 
--- the registered instance with an AID, and that of an owner
+-- the registered instance with an AID, and the one of an owner
 abbrev pub instance_with : List Instance → List ℕ → Option Instance
 instance_with instances aid = find (λ (i : Instance). bytes_eq i.aid aid) instances
 
@@ -181,7 +182,7 @@ is_waiting installing = option_map_or (λ (i : Installing). not i.registered) in
 abbrev pub waits : Kept → Bool
 waits k = is_waiting k.installing
 
--- each instance has a number of its own: at most 32 were given out, and one of them is left for an instance that waits
+-- each instance has a number of its own: at most 32 were assigned, with one for an instance that waits
 abbrev pub have_numbers : List Instance → Option Installing → ℕ → Bool
 have_numbers instances installing numbers =
     nat_le (length instances + (if is_waiting installing then 1 else 0)) numbers && nat_le numbers most_instances

@@ -1,4 +1,4 @@
--- What the native members mean: each tests its arguments, and then does its work.
+-- The meaning of the native members: each tests its arguments, and then does its work.
 use Rattle.std.specs.Prelude.{ℕ, ◌==◌, ◌&&◌, Bool, false, true, List, [], ◌∷◌, ◌++◌, length, Option, Some, None, nat_le}
 use Rattle.std.specs.Prelude.{nat_lt, replicate, if◌then◌else◌}
 use Rattle.std.specs.List.{list_all}
@@ -45,7 +45,7 @@ end_of (GivesWord word) = Gives (Some (Word word))
 end_of (GivesReference number) = Gives (Some (reference number))
 end_of (Throws object) = ThrowsObject object
 
--- what a component of a new array is
+-- the blank component of a new array
 abbrev pub blank_of : Elements → TaggedValue
 blank_of Booleans = Word 0
 blank_of Bytes = Word 0
@@ -62,14 +62,14 @@ new_array owner array = record {
 
 -- ---- the runtime's own accesses
 
--- by which components are written
+-- the access by which components are written
 abbrev pub write_access : Object TaggedValue → Access
 write_access object = if is_array object.kind.object_type then StoreComponent else PutField
 
 abbrev pub own_touch : ℕ → Object TaggedValue → Touch
 own_touch number object = runtime_touch (write_access object) number
 
--- what the caller writes is what was tested; a write of no words is none
+-- the caller writes only what was tested; a write without words is no access
 abbrev pub touch_by : By → Heap TaggedValue → ℕ → List Touch
 touch_by ByCode heap number = []
 touch_by ByRuntime heap number = option_map_or (λ object. own_touch number object ∷ []) (object_at heap number) []
@@ -87,7 +87,7 @@ own_touches heap (w ∷ writes) = own_touch_of heap w ++ own_touches heap writes
 
 -- ---- answers
 
--- it is stuck, or throws, and nothing changes
+-- the member is stuck, or throws, and nothing changes
 abbrev pub unchanged : NativeCall Kept → List Touch → NativeEnd → NativeAnswer Kept
 unchanged call touches ends = record { touches = touches; heap = call.heap; runtime = call.runtime; ends = ends }
 
@@ -107,18 +107,18 @@ made call touches array = record {
   ends = Gives (Some (Ref (next_number call.heap)));
 }
 
--- applets answer such a question by getShareableInterfaceObject
+-- applets answer such a question with getShareableInterfaceObject
 abbrev pub asked : NativeCall Kept → List Touch → Question → NativeAnswer Kept
 asked call touches q =
     unchanged call touches
     (Calls (record { member = shareable_member; object = q.object; arguments = reference q.aid ∷ Word q.word ∷ [] }))
 
--- an array is made where there is room for it
+-- an array is made if there is room for it
 abbrev pub array_or_refusal : Bool → NewArray → Kept → Work
 array_or_refusal true array k = Makes array
 array_or_refusal false array k = throws_system k no_transient_space
 
--- where there is no room for an array the work is to throw
+-- without room for an array the work is to throw
 abbrev pub with_room : {V : Type 0} → ℕ → ℕ → Heap V → Kept → Work → Work
 with_room objects cells heap k (Does writes runtime ending) = Does writes runtime ending
 with_room objects cells heap k (Makes array) = array_or_refusal (has_room objects cells heap array.size) array k
@@ -135,7 +135,7 @@ worked call touches None = unchanged call touches IsStuck
 worked call touches (Some work) =
     done call touches (with_room call.limits.objects call.limits.cells call.heap call.runtime work)
 
--- where a test fails that is the end; else the work is done
+-- if a test fails, that is the end; otherwise the work is done
 abbrev pub ended : NativeCall Kept → List Touch → TestEnd → Option Work → NativeAnswer Kept
 ended call touches Passed work = worked call touches work
 ended call touches (Refused object) work = unchanged call touches (ThrowsObject object)
@@ -148,16 +148,16 @@ abbrev pub begun : World → NativeCall Kept → Option Native → NativeAnswer 
 begun w call None = unchanged call [] IsStuck
 begun w call (Some native) = answer_by (called w call) (member_of_native native)
 
--- a member is stuck only where it is none, or abstract, where its arguments aren't of their types, or where something
--- else that it looks at isn't
+-- a call of a member is stuck only if there is no such member, or it is abstract, or its arguments don't have their
+-- types, or something else that it reads doesn't fit
 abbrev pub answer_of : World → NativeCall Kept → NativeAnswer Kept
 answer_of w call =
     if native_may_begin w.shapes call.heap call.member call.arguments
     then begun w call (numbered natives call.member) else unchanged call [] IsStuck
 
--- ---- what the runtime keeps fits the objects
+-- ---- the runtime's state fits the objects
 
--- a registered instance has an AID and a number, and its object is there: of class Applet or below it, and its own
+-- a registered instance has an AID and a number, and its object exists: of class Applet or below it, and its own
 abbrev pub has_applet : List Shape → Instance → Object TaggedValue → Bool
 has_applet shapes i object = is_of_class shapes (Api Applet) object.kind.object_type && is_same_owner object.owner i.owner
 
@@ -169,7 +169,7 @@ fits_instance shapes heap i =
 abbrev pub fits_installing : Installing → Bool
 fits_installing i = is_aid i.aid && is_instance_number i.owner.instance
 
--- data of a command are at most 255 bytes, and its Le is a byte
+-- the data of a command are at most 255 bytes, and its Le is a byte
 abbrev pub fits_command : Kept → Bool
 fits_command k = are_bytes k.incoming && nat_le (length k.incoming) 255 && nat_lt k.expected 256
 
@@ -178,7 +178,7 @@ fits_kept w heap k =
     list_all (fits_instance w.shapes heap) k.instances && option_map_or fits_installing k.installing true
     && (fits_command k && has_numbers k)
 
--- the AID object that is written where the instance registers that is being installed
+-- the AID object that is written when the instance that is being installed registers
 abbrev pub registering : Kept → Option ℕ
 registering k = option_map (λ (i : Installing). aid_object i.owner.instance) k.installing
 

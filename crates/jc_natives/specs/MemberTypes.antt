@@ -1,5 +1,5 @@
--- What members of the API are declared to take and give in a world (Java Card API Specification): what the API's table
--- says, where an interface counts as Object.
+-- The declared types of the API's members in a world (Java Card API Specification): those of the API's table, in which
+-- an interface counts as Object.
 use Rattle.std.specs.Prelude.{if◌then◌else◌}
 use Rattle.jc_api.specs.Class.{is_interface}
 use Rattle.jc_api.specs.Member.{ApiMember}
@@ -9,7 +9,7 @@ use Rattle.jc_base.specs.Signature.{Signature, signature_map}
 use Rattle.jc_names.specs.declared.name.ClassName.{ClassName}
 use Rattle.jc_names.specs.declared.name.ClassName.TheVariants.{Api}
 
--- a class as it counts
+-- a class as types count it
 abbrev pub counted_name : ApiClass → ClassName
 counted_name c = if is_interface c then Api Object else Api c
 

@@ -1,4 +1,4 @@
--- The native members: by their numbers, and what each tests and does (Java Card API Specification).
+-- The native members: their numbers, their tests and their works (Java Card API Specification).
 use Rattle.std.specs.Prelude.{ℕ, ◌+◌, ◌==◌, ◌&&◌, Bool, true, false, not, List, [], ◌∷◌, ◌++◌, length, replicate}
 use Rattle.std.specs.Prelude.{Option, Some, None, bytes_eq, is_some, nat_le, if◌then◌else◌}
 use Rattle.std.specs.Option.{option_and_then, option_map_or}
@@ -99,27 +99,27 @@ natives =
     ∷ OfUtility utilities.SetShort  -- 54 setShort
     ∷ OfUtility utilities.MakeShort ∷ []  -- 55 makeShort
 
--- ---- what a member is
+-- ---- a member
 
--- what it tests, one after the other, and then what it does: nothing where it is stuck
+-- its tests, one after the other, and then its work; without a work it is stuck
 pub record Member : Type 0 where
   pub tests : List Check
   pub does : Called → Option Work
 
--- ---- how members end
+-- ---- ends of members
 
 abbrev pub kept_of : Called → Kept
 kept_of h = h.call.runtime
 
--- with a result, and nothing changes
+-- it ends with a result, and nothing changes
 abbrev pub ends_with : Called → Ending → Option Work
 ends_with h ending = Some (gives (kept_of h) ending)
 
--- words are written to an object, in the caller's name
+-- it writes words to an object, in the caller's name
 abbrev pub writes_words : Called → ℕ → ℕ → List ℕ → Ending → Option Work
 writes_words h object from words ending = Some (writes_to (kept_of h) object from words ending)
 
--- a test passes; else the runtime throws, with a reason
+-- if a test passes, it goes on; otherwise the runtime throws, with a reason
 abbrev pub require_system : Called → ℕ → Bool → Option Work → Option Work
 require_system h reason passes go = if passes then go else Some (throws_system (kept_of h) reason)
 
@@ -135,7 +135,7 @@ have_same_bytes h one other = do
   others ← on_aid h other
   ends_with h (GivesWord (bit (bytes_eq bytes others)))
 
--- the same object, or two AIDs of the same bytes
+-- the same object, or two AIDs with the same bytes
 abbrev pub equals : Called → Option Work
 equals h = do
   one ← on_reference h 0
@@ -173,7 +173,7 @@ object_member (objects.ThrowIt object) = record {
 
 -- ---- AID
 
--- an AID has 5 to 16 bytes, and stands behind their count
+-- an AID has 5 to 16 bytes, and is stored after their count
 abbrev pub keeps_aid : Called → ℕ → List ℕ → Option Work
 keeps_aid h aid bytes = do
   require_system h illegal_value (has_aid_length (length bytes))
@@ -185,7 +185,7 @@ is_range h aid = do
   bytes ← on_range h 1 2 (ByteAt 3)
   ends_with h (GivesWord (bit (bytes_eq own bytes)))
 
--- the constructor keeps the bytes of a range; equals compares them; getBytes writes them, and gives their number
+-- the constructor stores the bytes of a range; equals compares them; getBytes writes them, and returns their number
 abbrev pub aid_member : AidNative → Member
 aid_member aids.Construct = record {
   tests = Uses 0 Fields ∷ Uses 1 Loads ∷ HasRange 1 2 (ByteAt 3) ∷ [];
@@ -211,30 +211,30 @@ aid_member aids.GetBytes = record {
     writes_words h array offset bytes (GivesWord (length bytes));
 }
 
--- ---- APDU. The card has one state, whichever object the member is called on
+-- ---- APDU. The card has one state, whatever the object on which a member is called
 
--- the data of a command stand behind its header in the buffer
+-- the offset of a command's data after its header in the buffer
 abbrev pub data_offset : ℕ
 data_offset = 5
 
--- a member in another state than its own is an illegal use
+-- a member in a wrong state is an illegal use
 abbrev pub in_state : Called → Bool → Option Work → Option Work
 in_state h fits go = require_apdu h illegal_use fits go
 
--- so many bytes from an offset of the buffer on
+-- `count` bytes of the buffer from an offset on
 abbrev pub in_buffer : Called → ℕ → ℕ → (List ℕ → Option Work) → Option Work
 in_buffer h offset count go = do
   buffer ← on_object h apdu_buffer
   require_apdu h buffer_bounds (is_within (length buffer.cells) offset count)
   on_bytes h apdu_buffer offset count go
 
--- bytes more, where they are no more in all than was announced
+-- sends more bytes, if that doesn't exceed the announced length
 abbrev pub sends : Called → List ℕ → Option Work
 sends h bytes = do
   require_apdu h illegal_use (nat_le (length (kept_of h).sent + length bytes) (kept_of h).announced)
   Some (gives (with_sent (kept_of h) ((kept_of h).sent ++ bytes)) NoResult)
 
--- what is sent at once is all that is sent
+-- sends these bytes as the whole answer
 abbrev pub sends_at_once : Called → ℕ → List ℕ → Option Work
 sends_at_once h count bytes = Some (gives (with_sent (with_announced (kept_of h) LengthSet count) bytes) NoResult)
 
@@ -288,19 +288,19 @@ apdu_member apdus.SetOutgoingAndSend = record {
     in_buffer h offset count (sends_at_once h count);
 }
 
--- ---- Applet, but for its constructor
+-- ---- Applet, except its constructor
 
 -- an object of this owner may register: the owner is the instance being installed, which hasn't registered
 abbrev pub may_register : Owner → Installing → Bool
 may_register owner i = not i.registered && is_same_owner owner i.owner
 
--- the instance being installed, if an object may register in its name: outside an install, a second time, or for
--- another instance there is nothing to register
+-- the instance being installed, if an object may register for it: not outside an install, not a second time, and not
+-- for another instance
 abbrev pub allowed : Owner → Option Installing → Option Installing
 allowed owner None = None
 allowed owner (Some i) = if may_register owner i then Some i else None
 
--- an instance registers under an AID that no registered instance has, and its AID object has the bytes
+-- an instance registers with an AID that no registered instance has, and its AID object gets the bytes
 abbrev pub registers : Kept → ℕ → ℕ → Owner → List ℕ → Work
 registers k number object owner aid =
     unless_system k illegal_aid (not (is_some (instance_with k.instances aid)))
@@ -311,7 +311,7 @@ abbrev pub on_installing : Called → Option Installing → (Installing → Opti
 on_installing h None go = Some (throws_system (kept_of h) illegal_aid)
 on_installing h (Some i) go = go i
 
--- the applet, and the instance in whose name it registers
+-- the applet, and the instance for which it registers
 abbrev pub on_allowed : Called → (ℕ → Owner → Installing → Option Work) → Option Work
 on_allowed h go = do
   applet ← on_reference h 0
@@ -323,7 +323,8 @@ registers_under h applet owner i aid = do
   require_system h illegal_value (has_aid_length (length aid))
   Some (registers (kept_of h) i.owner.instance applet owner aid)
 
--- register takes the AID of the applet, or the bytes of a range; what applets override gives 1, nothing, and null
+-- register takes the AID of the applet, or the bytes of a range; members that applets override return 1, nothing, and
+-- null
 abbrev pub applet_member : AppletNative → Member
 applet_member applets.Register = record {
   tests = Uses 0 Calls ∷ [];
@@ -335,7 +336,7 @@ applet_member applets.RegisterBytes = record {
 }
 applet_member applets.Select = record { tests = Uses 0 Calls ∷ []; does = λ h. ends_with h (GivesWord 1) }
 applet_member applets.Deselect = record { tests = Uses 0 Calls ∷ []; does = λ h. ends_with h NoResult }
--- no package can call it: it is abstract, and has no code to begin with
+-- no package can call it: it is abstract, and has no code
 applet_member applets.Process = record { tests = Uses 0 Calls ∷ []; does = λ h. ends_with h NoResult }
 applet_member applets.SelectingApplet = record {
   tests = Uses 0 Calls ∷ [];
@@ -348,7 +349,7 @@ applet_member applets.GetShareable = record {
 
 -- ---- JCSystem
 
--- the AID object of a registered instance; 0, which is null, where there is none
+-- the AID object of a registered instance; 0, which is null, if there is none
 abbrev pub aid_of : Option Instance → ℕ
 aid_of None = 0
 aid_of (Some i) = aid_object i.owner.instance
@@ -356,18 +357,18 @@ aid_of (Some i) = aid_object i.owner.instance
 abbrev pub aid_of_owner : Kept → Option Owner → ℕ
 aid_of_owner k owner = aid_of (option_and_then (instance_of k.instances) owner)
 
--- an instance is asked for a shareable object, with the AID of the owner that asks, and a byte; null where there is
--- no instance
+-- an instance is asked for a shareable object, with the AID of the asking owner, and a byte; null if there is no
+-- instance
 abbrev pub asks : Kept → Owner → ℕ → Option Instance → Work
 asks k active byte None = gives k (GivesReference 0)
 asks k active byte (Some i) =
     Asks (record { object = i.object; aid = aid_of_owner k (Some active); word = extended byte })
 
--- the event that a number stands for: CLEAR_ON_RESET, CLEAR_ON_DESELECT
+-- the event with a number: CLEAR_ON_RESET, CLEAR_ON_DESELECT
 abbrev pub event_of : ℕ → Option ClearingEvent
 event_of number = if number == 1 then Some Reset else if number == 2 then Some Deselect else None
 
--- an array that is cleared on deselect is made where an applet of the active context is selected
+-- an array that is cleared on deselect may be made only if an applet of the active context is selected
 abbrev pub may_make : ℕ → Option ℕ → ClearingEvent → Bool
 may_make active selected Reset = true
 may_make active selected Deselect = option_map_or (λ context. context == active) selected false
@@ -415,8 +416,8 @@ system_member system.MakeReferences = record { tests = []; does = makes_array Re
 
 -- ---- Util
 
--- A copy is as through a copy of the source, whose components are written as they are. What is written ends behind the
--- offset that is given.
+-- A copy works as if the source was copied first, and writes its components unchanged. Members that write return the
+-- offset after the written components.
 abbrev pub utility_member : UtilityNative → Member
 utility_member utilities.ArrayCopy = record {
   tests = Uses 0 Loads ∷ Uses 2 Stores ∷ HasRange 0 1 (ShortAt 4) ∷ HasRange 2 3 (ShortAt 4) ∷ [];

@@ -1,4 +1,4 @@
--- What members of AID test and do on words without tags.
+-- The tests and works of members of AID on words without tags.
 use Rattle.std.specs.Prelude.{ℕ, ◌==◌, ◌&&◌, Bool, false, List, ◌∷◌, bytes_eq, if◌then◌else◌, None}
 use Rattle.jc_natives.specs.Cells.{bit, extended, word}
 use Rattle.jc_natives.specs.Kept.{Kept, has_aid_length}
@@ -13,30 +13,30 @@ use Rattle.jc_natives.specs.declared.row.Length.TheVariants.{ByteAt, OfAid as As
 use Rattle.jc_natives.specs.declared.row.Test.TheVariants.{Object, ObjectOrNull}
 use Rattle.jc_natives.specs.declared.row.Use.TheVariants.{Fields, Loads, Stores}
 
--- what each tests
+-- the tests of each member
 abbrev pub aid_row : AidNative → MemberRow
 aid_row Construct = rows_of (Object 0 Fields) (Object 1 Loads) (range 1 2 (ByteAt 3)) None
 aid_row Equals = called_on (ObjectOrNull 1 Loads) (ByteAt 3)
 aid_row GetBytes = called_on (Object 1 Stores) (AsAid 0)
 
--- so many bytes of an array, from an offset on
+-- `count` bytes of an array, from an offset on
 abbrev pub range_bytes : Seen → ℕ → ℕ → ℕ → List ℕ
 range_bytes s array offset count = bytes_of s.objects array offset count
 
--- an AID is exactly the bytes of a range; it is no bytes of null
+-- whether the bytes of an AID equal those of a range; null has no range
 abbrev pub is_range : Seen → ℕ → ℕ → ℕ → ℕ → Bool
 is_range s aid array offset count =
     if array == 0 then false
     else aid_count s.objects aid == count && bytes_eq (aid_bytes s.objects aid) (range_bytes s array offset count)
 
--- so many bytes of an array are kept, behind their count
+-- stores `count` bytes of an array, after their count
 abbrev pub constructs : Seen → Kept → ℕ → ℕ → ℕ → ℕ → Work
 constructs s k aid array offset count =
     unless_system k illegal_value (has_aid_length count)
     (writes_to k aid 0 (count ∷ range_bytes s array offset count) NoResult)
 
--- the constructor keeps 5 to 16 bytes, behind their count; equals compares all bytes; getBytes writes all of them, and
--- gives their number
+-- the constructor stores 5 to 16 bytes, after their count; equals compares all bytes; getBytes writes all of them, and
+-- returns their number
 abbrev pub aid_work : Seen → Kept → List ℕ → AidNative → Work
 aid_work s k arguments Construct =
     constructs s k (argument arguments 0) (argument arguments 1) (argument arguments 2)

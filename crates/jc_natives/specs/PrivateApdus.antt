@@ -1,4 +1,4 @@
--- What members of APDU test and do on words without tags.
+-- The tests and works of members of APDU on words without tags.
 use Rattle.std.specs.Prelude.{ℕ, ◌+◌, Bool, List, ◌++◌, length, nat_le, if◌then◌else◌}
 use Rattle.jc_machine.specs.Runtime.{apdu_buffer}
 use Rattle.jc_natives.specs.Cells.{is_within}
@@ -21,7 +21,7 @@ use Rattle.jc_natives.specs.declared.row.Length.TheVariants.{ShortAt}
 use Rattle.jc_natives.specs.declared.row.Test.TheVariants.{Object}
 use Rattle.jc_natives.specs.declared.row.Use.TheVariants.{Loads}
 
--- what each tests
+-- the tests of each member
 abbrev pub apdu_row : ApduNative → MemberRow
 apdu_row GetBuffer = called
 apdu_row SetIncomingAndReceive = called
@@ -31,16 +31,16 @@ apdu_row SendBytes = called
 apdu_row SendBytesLong = called_on (Object 1 Loads) (ShortAt 3)
 apdu_row SetOutgoingAndSend = called
 
--- what goes on where a test passes, and what is thrown else
+-- the work if a test passes; otherwise an exception
 abbrev pub unless_apdu : Kept → ℕ → Bool → Work → Work
 unless_apdu k reason passes work = if passes then work else throws_apdu k reason
 
--- ---- what is sent
+-- ---- sent data
 
 abbrev pub is_in_buffer : Seen → ℕ → ℕ → Bool
 is_in_buffer s offset count = is_within (size_of s.objects apdu_buffer) offset count
 
--- so many bytes of an array more, where they are no more in all than was announced
+-- sends `count` more bytes of an array, if that doesn't exceed the announced length
 abbrev pub sends : Seen → Kept → ℕ → ℕ → ℕ → Work
 sends s k array offset count =
     unless_apdu k illegal_use (nat_le (length k.sent + count) k.announced)
@@ -48,11 +48,11 @@ sends s k array offset count =
 
 -- ---- the members
 
--- a member in another state than its own is an illegal use
+-- a member in a wrong state is an illegal use
 abbrev pub in_state : Kept → Bool → Work → Work
 in_state k fits work = unless_apdu k illegal_use fits work
 
--- what is sent at once is all that is sent
+-- sends these bytes as the whole answer
 abbrev pub sends_at_once : Seen → Kept → ℕ → ℕ → Work
 sends_at_once s k offset count =
     in_state k (is_incoming k.state)

@@ -1,4 +1,4 @@
--- What members of Applet test and do on words without tags.
+-- The tests and works of members of Applet on words without tags.
 use Rattle.std.specs.Prelude.{ℕ, Bool, List, Option, Some, None}
 use Rattle.std.specs.Option.{option_map_or}
 use Rattle.jc_firewall.specs.Verdict.{runtime}
@@ -22,7 +22,7 @@ use Rattle.jc_natives.specs.declared.row.Length.TheVariants.{ByteAt}
 use Rattle.jc_natives.specs.declared.row.Test.TheVariants.{Object}
 use Rattle.jc_natives.specs.declared.row.Use.TheVariants.{Loads}
 
--- what each tests
+-- the tests of each member
 abbrev pub applet_row : AppletNative → MemberRow
 applet_row Register = called
 applet_row RegisterBytes = called_on (Object 1 Loads) (ByteAt 3)
@@ -32,18 +32,18 @@ applet_row Process = called
 applet_row SelectingApplet = called
 applet_row GetShareable = called
 
--- the owner of an object; of none the runtime
+-- the owner of an object; without an object the runtime
 abbrev pub owner_of : Heap ℕ → ℕ → Owner
 owner_of objects number = option_map_or (λ object. object.owner) (object_at objects number) runtime
 
--- whether an object may register in the name of an instance, and the instance in whose name it may
+-- whether an object may register for an instance, and the instance for which it may
 abbrev pub may_register : Seen → ℕ → Installing → Bool
 may_register s object i = members.may_register (owner_of s.objects object) i
 
 abbrev pub allowed : Seen → ℕ → Option Installing → Option Installing
 allowed s object o = members.allowed (owner_of s.objects object) o
 
--- an instance registers under an AID
+-- an instance registers with an AID
 abbrev pub registers : Seen → Kept → ℕ → ℕ → List ℕ → Work
 registers s k number object aid = members.registers k number object (owner_of s.objects object) aid
 
@@ -51,7 +51,7 @@ abbrev pub on_allowed : Kept → Option Installing → (Installing → Work) →
 on_allowed k None go = throws_system k illegal_aid
 on_allowed k (Some i) go = go i
 
--- under the bytes of a range
+-- it registers with the bytes of a range
 abbrev pub registers_bytes : Seen → Kept → ℕ → ℕ → ℕ → ℕ → ℕ → Work
 registers_bytes s k number object array offset count =
     unless_system k illegal_value (has_aid_length count)
@@ -62,7 +62,8 @@ registers_range s k arguments number =
     registers_bytes s k number (argument arguments 0) (argument arguments 1) (argument arguments 2)
     (extended (argument arguments 3))
 
--- register takes the AID of the applet, or the bytes of a range; what applets override gives 1, nothing, and null
+-- register takes the AID of the applet, or the bytes of a range; members that applets override return 1, nothing, and
+-- null
 abbrev pub applet_work : Seen → Kept → List ℕ → AppletNative → Work
 applet_work s k arguments Register =
     on_allowed k (allowed s (argument arguments 0) k.installing) (λ i.

@@ -1,4 +1,4 @@
--- Private. Members that are done at once: what the code is proved against.
+-- Private. Members that are done at once, as the code is proved.
 use Rattle.std.specs.Prelude.{◌≡◌, ℕ, true, List, Option, None}
 use Rattle.jc_machine.specs.WordNatives.{IfDone}
 use Rattle.jc_machine.specs.declared.natives.AtOnce.{AtOnce}
@@ -13,24 +13,24 @@ use Rattle.jc_natives.specs.declared.native.Native.{Native}
 use Rattle.jc_natives.specs.declared.row.Use.{Use}
 use Rattle.jc_store.specs.Store.{IsThere, Store}
 
--- an object is there, and may be used in a context in each way
+-- there is an object with a number, and a context may use it in every way
 pub record MayBeUsed (store : Store) (number context : ℕ) : Type 0 where
   pub there : IsThere store number
   pub used : (s : Seen) (way : Use) → s.objects ≡ store.objects → s.active.context ≡ context
       → (used s way number).thrown ≡ None
 
--- it is an array, and has so many components from an index on
+-- there is such an array, and it has `count` components from an index on
 pub record HasOwnPart (store : Store) (number from count context : ℕ) : Type 0 where
   pub may : MayBeUsed store number context
   pub within : is_within (size_of store.objects number) from count ≡ true
 
--- so it is with both arrays of a member of two
+-- the same for both arrays of a member
 pub record HasOwnParts (store : Store) (arguments : List ℕ) (context : ℕ) : Type 0 where
   pub source : HasOwnPart store (argument arguments 0) (argument arguments 1) (argument arguments 4) context
   pub target : HasOwnPart store (argument arguments 2) (argument arguments 3) (argument arguments 4) context
 
--- where a member was done at once, what it leaves and gives is what its tests and its work come to, whatever else a
--- call of it shows in this context
+-- if a member was done at once, the store and the result are those of its tests and its work, whatever else the call
+-- has in this context
 abbrev pub WorksAtOnce : Option Native → List ℕ → ℕ → Store → Store → AtOnce → Type 0
 WorksAtOnce native arguments context before after given =
     (s : Seen) (k : Kept) → s.objects ≡ before.objects → s.active.context ≡ context

@@ -1,5 +1,5 @@
--- The components of objects without tags, as words and as bytes: what the code is proved against. Where there is no
--- such component a member reads 0.
+-- The components of objects without tags, as words and as bytes, as the code is proved. A missing component is read as
+-- 0.
 use Rattle.std.specs.Prelude.{ℕ, zero, suc, ◌+◌, List, [], ◌∷◌, get_or, length, map}
 use Rattle.std.specs.Option.{option_map_or}
 use Rattle.jc_natives.specs.Cells.{bits, low}
@@ -7,7 +7,7 @@ use Rattle.jc_natives.specs.Taking.{aid_length}
 use Rattle.jc_store.specs.Heap.{Heap, Object, object_at}
 use Rattle.jc_words.specs.Values.{TaggedValue}
 
--- an object, and all objects, without tags
+-- an object, and all objects, with their tags removed
 abbrev pub bare : Object TaggedValue → Object ℕ
 bare object = record { kind = object.kind; owner = object.owner; cells = map bits object.cells }
 
@@ -26,22 +26,22 @@ size_of objects number = option_map_or (λ object. length object.cells) (object_
 abbrev pub byte_of : Heap ℕ → ℕ → ℕ → ℕ
 byte_of objects number index = low (cell_of objects number index)
 
--- so many components from an index on, as they are
+-- `count` components from an index on, unchanged
 abbrev pub cells_from : Heap ℕ → ℕ → ℕ → ℕ → List ℕ
 cells_from objects number from zero = []
 cells_from objects number from (suc count) = cell_of objects number from ∷ cells_from objects number (from + 1) count
 
--- so many bytes from an index on
+-- `count` bytes from an index on
 abbrev pub bytes_of : Heap ℕ → ℕ → ℕ → ℕ → List ℕ
 bytes_of objects number from count = map low (cells_from objects number from count)
 
--- the bytes of an AID object: their count comes first, 16 at most
+-- the bytes of an AID object: their count comes first, at most 16
 abbrev pub aid_count : Heap ℕ → ℕ → ℕ
 aid_count objects number = aid_length (cell_of objects number 0)
 
 abbrev pub aid_bytes : Heap ℕ → ℕ → List ℕ
 aid_bytes objects number = bytes_of objects number 1 (aid_count objects number)
 
--- the argument at a place
+-- the argument at an index
 abbrev pub argument : List ℕ → ℕ → ℕ
 argument arguments place = get_or arguments place 0

@@ -1,4 +1,4 @@
--- What native members mean on words without tags: what the code is proved against.
+-- The meaning of native members on words without tags, as the code is proved.
 use Rattle.std.specs.Prelude.{ℕ, List, [], Option, Some, None, if◌then◌else◌}
 use Rattle.jc_api.specs.Numbered.{numbered}
 use Rattle.jc_link.specs.Linked.{World}
@@ -20,7 +20,7 @@ use Rattle.jc_natives.specs.declared.native.Native.{Native}
 use Rattle.jc_natives.specs.declared.native.Native.TheVariants.{OfAid, OfApdu, OfApplet, OfObject, OfSystem, OfUtility}
 use Rattle.jc_natives.specs.declared.row.MemberRow.{MemberRow}
 
--- what a member tests
+-- the tests of a member
 abbrev pub row_of : Native → MemberRow
 row_of (OfObject native) = object_row native
 row_of (OfAid native) = aid_row native
@@ -41,7 +41,7 @@ work_of s k arguments (OfUtility native) = utility_work s k arguments native
 
 -- ---- answers
 
--- where a test fails that is the end; else the work is done
+-- if a test fails, that is the end; otherwise the work is done
 abbrev pub ended_on_words : NativeCall Kept → List Touch → Option ℕ → Work → NativeAnswer Kept
 ended_on_words call touches (Some object) work = unchanged call touches (ThrowsObject object)
 ended_on_words call touches None work =

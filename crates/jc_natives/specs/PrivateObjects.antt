@@ -1,4 +1,4 @@
--- What members of Object and of exceptions test and do on words without tags.
+-- The tests and works of members of Object and of exceptions on words without tags.
 use Rattle.std.specs.Prelude.{ℕ, ◌==◌, ◌&&◌, ◌||◌, Bool, List, [], ◌∷◌, bytes_eq, None}
 use Rattle.jc_natives.specs.Cells.{bit, word}
 use Rattle.jc_natives.specs.Kept.{Kept}
@@ -14,7 +14,7 @@ use Rattle.jc_natives.specs.declared.row.MemberRow.{MemberRow}
 use Rattle.jc_natives.specs.declared.row.Test.TheVariants.{BesideAid, Object}
 use Rattle.jc_natives.specs.declared.row.Use.TheVariants.{Calls}
 
--- what each tests
+-- the tests of each member
 abbrev pub object_row : ObjectNative → MemberRow
 object_row Construct = constructed
 object_row Equals = rows_of (Object 0 Calls) BesideAid None None
@@ -23,7 +23,7 @@ object_row GetReason = called
 object_row SetReason = called
 object_row (ThrowIt object) = untested
 
--- objects have the same bytes as AIDs; and they are AIDs that do
+-- whether objects have the same bytes as AIDs; and whether they are AIDs that do
 abbrev pub have_same_aid : Heap ℕ → ℕ → ℕ → Bool
 have_same_aid objects one other =
     aid_count objects one == aid_count objects other && bytes_eq (aid_bytes objects one) (aid_bytes objects other)
@@ -31,7 +31,7 @@ have_same_aid objects one other =
 abbrev pub are_same_aids : Seen → ℕ → ℕ → Bool
 are_same_aids s one other = (is_aid_object s one && is_aid_object s other) && have_same_aid s.objects one other
 
--- the same object, or two AIDs of the same bytes
+-- the same object, or two AIDs with the same bytes
 abbrev pub equals : Seen → ℕ → ℕ → Bool
 equals s one other = one == other || are_same_aids s one other
 

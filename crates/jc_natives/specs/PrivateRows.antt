@@ -1,4 +1,4 @@
--- What native members test, as rows of the code: the forms of these rows. Each member's stands beside what it does.
+-- The forms of native members' tests, as rows of the code. Each member's row stands with its work.
 use Rattle.std.specs.Prelude.{ℕ, Option, Some, None}
 use Rattle.jc_natives.specs.declared.row.Length.{Length}
 use Rattle.jc_natives.specs.declared.row.Length.TheVariants.{ShortAt}
@@ -17,22 +17,23 @@ rows_of first second first_range second_range =
 abbrev pub range : ℕ → ℕ → Length → Option Range
 range array offset count = Some (record { array = array; offset = offset; length = count })
 
--- nothing is tested
+-- no test
 abbrev pub untested : MemberRow
 untested = rows_of Nothing Nothing None None
 
--- the object that is constructed, and that whose member is called
+-- tests of the object that is constructed, and of the one whose member is called
 abbrev pub constructed : MemberRow
 constructed = rows_of (Object 0 Fields) Nothing None None
 
 abbrev pub called : MemberRow
 called = rows_of (Object 0 Calls) Nothing None None
 
--- an object whose member is called, or that is constructed, and a range in the array that is its first argument
+-- a test of an object whose member is called, or that is constructed, and a range in the array that is the first
+-- argument
 abbrev pub called_on : Test → Length → MemberRow
 called_on array count = rows_of (Object 0 Calls) array (range 1 2 count) None
 
--- a range in the one array of a static member, and ranges in two
+-- tests of a range in the one array of a static member, and of ranges in two
 abbrev pub on_array : Test → Length → MemberRow
 on_array array count = rows_of array Nothing (range 0 1 count) None
 

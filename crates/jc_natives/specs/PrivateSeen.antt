@@ -1,4 +1,4 @@
--- What the code of a native member sees of its call: words, and objects without tags.
+-- The input of a native member's code: words, and objects without tags.
 use Rattle.std.specs.Prelude.{ℕ, Bool, false, List, map, Option}
 use Rattle.std.specs.Option.{option_map_or}
 use Rattle.jc_api.specs.declared.class.ApiClass.TheVariants.{Aid}
@@ -12,8 +12,8 @@ use Rattle.jc_natives.specs.Cells.{bits}
 use Rattle.jc_natives.specs.PrivateCells.{bared}
 use Rattle.jc_store.specs.Heap.{Heap, object_at}
 
--- the packages; the objects; the owner that is active, and the one before the last switch; the context of the applet
--- that is selected; and the most objects and cells
+-- the packages; the objects; the active owner, and the one before the last switch; the context of the selected applet;
+-- and the most objects and cells
 pub record Seen : Type 0 where
   pub shapes : List Shape
   pub objects : Heap ℕ
@@ -23,7 +23,7 @@ pub record Seen : Type 0 where
   pub most_objects : ℕ
   pub most_cells : ℕ
 
--- what a call on tagged values shows, and its arguments
+-- the input from a call on tagged values, and its arguments
 abbrev pub seen_of : {C : Type 0} → World → NativeCall C → Seen
 seen_of w call = record {
   shapes = w.shapes;
@@ -38,7 +38,7 @@ seen_of w call = record {
 abbrev pub arguments_of : {C : Type 0} → NativeCall C → List ℕ
 arguments_of call = map bits call.arguments
 
--- whether a number is that of an AID: of an object of class AID or below it
+-- whether a number is an AID's: of an object of class AID or below it
 abbrev pub is_aid_object : Seen → ℕ → Bool
 is_aid_object s number =
     option_map_or (λ object. is_of_class s.shapes (Api Aid) object.kind.object_type) (object_at s.objects number) false

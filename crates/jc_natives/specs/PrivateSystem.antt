@@ -1,4 +1,4 @@
--- What members of JCSystem test and do on words without tags.
+-- The tests and works of members of JCSystem on words without tags.
 use Rattle.std.specs.Prelude.{ℕ, Bool, List, Option, Some}
 use Rattle.jc_natives.specs.Cells.{extended}
 use Rattle.jc_natives.specs.Kept.{Kept, instance_with}
@@ -22,7 +22,7 @@ use Rattle.jc_natives.specs.declared.row.Length.TheVariants.{ByteAt}
 use Rattle.jc_natives.specs.declared.row.Test.TheVariants.{Object}
 use Rattle.jc_natives.specs.declared.row.Use.TheVariants.{Loads}
 
--- what each tests
+-- the tests of each member
 abbrev pub system_row : SystemNative → MemberRow
 system_row GetAid = untested
 system_row LookupAid = on_array (Object 0 Loads) (ByteAt 2)
@@ -33,7 +33,7 @@ system_row MakeBytes = untested
 system_row MakeShorts = untested
 system_row MakeReferences = untested
 
--- an instance is asked by the active owner
+-- the active owner asks an instance
 abbrev pub asks : Seen → Kept → ℕ → Option Instance → Work
 asks s k word o = members.asks k s.active word o
 

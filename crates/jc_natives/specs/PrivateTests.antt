@@ -1,5 +1,5 @@
--- What members test of their arguments on words without tags, by one rule: the object first, then the other references
--- from left to right, then the ranges from left to right.
+-- The tests of members' arguments on words without tags, by one rule: the object first, then the other references from
+-- left to right, then the ranges from left to right.
 use Rattle.std.specs.Prelude.{ℕ, ◌==◌, ◌&&◌, ◌||◌, Bool, false, List, [], ◌∷◌, ◌++◌, Option, Some, None, if◌then◌else◌}
 use Rattle.jc_firewall.specs.Verdict.{verdict_of}
 use Rattle.jc_firewall.specs.declared.access.Facts.{Facts}
@@ -23,9 +23,9 @@ use Rattle.jc_natives.specs.declared.row.Use.TheVariants.{Calls}
 use Rattle.jc_store.specs.Heap as heaps
 use Rattle.jc_store.specs.Heap.{object_at}
 
--- ---- what tests come to
+-- ---- results of tests
 
--- the accesses that were made, and the object that is thrown where a test fails
+-- the accesses that were made, and the object that is thrown if a test fails
 pub record Tested : Type 0 where
   pub touches : List Touch
   pub thrown : Option ℕ
@@ -36,7 +36,7 @@ passes = record { touches = []; thrown = None }
 abbrev pub fails : ℕ → Tested
 fails object = record { touches = []; thrown = Some object }
 
--- further tests are made where those before passed
+-- further tests follow if those before passed
 abbrev pub goes_on : List Touch → Option ℕ → Tested → Tested
 goes_on touches (Some object) later = record { touches = touches; thrown = Some object }
 goes_on touches None later = record { touches = touches ++ later.touches; thrown = later.thrown }
@@ -46,7 +46,7 @@ followed first later = goes_on first.touches first.thrown later
 
 -- ---- accesses
 
--- what the verdict hangs on. No such access is about a shareable interface, and none stores a reference
+-- the facts for the verdict. No such access is about a shareable interface, and none stores a reference
 abbrev pub facts_of : Seen → heaps.Object ℕ → Facts
 facts_of s object = record {
   owner = object.owner;
@@ -91,7 +91,7 @@ used s way number = on_object s way number (object_at s.objects number)
 
 -- ---- one test
 
--- nothing; an object; an object, if it isn't null; the second argument, where the first and it are AIDs
+-- no test; an object; an object, if it isn't null; the second argument, if the first two are AIDs
 abbrev pub test : Seen → List ℕ → Test → Tested
 test s arguments Nothing = passes
 test s arguments (Object place way) = used s way (argument arguments place)
@@ -103,15 +103,15 @@ test s arguments BesideAid =
 
 -- ---- ranges
 
--- how many components: a short, the low byte of an argument with its sign, always so many, or as many as an AID has
--- bytes
+-- the number of components: a short, the low byte of an argument, sign-extended, a fixed number, or the number of an
+-- AID's bytes
 abbrev pub length_of : Seen → List ℕ → Length → ℕ
 length_of s arguments (ShortAt place) = argument arguments place
 length_of s arguments (ByteAt place) = extended (argument arguments place)
 length_of s arguments (Fixed count) = count
 length_of s arguments (OfAid place) = aid_count s.objects (argument arguments place)
 
--- a range lies within its array; there is none in null
+-- a range lies within its array; a range in null always passes
 abbrev pub is_in_range : Seen → List ℕ → Range → Bool
 is_in_range s arguments r =
     argument arguments r.array == 0

@@ -1,4 +1,4 @@
--- What members of Util test and do on words without tags.
+-- The tests and works of members of Util on words without tags.
 use Rattle.std.specs.Prelude.{ℕ, ◌+◌, List, [], ◌∷◌, replicate}
 use Rattle.jc_natives.specs.Cells.{high, low, order_of, word, word_of_bytes}
 use Rattle.jc_natives.specs.Kept.{Kept}
@@ -15,7 +15,7 @@ use Rattle.jc_natives.specs.declared.row.Length.TheVariants.{Fixed, ShortAt}
 use Rattle.jc_natives.specs.declared.row.Test.TheVariants.{Object}
 use Rattle.jc_natives.specs.declared.row.Use.TheVariants.{Loads, Stores}
 
--- what each tests
+-- the tests of each member
 abbrev pub utility_row : UtilityNative → MemberRow
 utility_row ArrayCopy = on_arrays (Object 0 Loads) (Object 2 Stores)
 utility_row ArrayFill = on_array (Object 0 Stores) (ShortAt 2)
@@ -24,8 +24,8 @@ utility_row GetShort = on_array (Object 0 Loads) (Fixed 2)
 utility_row SetShort = on_array (Object 0 Stores) (Fixed 2)
 utility_row MakeShort = untested
 
--- A copy is as through a copy of the source. What the source holds is written as it is: arrays of bytes hold bytes, so
--- these are bytes. What is written ends behind the offset that is given.
+-- A copy works as if the source was copied first, and writes its components unchanged: arrays of bytes hold bytes, so
+-- these are bytes. Members that write return the offset after the written components.
 abbrev pub utility_work : Seen → Kept → List ℕ → UtilityNative → Work
 utility_work s k arguments ArrayCopy =
     writes_to k (argument arguments 2) (argument arguments 3)

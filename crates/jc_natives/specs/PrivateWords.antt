@@ -1,4 +1,4 @@
--- What a work leaves on words: what the code is proved against.
+-- The result of a work on words, as the code is proved.
 use Rattle.std.specs.Prelude.{◌≡◌, ℕ, List, [], ◌∷◌, Option, Some, None}
 use Rattle.jc_machine.specs.declared.natives.WordCall.{WordCall}
 use Rattle.jc_machine.specs.declared.natives.WordCallback.{WordCallback}
@@ -23,7 +23,7 @@ use Rattle.jc_store.specs.Store.{Store, fresh, with_made, with_objects}
 use Rattle.jc_store.specs.declared.kind.ObjectKind.{ObjectKind}
 use Rattle.jc_store.specs.declared.kind.Mark.TheVariants.{Plain}
 
--- what a call on words shows
+-- the input from a call on words
 abbrev pub seen_in : Store → WordCall → Seen
 seen_in store call = record {
   shapes = call.world.now.shapes;
@@ -35,13 +35,13 @@ seen_in store call = record {
   most_cells = store.most_cells;
 }
 
--- the store and what the runtime keeps behind a work, and how it ends
+-- the store and the runtime's state after a work, and its end
 pub record Done : Type 0 where
   pub store : Store
   pub kept : Kept
   pub ended : Ended
 
--- words that are written one behind the other
+-- the objects after consecutive writes of words
 abbrev pub laid : Heap ℕ → List Write → Heap ℕ
 laid objects [] = objects
 laid objects (w ∷ writes) = laid (put_all objects w.object w.from w.words) writes
@@ -73,7 +73,7 @@ done_of owner store k work =
 abbrev pub Passes : Seen → List ℕ → Native → Type 0
 Passes s arguments native = (tested s arguments (row_of native)).thrown ≡ None
 
--- the work of a member whose arguments are tested: to throw, where a test fails
+-- the work of a member with its tests: to throw, if a test fails
 abbrev pub tested_work : Kept → Option ℕ → Work → Work
 tested_work k (Some object) work = throws k object
 tested_work k None work = work
@@ -82,12 +82,12 @@ abbrev pub native_work : Seen → Kept → List ℕ → Native → Work
 native_work s k arguments native =
     tested_work k (tested s arguments (row_of native)).thrown (work_of s k arguments native)
 
--- without a member there is nothing to do
+-- without a member there is no work
 abbrev pub word_work : Seen → Kept → List ℕ → Option Native → Work
 word_work s k arguments None = gives k NoResult
 word_work s k arguments (Some native) = native_work s k arguments native
 
--- a question as a call, and an end as it is told
+-- a question as a call, and an end as an outcome
 pub record AsksSo (callback : WordCallback) (q : Question) : Type 0 where
   pub member : callback.member ≡ shareable_member
   pub object : callback.object ≡ q.object

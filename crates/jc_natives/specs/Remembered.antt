@@ -1,4 +1,4 @@
--- What native members may change of what the runtime keeps, and whose AIDs they tell (Java Card Runtime Environment
+-- What native members may change of the runtime's state, and which AIDs they return (Java Card Runtime Environment
 -- Specification, Applet Lifetime; Java Card API Specification, APDU, Applet.register, JCSystem).
 use Rattle.std.specs.Prelude.{◌≡◌, ◌≢◌, ◌⊎◌, ℕ, ◌+◌, ◌==◌, ◌&&◌, ◌||◌, Bool, true, false, [], ◌∷◌, ◌++◌, Option}
 use Rattle.std.specs.Prelude.{Some, None, nat_le, nat_lt, slice_get}
@@ -34,9 +34,9 @@ get_previous_aid = 43
 
 -- ---- registered instances
 
--- one instance more is registered. Its object is the applet that the call's first argument leads to, and its owner is
--- the owner of that object: the instance that is being installed. No registered instance had its AID. The instance that
--- is being installed hadn't registered; now it has
+-- one more instance is registered. Its object is the applet of the call's first argument, and its owner is the owner of
+-- that object: the instance that is being installed. No registered instance had its AID. The instance that is being
+-- installed hadn't registered; now it has
 pub record HasRegistered (call : NativeCall Kept) (after : Kept) : Type 0 where
   pub instance : Instance
   pub instances : after.instances ≡ call.runtime.instances ++ instance ∷ []
@@ -51,7 +51,7 @@ pub record HasRegistered (call : NativeCall Kept) (after : Kept) : Type 0 where
   pub installs : instance.owner ≡ installing.owner
   pub is : after.installing ≡ Some (record { owner = installing.owner; aid = installing.aid; registered = true })
 
--- the instances are what they were, and so is the one that is being installed; or a call of register has added one
+-- the instances and the one that is being installed are unchanged; or a call of register has added one
 pub data KeepsInstances (call : NativeCall Kept) (after : Kept) : Type 0 where
   as_they_were : after.instances ≡ call.runtime.instances → after.installing ≡ call.runtime.installing
       → KeepsInstances call after
@@ -59,22 +59,22 @@ pub data KeepsInstances (call : NativeCall Kept) (after : Kept) : Type 0 where
 
 -- ---- the exchange of a command and its answer
 
--- it stands where it stood
+-- it is unchanged
 pub record KeepsExchange (before after : Kept) : Type 0 where
   pub state : after.state ≡ before.state
   pub announced : after.announced ≡ before.announced
   pub sent : after.sent ≡ before.sent
 
--- ---- AIDs that are told
+-- ---- AIDs that are returned
 
--- a value tells the AID of an owner: it leads to the AID object of the registered instance that has this owner, or it
--- is null where no registered instance has
+-- a value is the AID of an owner: a reference to the AID object of the registered instance with this owner, or null if
+-- there is no such instance
 pub data TellsAid (k : Kept) (owner : Owner) : TaggedValue → Type 0 where
   of_instance : (place : ℕ) (i : Instance) → slice_get k.instances place ≡ Some i → i.owner ≡ owner
       → TellsAid k owner (Ref (aid_object i.owner.instance))
   of_none : AllByRecursion (λ (i : Instance). i.owner ≢ owner) k.instances → TellsAid k owner Null
 
--- that of the previous owner; null where there was none
+-- the AID of the previous owner; null if there was none
 abbrev pub TellsPreviousAid : Kept → Option Owner → TaggedValue → Type 0
 TellsPreviousAid k None value = value ≡ Null
 TellsPreviousAid k (Some owner) value = TellsAid k owner value
@@ -85,7 +85,7 @@ TellsPreviousAid k (Some owner) value = TellsAid k owner value
 abbrev pub is_aid_object : ℕ → Bool
 is_aid_object number = nat_le first_aid_object number && nat_lt number (first_aid_object + most_instances)
 
--- register is called, and an object is the AID object of the instance that is being installed, which hasn't registered
+-- register is called, and an object is the AID object of the instance that is being installed and hasn't registered
 pub record WritesOwnAid (call : NativeCall Kept) (number : ℕ) : Type 0 where
   pub register : is_register call.member ≡ true
   pub installing : Installing
@@ -93,7 +93,7 @@ pub record WritesOwnAid (call : NativeCall Kept) (number : ℕ) : Type 0 where
   pub waited : installing.registered ≡ false
   pub is : number ≡ aid_object installing.owner.instance
 
--- AID objects have the components that they had, but for that one
+-- AID objects have the components that they had, except that one
 abbrev pub KeepsAids : NativeCall Kept → Heap TaggedValue → Type 0
 KeepsAids call after = (number : ℕ) (o p : Object TaggedValue) → is_aid_object number ≡ true
     → object_at call.heap number ≡ Some o → object_at after number ≡ Some p
@@ -101,11 +101,11 @@ KeepsAids call after = (number : ℕ) (o p : Object TaggedValue) → is_aid_obje
 
 -- ---- the law
 
--- what is kept behind a call: the instances; how many numbers were given out; the data of the command, its Le, and
--- whether it is the SELECT that selected; and where the exchange stands, which members of APDU alone change. And whose
--- AID is told: getAID tells that of the active owner, and getPreviousContextAID that of the owner before it; an applet
--- that is asked for a shareable object is told that of the active owner. And in a world that is built, where the
--- runtime's own objects are there, a call by an applet leaves the AID objects as they are, but for register
+-- the runtime's state after a call: the instances; how many numbers were assigned; the data of the command, its Le, and
+-- whether it is the SELECT that selected; and the exchange, which only members of APDU change. And the AIDs: getAID
+-- returns that of the active owner, and getPreviousContextAID that of the owner before it; an applet that is asked for
+-- a shareable object gets that of the active owner. And in a built world with the runtime's own objects, a call by an
+-- applet leaves the AID objects unchanged, except with register
 pub record IsRemembered (w : World) (call : NativeCall Kept) (a : NativeAnswer Kept) : Type 0 where
   pub instances : KeepsInstances call a.runtime
   pub numbers : a.runtime.numbers ≡ call.runtime.numbers

@@ -1,6 +1,5 @@
--- How a native member takes its arguments and reads components. It is stuck on what doesn't fit: where an argument
--- isn't there, or is of another tag; where a reference leads to no object; and where a component that it reads is no
--- word.
+-- How a native member takes its arguments and reads components. It is stuck if something doesn't fit: if an argument is
+-- missing or has another tag, if a reference refers to no object, or if a component that it reads is no word.
 use Rattle.std.specs.Prelude.{ℕ, zero, suc, ◌+◌, List, [], ◌∷◌, length, map, Option, Some, None, nat_lt, slice_get}
 use Rattle.std.specs.Prelude.{if◌then◌else◌}
 use Rattle.std.specs.Option.{option_and_then, option_map, option_map_or}
@@ -14,7 +13,7 @@ use Rattle.jc_natives.specs.declared.row.Length.TheVariants.{ByteAt, Fixed, OfAi
 use Rattle.jc_store.specs.Heap.{Heap, Object, object_at}
 use Rattle.jc_words.specs.Values.{Null, Ref, TaggedValue, Unset, Word}
 
--- what a member looks at: the packages, and its call
+-- the input of a member: the packages, and its call
 pub record Called : Type 0 where
   pub shapes : List Shape
   pub call : NativeCall Kept
@@ -31,7 +30,7 @@ as_word (Ref n) = None
 as_word Null = None
 as_word Unset = None
 
--- the number of the object that a reference leads to; 0 of null
+-- the number of the object of a reference; 0 for null
 abbrev pub as_reference : TaggedValue → Option ℕ
 as_reference (Word n) = None
 as_reference (Ref n) = Some n
@@ -40,24 +39,24 @@ as_reference Unset = None
 
 -- ---- components
 
--- the component of an object at an index. Where it has no such component a member reads 0
+-- the component of an object at an index; a missing component is read as 0
 abbrev pub word_at : Heap TaggedValue → ℕ → ℕ → Option ℕ
 word_at heap number index =
     option_and_then (λ (object : Object TaggedValue). option_map_or as_word (slice_get object.cells index) (Some 0))
     (object_at heap number)
 
--- so many components from an index on, as they are
+-- `count` components from an index on, unchanged
 abbrev pub words_in : Heap TaggedValue → ℕ → ℕ → ℕ → Option (List ℕ)
 words_in heap number from zero = Some []
 words_in heap number from (suc count) =
     option_and_then (λ word. option_map (λ words. word ∷ words) (words_in heap number (from + 1) count))
     (word_at heap number from)
 
--- so many bytes from an index on
+-- `count` bytes from an index on
 abbrev pub bytes_in : Heap TaggedValue → ℕ → ℕ → ℕ → Option (List ℕ)
 bytes_in heap number from count = option_map (λ words. map low words) (words_in heap number from count)
 
--- an AID has 16 bytes at most
+-- an AID has at most 16 bytes
 abbrev pub aid_length : ℕ → ℕ
 aid_length count = if nat_lt count 16 then count else 16
 
@@ -65,7 +64,7 @@ aid_length count = if nat_lt count 16 then count else 16
 abbrev pub aid_in : Heap TaggedValue → ℕ → Option (List ℕ)
 aid_in heap number = option_and_then (λ count. bytes_in heap number 1 (aid_length count)) (word_at heap number 0)
 
--- ---- what a member goes on with: an argument at a place
+-- ---- an argument at an index, for the rest of a member
 
 abbrev pub on_word : {A : Type 0} → Called → ℕ → (ℕ → Option A) → Option A
 on_word h place go = option_and_then go (option_and_then as_word (slice_get h.call.arguments place))
@@ -73,7 +72,7 @@ on_word h place go = option_and_then go (option_and_then as_word (slice_get h.ca
 abbrev pub on_reference : {A : Type 0} → Called → ℕ → (ℕ → Option A) → Option A
 on_reference h place go = option_and_then go (option_and_then as_reference (slice_get h.call.arguments place))
 
--- ---- the object with a number, and what it holds
+-- ---- the object with a number, and its components
 
 abbrev pub on_object : {A : Type 0} → Called → ℕ → (Object TaggedValue → Option A) → Option A
 on_object h number go = option_and_then go (object_at h.call.heap number)
@@ -92,20 +91,20 @@ on_aid h number go = option_and_then go (aid_in h.call.heap number)
 
 -- ---- ranges
 
--- how many components: a short, the low byte of an argument with its sign, always so many, or as many as the AID has
--- bytes that is the argument at a place
+-- the number of components: a short, the low byte of an argument, sign-extended, a fixed number, or the number of bytes
+-- of the AID at an index
 abbrev pub on_length : {A : Type 0} → Called → Length → (ℕ → Option A) → Option A
 on_length h (ShortAt place) go = on_word h place go
 on_length h (ByteAt place) go = on_word h place (λ word. go (extended word))
 on_length h (Fixed count) go = go count
 on_length h (OfAid place) go = on_reference h place (λ aid. on_aid h aid (λ bytes. go (length bytes)))
 
--- the bytes of a range: the array and the offset stand at places among the arguments
+-- the bytes of a range: the array and the offset are at indexes among the arguments
 abbrev pub on_range : {A : Type 0} → Called → ℕ → ℕ → Length → (List ℕ → Option A) → Option A
 on_range h array offset count go =
     on_reference h array (λ number. on_word h offset (λ from. on_length h count (λ n. on_bytes h number from n go)))
 
--- ---- one look behind the other, each on a line of a `do` block: what is found has a name, and a test has none
+-- ---- steps one after the other, each on a line of a `do` block: a result has a name, and a test has none
 
 infixl 10 ◌>>=◌
 abbrev pub ◌>>=◌ : {A B : Type 0} → ((A → Option B) → Option B) → (A → Option B) → Option B

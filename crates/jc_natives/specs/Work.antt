@@ -1,4 +1,4 @@
--- What a native member does once its tests have passed, and how a work that is refused ends.
+-- The work of a native member after its tests have passed, and the ends of refused works.
 use Rattle.std.specs.Prelude.{ℕ, Bool, List, [], ◌∷◌, if◌then◌else◌}
 use Rattle.jc_api.specs.declared.class.ApiClass.TheVariants.{Object}
 use Rattle.jc_machine.specs.Machine.{ByCode, ByRuntime}
@@ -13,14 +13,14 @@ use Rattle.jc_store.specs.declared.kind.ClearingEvent.{ClearingEvent}
 use Rattle.jc_store.specs.declared.kind.ObjectType.{ObjectType}
 use Rattle.jc_store.specs.declared.kind.ObjectType.TheVariants.{BooleanArray, ByteArray, ReferenceArray, ShortArray}
 
--- how it ends: with nothing, a word, a reference, which is 0 for null, or an object that is thrown
+-- its end: no result, a word, a reference, which is 0 for null, or an object that is thrown
 pub data Ending : Type 0 where
   NoResult : Ending
   GivesWord : (word : ℕ) → Ending
   GivesReference : (number : ℕ) → Ending
   Throws : (object : ℕ) → Ending
 
--- a transient array: what its components are, the event that clears it, and how many components it has
+-- a transient array: the type of its components, the event that clears it, and how many components it has
 pub record NewArray : Type 0 where
   pub elements : Elements
   pub event : ClearingEvent
@@ -32,26 +32,26 @@ array_type Bytes = ByteArray
 array_type Shorts = ShortArray
 array_type References = ReferenceArray (Api Object)
 
--- it writes, leaves what the runtime keeps, and ends; or it makes an array, and gives it; or it asks an applet for a
+-- it writes, leaves the runtime's state, and ends; or it makes an array, and returns it; or it asks an applet for a
 -- shareable object, with the number of an AID or 0, and a word
 pub data Work : Type 0 where
   Does : (writes : List Write) (runtime : Kept) (ending : Ending) → Work
   Makes : (array : NewArray) → Work
   Asks : (question : Question) → Work
 
--- it changes nothing
+-- it changes no object
 abbrev pub gives : Kept → Ending → Work
 gives k ending = Does [] k ending
 
 abbrev pub throws : Kept → ℕ → Work
 throws k object = Does [] k (Throws object)
 
--- words are written to an object, by the caller
+-- the caller writes words to an object
 abbrev pub writes_to : Kept → ℕ → ℕ → List ℕ → Ending → Work
 writes_to k object from words ending =
     Does (record { by = ByCode; object = object; from = from; words = words } ∷ []) k ending
 
--- to an object of the runtime's, by the runtime
+-- the runtime writes words to an object of its own
 abbrev pub writes_own : Kept → ℕ → ℕ → List ℕ → Ending → Work
 writes_own k object from words ending =
     Does (record { by = ByRuntime; object = object; from = from; words = words } ∷ []) k ending
@@ -89,6 +89,6 @@ throws_system k reason = throws_with k system_exception reason
 abbrev pub throws_apdu : Kept → ℕ → Work
 throws_apdu k reason = throws_with k apdu_exception reason
 
--- what goes on where a test passes, and what is thrown else
+-- the work if a test passes; otherwise an exception
 abbrev pub unless_system : Kept → ℕ → Bool → Work → Work
 unless_system k reason passes work = if passes then work else throws_system k reason

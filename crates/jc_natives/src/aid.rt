@@ -21,17 +21,17 @@ use crate::rows::{called_on, range};
 use jc_machine::WordCall;
 use jc_store::Store;
 
-/// The reason of a SystemException where a value isn't allowed.
+/// The reason of a SystemException for a value that isn't allowed.
 pub(crate) const ILLEGAL_VALUE: u16 = 1;
 
-/// Whether an AID may have so many bytes.
+/// Whether an AID may have this many bytes.
 pub(crate) fn has_aid_length(count: u16) -> bool
     ensures { result ≡ has_aid_length count }
 {
     5 <= count && count <= 16
 }
 
-// Keeps so many bytes of an array in an AID, behind their count.
+// Stores `count` bytes of an array in an AID, after their count.
 fn keep(store: &mut Store, aid: u16, array: u16, offset: u16, count: u16)
     ensures { store.new ≡ with_objects store.old (put_all store.old.objects aid 0
         (count ∷ bytes_of store.old.objects array offset count)) }
@@ -56,7 +56,7 @@ fn construct(store: &mut Store, call: &WordCall<'_>, runtime: &Runtime) -> Ended
     Ended::Returned(None)
 }
 
-// Whether an AID is exactly the bytes of a range.
+// Whether the bytes of an AID equal those of a range.
 fn is_range(
     store: &Store,
     call: &WordCall<'_>,
@@ -137,7 +137,7 @@ impl Member for AidNative {
     }
 }
 
-/// Calls a member of AID. Each arm names its member, so that its row is known when it is compiled.
+/// Calls a member of AID. Each arm names its member, so its row is known at compile time.
 #[inline(never)]
 pub(crate) fn aid_native(
     store: &mut Store,

@@ -21,7 +21,7 @@ use jc_store::Store;
 /// The number of the APDU buffer.
 const BUFFER: u16 = 12;
 
-/// Where the data of a command stand in it.
+/// The offset of a command's data in the buffer.
 const DATA_OFFSET: usize = 5;
 
 /// The most bytes that are sent.
@@ -116,7 +116,7 @@ fn set_length(store: &mut Store, call: &WordCall<'_>, runtime: &mut Runtime) -> 
     Ended::Returned(None)
 }
 
-// Sends so many bytes of an array more, where they are no more in all than was announced.
+// Sends `count` more bytes of an array, if that doesn't exceed the announced length.
 fn send(
     store: &mut Store,
     call: &WordCall<'_>,
@@ -136,7 +136,7 @@ fn send(
     Ended::Returned(None)
 }
 
-// Whether a range lies in the buffer.
+// Whether a range lies within the buffer.
 fn is_in_buffer(store: &Store, call: &WordCall<'_>, offset: u16, count: u16) -> bool
     ensures { result ≡ is_in_buffer (seen_in store.now call.now) offset count }
 {
@@ -173,7 +173,7 @@ fn send_bytes_long(store: &mut Store, call: &WordCall<'_>, runtime: &mut Runtime
     send(store, call, runtime, array, offset, count)
 }
 
-// Sends a range of the buffer as all that is sent.
+// Sends a range of the buffer as the whole answer.
 fn send_at_once(
     store: &mut Store,
     call: &WordCall<'_>,
@@ -251,7 +251,7 @@ impl Member for ApduNative {
     }
 }
 
-/// Calls a member of APDU. Each arm names its member, so that its row is known when it is compiled.
+/// Calls a member of APDU. Each arm names its member, so its row is known at compile time.
 #[inline(never)]
 pub(crate) fn apdu_native(
     store: &mut Store,

@@ -24,7 +24,7 @@ use jc_machine::WordCall;
 use jc_names::Owner;
 use jc_store::Store;
 
-/// The reason of a SystemException where an applet may not register.
+/// The reason of a SystemException for an applet that may not register.
 const ILLEGAL_AID: u16 = 4;
 
 /// The AID object of the instance with a number, from 1 on.
@@ -34,7 +34,7 @@ pub(crate) fn aid_object(number: u8) -> u16
     13 + u16::from(number)
 }
 
-// The owner of an object; of none the runtime.
+// The owner of an object; without an object the runtime.
 fn owner_of(store: &Store, number: u16) -> Owner
     ensures { result ≡ owner_of store.now.objects number }
 {
@@ -45,14 +45,14 @@ fn owner_of(store: &Store, number: u16) -> Owner
     }
 }
 
-// Whether an object's owner is the instance that is being installed, which hasn't registered.
+// Whether an object's owner is the instance that is being installed, and this hasn't registered.
 fn may_register(store: &Store, call: &WordCall<'_>, object: u16, installing: &Installing) -> bool
     ensures { result ≡ may_register (seen_in store.now call.now) object installing.now }
 {
     !installing.registered && is_same_owner(owner_of(store, object), installing.owner)
 }
 
-// The instance that is being installed, if an object may register in its name.
+// The instance that is being installed, if an object may register for it.
 fn allowed(store: &Store, call: &WordCall<'_>, runtime: &Runtime, object: u16) -> Option<Installing>
     ensures allowed { result ≡ allowed (seen_in store.now call.now) object runtime.now.installing }
     ensures waits { IfSome result (λ i. waits runtime.now ≡ true) }
@@ -65,14 +65,14 @@ fn allowed(store: &Store, call: &WordCall<'_>, runtime: &Runtime, object: u16) -
     }
 }
 
-// Whether no registered instance has an AID.
+// Whether no registered instance has this AID.
 fn is_free(runtime: &Runtime, aid: &[u8]) -> bool
     ensures { result ≡ not (is_some (instance_with runtime.now.instances aid.now)) }
 {
     !runtime.instance_with(aid).is_some()
 }
 
-// Registers the instance with a number under an AID that no registered instance has.
+// Registers the instance with a number with an AID, if no registered instance has that.
 fn register_as(
     store: &mut Store,
     call: &WordCall<'_>,
@@ -112,7 +112,7 @@ fn register(store: &mut Store, call: &WordCall<'_>, runtime: &mut Runtime) -> En
     }
 }
 
-// The AID whose bytes stand in an array, from an offset on, if they are one.
+// The AID with the bytes of an array from an offset on, if they are one.
 fn aid_in(store: &Store, array: u16, offset: u16, count: u16) -> Option<Aid>
     ensures { result ≡ (if has_aid_length count then Some (bytes_of store.now.objects array offset count) else None) }
 {
@@ -124,7 +124,7 @@ fn aid_in(store: &Store, array: u16, offset: u16, count: u16) -> Option<Aid>
     Aid::from_slice(bytes.as_slice())
 }
 
-// Registers the instance with a number under the bytes of a range.
+// Registers the instance with a number with the bytes of a range.
 fn register_range(
     store: &mut Store,
     call: &WordCall<'_>,
@@ -207,7 +207,7 @@ impl Member for AppletNative {
     }
 }
 
-/// Calls a member of Applet. Each arm names its member, so that its row is known when it is compiled.
+/// Calls a member of Applet. Each arm names its member, so its row is known at compile time.
 #[inline(never)]
 pub(crate) fn applet_native(
     store: &mut Store,

@@ -1,5 +1,5 @@
-//! Members that are done at once, by scalars: short ones, and those that move bytes. The objects that they use have to
-//! be the active context's own, and ranges have to lie within them. All else is left to the tests of a call.
+//! Members that are done at once, on scalars: short ones, and those that move bytes. Their objects have to be the
+//! active context's own, and ranges have to lie within them. Everything else is left to the tests of a call.
 
 ghost use Rattle.std.specs.Prelude.{◌≡◌, ◌<◌, true, Some};
 ghost use Rattle.jc_api.specs.Numbered.{numbered};
@@ -17,8 +17,8 @@ use jc_firewall::own_is_allowed;
 use jc_machine::AtOnce;
 use jc_store::Store;
 
-// Whether an object is a context's own, so that it may be used there in each way. No context is 255. Null is no
-// context's own.
+// Whether an object is a context's own, so the context may use it in every way. No context is 255. Null is no context's
+// own.
 #[inline(always)]
 #[tactic(auto, using(crate::proofs::Owning::own_passes, crate::proofs::Owning::reference_within))]
 fn is_own(store: &Store, number: u16, context: u8) -> bool
@@ -29,7 +29,7 @@ fn is_own(store: &Store, number: u16, context: u8) -> bool
     number <= store.objects_used() && store.is_own(number, context)
 }
 
-// Whether an array is a context's own, and so many components from an index on lie within it.
+// Whether an array is a context's own, and has `count` components from an index on.
 #[inline(always)]
 fn has_own_part(store: &Store, number: u16, from: u16, count: u16, context: u8) -> bool
     requires known { context < 255 }
@@ -38,7 +38,7 @@ fn has_own_part(store: &Store, number: u16, from: u16, count: u16, context: u8) 
     is_own(store, number, context) && is_within(store.len(number), from, count)
 }
 
-// Whether both arrays of a member of two are a context's own, and the ranges lie within them.
+// Whether both arrays of a member are a context's own, and the ranges lie within them.
 #[inline(never)]
 fn has_own_parts(store: &Store, arguments: &[u16], context: u8) -> bool
     requires known { context < 255 }
@@ -163,8 +163,8 @@ fn array_compare(store: &Store, arguments: &[u16], context: u8) -> AtOnce
     AtOnce::Gives(compare_bytes(store, one, one_from, other, other_from, count))
 }
 
-/// Does the member with a number at once, if it is one that is done so, in the context of an applet. It is named by its
-/// number, and handed as many words as it takes: so its arguments are known to be there.
+/// Executes the member with a number at once, in the context of an applet, if it is one that can be done so. It is
+/// selected by its number and its number of arguments, so all its arguments are there.
 #[inline(always)]
 pub(crate) fn done_at_once(store: &mut Store, member: u16, arguments: &[u16], context: u8) -> AtOnce
     ensures works { WorksAtOnce (numbered natives member) arguments.now context store.old store.new result }

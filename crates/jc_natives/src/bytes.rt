@@ -1,4 +1,4 @@
-//! Bytes of objects, many at once.
+//! Blocks of bytes of objects.
 
 ghost use Rattle.std.specs.Prelude.{◌≡◌, ◌+◌, ◌++◌, ◌≤◌, [], ◌∷◌, bytes_eq, length, replicate};
 ghost use Rattle.arrayvec.specs.ArrayVec.{array_vec_len};
@@ -15,7 +15,7 @@ use crate::words::{
 use arrayvec::ArrayVec;
 use jc_store::Store;
 
-/// Whether so many bytes of an object, from an index on, are these.
+/// Whether the `count` bytes of an object from an index on equal these.
 pub(crate) fn are_bytes(store: &Store, number: u16, from: usize, count: u16, bytes: &[u8]) -> bool
     requires { from ≤ 65536 }
     ensures { result ≡ bytes_eq bytes.now (bytes_of store.now.objects number from count) }
@@ -26,7 +26,7 @@ pub(crate) fn are_bytes(store: &Store, number: u16, from: usize, count: u16, byt
     }
 }
 
-// Whether the bytes of an object, from an index on, begin with these.
+// Whether the bytes of an object from an index on begin with these.
 fn begins_with(store: &Store, number: u16, from: usize, bytes: &[u8]) -> bool
     requires { from ≤ 65536 }
     ensures { result ≡ bytes_eq bytes.now (bytes_of store.now.objects number from (length bytes.now)) }
@@ -39,7 +39,7 @@ fn begins_with(store: &Store, number: u16, from: usize, bytes: &[u8]) -> bool
     true
 }
 
-// Whether two objects have the same bytes, so many from an index on, one by one.
+// Whether two objects have the same `count` bytes from indexes on, one by one.
 fn same_bytes_one_by_one(
     store: &Store,
     one: u16,
@@ -61,7 +61,7 @@ fn same_bytes_one_by_one(
     true
 }
 
-/// Whether two objects have the same bytes, so many from an index on.
+/// Whether two objects have the same `count` bytes from indexes on.
 pub(crate) fn same_bytes(
     store: &Store,
     one: u16,
@@ -83,7 +83,7 @@ pub(crate) fn same_bytes(
     }
 }
 
-/// How so many bytes of two objects compare, from an index on: -1, 0 or 1.
+/// How `count` bytes of two objects, from indexes on, compare: -1, 0 or 1.
 pub(crate) fn compare_bytes(
     store: &Store,
     one: u16,
@@ -103,7 +103,7 @@ pub(crate) fn compare_bytes(
     order_of_words(one_words, other_words, unaligned)
 }
 
-// Puts so many bytes of an object behind others, one by one.
+// Appends `count` bytes of an object, one by one.
 fn append_bytes_one_by_one(
     bytes: &mut ArrayVec<u8, MOST_SENT>,
     store: &Store,
@@ -119,7 +119,7 @@ fn append_bytes_one_by_one(
     }
 }
 
-/// Puts so many bytes of an object behind others.
+/// Appends `count` bytes of an object.
 pub(crate) fn append_bytes(
     bytes: &mut ArrayVec<u8, MOST_SENT>,
     store: &Store,
@@ -158,7 +158,7 @@ pub(crate) fn put_bytes(store: &mut Store, number: u16, from: usize, bytes: &[u8
     }
 }
 
-/// Writes a byte to so many components of an object, from an index on.
+/// Writes a byte to `count` components of an object, from an index on.
 pub(crate) fn fill_bytes(store: &mut Store, number: u16, from: u16, count: u16, byte: u16)
     requires there { HasCells store.old number from count }
     ensures { store.new ≡ with_objects store.old (put_all store.old.objects number from (replicate count byte)) }
@@ -166,7 +166,7 @@ pub(crate) fn fill_bytes(store: &mut Store, number: u16, from: u16, count: u16, 
     store.fill(number, usize::from(from), usize::from(count), byte);
 }
 
-// Copies from the front.
+// Copies from the front on.
 fn copy_forward(
     store: &mut Store,
     source: u16,
@@ -187,7 +187,7 @@ fn copy_forward(
     }
 }
 
-// Copies from the back.
+// Copies from the back on.
 fn copy_backward(
     store: &mut Store,
     source: u16,
@@ -209,7 +209,7 @@ fn copy_backward(
     }
 }
 
-/// Copies so many bytes of an object to an object, from indexes on, as through a copy of the source.
+/// Copies `count` bytes of an object to another, from indexes on; source and target may overlap.
 pub(crate) fn copy_bytes(
     store: &mut Store,
     source: u16,
@@ -230,7 +230,7 @@ pub(crate) fn copy_bytes(
     }
 }
 
-/// Copies so many components of an object to an object, as they are, from indexes on, as through a copy of the source.
+/// Copies `count` components of an object unchanged to another, from indexes on; source and target may overlap.
 pub(crate) fn copy_words(
     store: &mut Store,
     source: u16,

@@ -1,4 +1,4 @@
-//! The components of objects, as members read and write them: whatever number and index they are handed.
+//! Reading and writing the components of objects by members, for any number and index.
 
 ghost use Rattle.std.specs.Prelude.{◌≡◌, ◌+◌, ◌≤◌, ◌<◌, true, false, None, IfNone, IfSome, length, map};
 ghost use Rattle.jc_natives.specs.Cells.{bit, extended, high, is_count, is_within, low, put, word, word_of_bytes};
@@ -9,7 +9,7 @@ ghost use Rattle.jc_store.specs.Store.{IsThere, with_objects};
 
 use jc_store::Store;
 
-/// How many components an object has; 0 where there is none.
+/// How many components an object has, or 0 if there is none.
 #[inline(always)]
 pub(crate) fn size(store: &Store, number: u16) -> u16
     ensures { result ≡ size_of store.now.objects number }
@@ -21,7 +21,7 @@ pub(crate) fn size(store: &Store, number: u16) -> u16
     }
 }
 
-/// The component of an object at an index; 0 where there is none.
+/// The component of an object at an index, or 0 if there is none.
 #[inline(always)]
 pub(crate) fn cell(store: &Store, number: u16, index: usize) -> u16
     ensures { result ≡ cell_of store.now.objects number index }
@@ -33,7 +33,7 @@ pub(crate) fn cell(store: &Store, number: u16, index: usize) -> u16
     }
 }
 
-/// How many bytes an AID has, 16 at most.
+/// How many bytes an AID has, at most 16.
 #[inline(always)]
 pub(crate) fn aid_count(store: &Store, number: u16) -> u16
     ensures count { result ≡ aid_count store.now.objects number }
@@ -51,7 +51,7 @@ pub(crate) fn byte(store: &Store, number: u16, index: usize) -> u8
     (cell(store, number, index) % 256) as u8
 }
 
-/// So many components of an object from an index on, where it has them.
+/// The `count` components of an object from an index on, if it has them.
 #[inline]
 pub(crate) fn part(store: &Store, number: u16, from: usize, count: u16) -> Option<&[u16]>
     requires { from ≤ 65536 }
@@ -64,7 +64,7 @@ pub(crate) fn part(store: &Store, number: u16, from: usize, count: u16) -> Optio
         .get(from..from + usize::from(count))
 }
 
-/// So many components of an object from an index on, which it is known to have.
+/// The `count` components of an object from an index on, which it is known to have.
 #[inline(always)]
 pub(crate) fn known_part(store: &Store, number: u16, from: u16, count: u16) -> &[u16]
     requires there { HasCells store.now number from count }
@@ -74,7 +74,7 @@ pub(crate) fn known_part(store: &Store, number: u16, from: u16, count: u16) -> &
     store.part(number, usize::from(from), usize::from(count))
 }
 
-/// Whether an object is there and has so many components from an index on.
+/// Whether there is an object with a number and it has `count` components from an index on.
 #[inline]
 pub(crate) fn has_part(store: &Store, number: u16, from: usize, count: usize) -> bool
     ensures yes { result ≡ true → HasCells store.now number from count }
@@ -87,7 +87,7 @@ pub(crate) fn has_part(store: &Store, number: u16, from: usize, count: usize) ->
     count <= size && from <= size - count
 }
 
-/// Puts a word into the component of an object at an index, where there is one.
+/// Sets the component of an object at an index, if there is one.
 pub(crate) fn put(store: &mut Store, number: u16, index: usize, word: u16)
     ensures { store.new ≡ with_objects store.old (put store.old.objects number index word) }
 {
@@ -96,7 +96,7 @@ pub(crate) fn put(store: &mut Store, number: u16, index: usize, word: u16)
     }
 }
 
-/// The argument at a place; 0 where there is none.
+/// The argument at an index, or 0 if there is none.
 #[inline(always)]
 pub(crate) fn argument(arguments: &[u16], place: usize) -> u16
     ensures argument { result ≡ argument arguments.now place }
@@ -108,7 +108,7 @@ pub(crate) fn argument(arguments: &[u16], place: usize) -> u16
     }
 }
 
-/// The low byte of a word, with its sign.
+/// The low byte of a word, sign-extended.
 #[inline(always)]
 pub(crate) fn extended(word: u16) -> u16
     ensures { result ≡ extended word }
@@ -141,7 +141,7 @@ pub(crate) fn sum(one: u16, other: u16) -> u16
     one.wrapping_add(other)
 }
 
-/// 1 for true.
+/// 1 for true, 0 for false.
 #[inline(always)]
 pub(crate) fn bit(truth: bool) -> u16
     ensures { result ≡ bit truth }
@@ -149,7 +149,7 @@ pub(crate) fn bit(truth: bool) -> u16
     if truth { 1 } else { 0 }
 }
 
-/// Whether a word is no negative short.
+/// Whether a word isn't a negative short.
 #[inline(always)]
 pub(crate) fn is_count(word: u16) -> bool
     ensures { result ≡ is_count word }
@@ -157,7 +157,7 @@ pub(crate) fn is_count(word: u16) -> bool
     word < 32768
 }
 
-/// Whether so many components from an index on lie within so many; a negative short is no number of components.
+/// Whether `count` components from an index on lie within `size`; a negative short is no number of components.
 #[inline(always)]
 pub(crate) fn is_within(size: u16, from: u16, count: u16) -> bool
     ensures { result ≡ is_within size from count }

@@ -1,4 +1,4 @@
-//! What the firewall denies of the arguments of a member, to be told of it.
+//! The denial of an access to an argument of a member, for reports.
 
 ghost use Rattle.std.specs.Prelude.{◌≡◌};
 ghost use Rattle.jc_natives.specs.PrivateMeaning.{row_of};
@@ -12,7 +12,7 @@ use jc_firewall::{Denial, denial};
 use jc_machine::WordCall;
 use jc_store::Store;
 
-// What a member tests.
+// The tests of a member.
 fn row_of(native: Native) -> MemberRow
     ensures { result ≡ row_of native }
 {
@@ -26,7 +26,7 @@ fn row_of(native: Native) -> MemberRow
     }
 }
 
-// What is denied of a use of an object.
+// The denial of a use of an object.
 fn denied_use(store: &Store, call: &WordCall<'_>, way: Use, number: u16) -> Option<Denial> {
     if !store.is_there(number) {
         return None;
@@ -35,7 +35,7 @@ fn denied_use(store: &Store, call: &WordCall<'_>, way: Use, number: u16) -> Opti
     denial(access_of(way), call.active.context, &facts)
 }
 
-// What is denied of what is tested.
+// The denial in a test.
 fn denied_test(store: &Store, call: &WordCall<'_>, wanted: Test) -> Option<Denial> {
     match wanted {
         Test::Nothing => None,
@@ -46,7 +46,7 @@ fn denied_test(store: &Store, call: &WordCall<'_>, wanted: Test) -> Option<Denia
     }
 }
 
-/// The first that is denied of what a member tests.
+/// The first denial in the tests of a member.
 pub(crate) fn denied(store: &Store, call: &WordCall<'_>, native: Native) -> Option<Denial> {
     let row = row_of(native);
     match denied_test(store, call, row.first) {

@@ -1,4 +1,4 @@
-//! How members end, and the exceptions with a reason that the runtime throws.
+//! The ends of members, and the runtime's exceptions with a reason.
 
 ghost use Rattle.std.specs.Prelude.{◌≡◌};
 ghost use Rattle.jc_machine.specs.Runtime.{apdu_exception, system_exception};
@@ -9,7 +9,8 @@ use crate::cells::put;
 use crate::native::{APDU_EXCEPTION, SYSTEM_EXCEPTION};
 use jc_store::Store;
 
-/// A question to an applet for a shareable object: the applet's object, the AID object of who asks or 0, and a word.
+/// A question to an applet for a shareable object: the applet's object, the AID object of the asking applet or 0, and a
+/// word.
 #[derive(Clone, Copy, Debug)]
 pub struct Question {
     pub(crate) object: u16,
@@ -17,14 +18,14 @@ pub struct Question {
     pub(crate) word: u16,
 }
 
-/// How a member ends.
+/// The end of a member.
 #[derive(Clone, Copy, Debug)]
 pub enum Ended {
-    /// It gives a word, or nothing.
+    /// It returns a word, or nothing.
     Returned(Option<u16>),
     /// It throws the object with this number.
     Thrown(u16),
-    /// It asks an applet, and gives what that answers.
+    /// It asks an applet, and returns that one's answer.
     Asks(Question),
 }
 

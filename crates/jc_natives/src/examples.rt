@@ -1,4 +1,4 @@
-//! Examples of native members: what the prover computes of their definitions.
+//! Examples of native members, which the prover computes from their definitions.
 
 ghost use Rattle.std.specs.Prelude.{◌≡◌, [], ◌∷◌, None, Some, false, true};
 ghost use Rattle.jc_machine.specs.Machine.{Gives, IsStuck, ThrowsObject};
@@ -26,8 +26,8 @@ pub fn ranges_and_signs()
     ensures unsigned { order_of (1 ∷ 255 ∷ []) (1 ∷ 2 ∷ []) ≡ 1 }
 {}
 
-/// Tests of arguments, in their order: of arrayCopy. Object 1 is an array of the active context, 2 one of another. It
-/// does nothing.
+/// Tests of arguments, in order: of arrayCopy, and of equals of AID. Object 1 is an array of the active context, and
+/// object 2 one of another. It does nothing.
 pub fn arguments_are_tested()
     ensures passes { tests_end 49 (Ref 1 ∷ Word 0 ∷ Ref 1 ∷ Word 1 ∷ Word 3 ∷ []) ≡ Some Passed }
     ensures past_the_end { tests_end 49 (Ref 1 ∷ Word 0 ∷ Ref 1 ∷ Word 1 ∷ Word 4 ∷ []) ≡ Some (Refused 4) }
@@ -40,7 +40,7 @@ pub fn arguments_are_tested()
     ensures no_word { tests_end 49 (Ref 1 ∷ Null ∷ Ref 1 ∷ Word 1 ∷ Word 3 ∷ []) ≡ Some Unfit }
 {}
 
-/// Copies as through a copy of the source, a fill, and a short. They do nothing.
+/// Copies whose source and target overlap, a fill, and a short. It does nothing.
 pub fn bytes_are_written()
     ensures overlapping_up { cells_after 49 (Ref 1 ∷ Word 0 ∷ Ref 1 ∷ Word 1 ∷ Word 3 ∷ [])
         ≡ Some ((Word 1 ∷ Word 1 ∷ Word 2 ∷ Word 3 ∷ []) ∷ the_others) }
@@ -52,8 +52,8 @@ pub fn bytes_are_written()
         ≡ Some ((Word 10 ∷ Word 11 ∷ Word 3 ∷ Word 4 ∷ []) ∷ the_others) }
 {}
 
-/// Members are stuck on an argument of another tag, and on a component that is no word: object 4 is an array of
-/// references. Nothing is written then. They do nothing.
+/// Members are stuck on an argument with another tag, and on a component that is no word: object 4 is an array of
+/// references. Then nothing is written. It does nothing.
 pub fn members_are_stuck()
     ensures gives { ends_by 49 (Ref 1 ∷ Word 0 ∷ Ref 1 ∷ Word 1 ∷ Word 3 ∷ []) ≡ Some (Gives (Some (Word 4))) }
     ensures throws { ends_by 49 (Ref 1 ∷ Word 0 ∷ Null ∷ Word 1 ∷ Word 3 ∷ []) ≡ Some (ThrowsObject 6) }
@@ -64,7 +64,7 @@ pub fn members_are_stuck()
         ≡ Some ((Word 1 ∷ Word 2 ∷ Word 3 ∷ Word 4 ∷ []) ∷ the_others) }
 {}
 
-/// Refusals, in their order. They do nothing.
+/// Refusals, in order. It does nothing.
 pub fn members_refuse()
     ensures short_aid { work_by nothing_kept 23 (Ref 3 ∷ Ref 1 ∷ Word 0 ∷ Word 4 ∷ [])
         ≡ Some (throws_system nothing_kept 1) }

@@ -1,4 +1,4 @@
-//! What the runtime keeps beside the objects.
+//! The state of the runtime besides the objects.
 
 ghost use Rattle.std.specs.Prelude.{◌≡◌, ◌+◌, ◌++◌, ◌≤◌, ◌<◌, [], bytes_eq, length, nat_le, option_map, suc, true};
 ghost use Rattle.jc_natives.specs.Kept.{after_install, expected_of, has_registered, instance_of, instance_with};
@@ -23,16 +23,16 @@ pub(crate) const MOST_SENT: usize = 256;
 /// The most bytes of data that come with a command.
 pub(crate) const MOST_INCOMING: usize = 255;
 
-/// How far the exchange of a command and its answer has come (Java Card API Specification, APDU).
+/// The state of the exchange of a command and its answer (Java Card API Specification, APDU).
 #[derive(Clone, Copy, Debug, PartialEq, Eq)]
 pub enum ApduState {
-    /// No applet has a command before it.
+    /// No applet has a command.
     Closed,
-    /// The header is there.
+    /// The header has arrived.
     Fresh,
     /// The data were received.
     Received,
-    /// The direction was turned.
+    /// The direction was turned to outgoing.
     Outgoing,
     /// The length of the answer is set.
     LengthSet,
@@ -41,7 +41,7 @@ pub enum ApduState {
 /// A registered instance of an applet.
 #[derive(Clone, Copy, Debug)]
 pub struct Instance {
-    /// The AID that it registered under.
+    /// The AID with which it registered.
     pub aid: Aid,
     /// The number of its object.
     pub object: u16,
@@ -54,7 +54,7 @@ pub struct Instance {
 pub struct Installing {
     /// Its context and its number.
     pub owner: Owner,
-    /// The applet's AID, under which it registers if it names none.
+    /// The applet's AID, with which it registers if it names none.
     pub aid: Aid,
     /// Whether it has registered.
     pub registered: bool,
@@ -73,7 +73,8 @@ impl Default for Instance {
     }
 }
 
-/// What the runtime keeps beside the objects: the instances of applets, and the exchange of a command and its answer.
+/// The state of the runtime besides the objects: the instances of applets, and the exchange of a command and its
+/// answer.
 #[derive(Drop)]
 pub struct Runtime {
     instances: ArrayVec<Instance, MOST_INSTANCES>,
@@ -116,7 +117,7 @@ fn has_aid(instance: &Instance, aid: &[u8]) -> bool
     instance.aid.as_slice() == aid
 }
 
-// Whether an instance's AID stands in an object, from an index on.
+// Whether the bytes of an object from an index on are an instance's AID.
 fn has_aid_in(instance: &Instance, store: &Store, number: u16, from: u16, count: u16) -> bool
     ensures { result ≡ bytes_eq instance.now.aid (bytes_of store.now.objects number from count) }
 {
@@ -129,14 +130,14 @@ fn has_aid_in(instance: &Instance, store: &Store, number: u16, from: u16, count:
     )
 }
 
-// Whether two owners are one.
+// Whether two owners are equal.
 pub(crate) fn is_same_owner(one: Owner, other: Owner) -> bool
     ensures { result ≡ is_same_owner one other }
 {
     one.context == other.context && one.instance == other.instance
 }
 
-// Whether an instance's object is an owner's.
+// Whether an owner owns an instance's object.
 fn is_of(instance: &Instance, owner: Owner) -> bool
     ensures { result ≡ is_same_owner instance.now.owner owner }
 {
@@ -150,7 +151,7 @@ fn find_aid<'a>(instances: &'a [Instance], aid: &[u8]) -> Option<&'a Instance>
     instances.iter().find(|i| has_aid(i, aid))
 }
 
-// The registered instance whose AID stands in an object, from an index on.
+// The registered instance whose AID is the bytes of an object from an index on.
 fn find_aid_in<'a>(
     instances: &'a [Instance],
     store: &Store,
@@ -174,7 +175,7 @@ fn find_owner(instances: &[Instance], owner: Owner) -> Option<&Instance>
 }
 
 impl Runtime {
-    /// What the runtime of a new card keeps.
+    /// The state of the runtime of a new card.
     pub fn new() -> Runtime
         ensures { result ≡ nothing_kept }
     {
@@ -191,14 +192,14 @@ impl Runtime {
         }
     }
 
-    /// How many instance numbers were given out.
+    /// How many instance numbers were assigned.
     pub fn numbers(&self) -> u8
         ensures { result ≡ self.now.numbers }
     {
         self.numbers
     }
 
-    /// An install begins: of the instance with this context and the next number, of an applet with this AID.
+    /// Begins an install: of the instance with this context and the next number, of an applet with this AID.
     pub fn begin_install(&mut self, owner: Owner, aid: Aid)
         requires next { owner.instance ≡ suc self.old.numbers }
         requires room { self.old.numbers < 32 }
@@ -212,7 +213,7 @@ impl Runtime {
         });
     }
 
-    /// Whether an instance has registered in the install that goes on.
+    /// Whether an instance has registered in the current install.
     pub fn has_registered(&self) -> bool
         ensures { result ≡ has_registered self.now }
     {
@@ -222,7 +223,7 @@ impl Runtime {
         }
     }
 
-    /// An install is over. Where it failed the instance that registered is taken away.
+    /// Ends an install. If it failed, the instance that registered is removed.
     pub fn end_install(&mut self, succeeds: bool)
         ensures { self.new ≡ after_install self.old succeeds }
     {
@@ -232,7 +233,7 @@ impl Runtime {
         self.installing = None;
     }
 
-    /// A command is before an applet: its data, its Le, which is 0 where it has none, and whether it is the SELECT that
+    /// Gives a command to an applet: its data, its Le, which is 0 if it has none, and whether it is the SELECT that
     /// selected the applet.
     pub fn open(&mut self, incoming: &[u8], expected: u8, selecting: bool)
         requires { length incoming.now ≤ 255 }
@@ -247,7 +248,7 @@ impl Runtime {
         self.selecting = selecting;
     }
 
-    /// No command is before an applet any more. What was sent stays until the next one.
+    /// Ends the exchange: no applet has a command. The sent data stay until the next command.
     pub fn close(&mut self)
         ensures { self.new ≡ without_command self.old }
     {
@@ -255,7 +256,7 @@ impl Runtime {
         self.selecting = false;
     }
 
-    /// The data sent.
+    /// The sent data.
     pub fn sent(&self) -> &[u8]
         ensures data { result.now ≡ self.now.sent }
         ensures most { length result.now ≤ 256 }
@@ -270,7 +271,7 @@ impl Runtime {
         find_aid(self.instances.as_slice(), aid).copied()
     }
 
-    // The registered instance whose AID stands in an object, from an index on.
+    // The registered instance whose AID is the bytes of an object from an index on.
     pub(crate) fn instance_in(
         &self,
         store: &Store,
@@ -296,7 +297,7 @@ impl Runtime {
         self.installing
     }
 
-    // Registers an instance, in the name of the one that is being installed.
+    // Registers an instance for the one that is being installed.
     pub(crate) fn register(&mut self, instance: Instance)
         requires { waits self.old ≡ true }
         ensures { self.new ≡ with_instance self.old instance }
@@ -319,7 +320,7 @@ impl Runtime {
         self.selecting
     }
 
-    // The data that came with the command.
+    // The data of the command.
     pub(crate) fn incoming(&self) -> &[u8]
         ensures data { result.now ≡ self.now.incoming }
         ensures fits { length result.now ≤ 255 }
@@ -344,7 +345,7 @@ impl Runtime {
         self.state = state;
     }
 
-    // The length of the answer is set.
+    // Sets the length of the answer.
     pub(crate) fn announce(&mut self, count: u16)
         requires { count ≤ 256 }
         ensures { self.new ≡ with_announced self.old LengthSet count }
@@ -353,14 +354,14 @@ impl Runtime {
         self.announced = count;
     }
 
-    // Whether so many bytes more are no more than was announced.
+    // Whether `count` more bytes don't exceed the announced length.
     pub(crate) fn may_send(&self, count: u16) -> bool
         ensures { result ≡ nat_le (length self.now.sent + count) self.now.announced }
     {
         self.sent.len() + usize::from(count) <= usize::from(self.announced)
     }
 
-    // Sends so many bytes of an array more.
+    // Sends `count` more bytes of an array.
     pub(crate) fn send(&mut self, store: &Store, array: u16, from: u16, count: u16)
         requires { length self.old.sent + count ≤ self.old.announced }
         ensures { self.new ≡ with_sent self.old (self.old.sent ++ bytes_of store.now.objects array from count) }
@@ -368,7 +369,7 @@ impl Runtime {
         append_bytes(&mut self.sent, store, array, from, count);
     }
 
-    // Nothing is sent yet.
+    // Clears the sent data.
     pub(crate) fn clear_sent(&mut self)
         ensures { self.new ≡ with_sent self.old [] }
     {

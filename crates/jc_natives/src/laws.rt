@@ -1,4 +1,4 @@
-//! What holds of all native members.
+//! Laws of all native members.
 
 ghost use Rattle.std.specs.Prelude.{◌≡◌, ◌<◌, ◌≤◌, ◌++◌, ℕ, Bool, List, Some, length, map, suc, true};
 ghost use Rattle.jc_api.specs.Member.{ApiMember, member_of};
@@ -30,28 +30,28 @@ use jc_classes::growing_keeps_lookups;
 use jc_link::built_worlds_stand_on_the_api;
 use jc_machine::{calls_keep_what_members_keep, held_values_stay};
 
-/// Each access of a native member is allowed, or is its last and changes nothing; and only objects change that were
-/// accessed. It does nothing.
+/// Each access of a native member is allowed, or is its last and changes nothing. Only objects that were accessed
+/// change. It does nothing.
 #[tactic(auto, using(crate::proofs::Answering::answers_guarded))]
 pub fn members_are_guarded()
     ensures { (w : World) (call : NativeCall Kept) → IsGuardedAnswer meaning w call (meaning.answer w call) }
 {}
 
-/// What an applet calls sees no component of another context's plain objects. It does nothing.
+/// A member that an applet calls sees no component of another context's plain objects. It does nothing.
 #[tactic(auto, using(crate::proofs::UnseenAnswers::members_blind))]
 pub fn members_see_no_contents()
     ensures { AreNativesBlind meaning }
 {}
 
-/// What the runtime keeps fits the objects as long as these stay. It does nothing.
+/// The runtime's state fits the objects as long as these stay. It does nothing.
 #[tactic(auto, using(crate::proofs::Keeping::kept_fits_still))]
 pub fn kept_stays_fit()
     ensures { (w : World) (before after : Heap TaggedValue) (kept : Kept) → KeepsObjects before after
         → meaning.fits w before kept ≡ true → meaning.fits w after kept ≡ true }
 {}
 
-/// What the runtime keeps fits the objects when a card is new, and behind each call of the runtime itself: an install
-/// that begins with the next number and ends, and a command that comes and goes. It does nothing.
+/// The runtime's state fits the objects on a new card, and after each call of the runtime itself: an install that
+/// begins with the next number and ends, and a command that is given and ends. It does nothing.
 pub fn calls_keep_fitting()
     ensures new { (w : World) (heap : Heap TaggedValue) → meaning.fits w heap nothing_kept ≡ true }
     ensures begun { (w : World) (heap : Heap TaggedValue) (k : Kept) → meaning.fits w heap k ≡ true
@@ -67,7 +67,7 @@ pub fn calls_keep_fitting()
         → meaning.fits w heap (without_command k) ≡ true }
 {}
 
-/// No call of the runtime's gives instance numbers out: behind one as many are given out as before. It does nothing.
+/// No call of the runtime assigns instance numbers: after it as many are assigned as before. It does nothing.
 pub fn calls_keep_numbers()
     ensures { (s : Surroundings Kept) → s.natives ≡ meaning → (steps : ℕ) (start : Start Kept)
         → LeavesNumbers start.runtime.numbers (runtime_call s steps start).ends }
@@ -76,8 +76,8 @@ pub fn calls_keep_numbers()
     calls_keep_what_members_keep(&Runtime::new());
 }
 
-/// A call of the runtime's registers at most the instance that is being installed, and that once: else the instances
-/// are what they were. It does nothing.
+/// A call of the runtime registers at most the instance that is being installed, and only once; otherwise the instances
+/// don't change. It does nothing.
 pub fn calls_register_the_installed()
     ensures { (s : Surroundings Kept) → s.natives ≡ meaning → (steps : ℕ) (start : Start Kept)
         → LeavesInstances start.runtime (runtime_call s steps start).ends }
@@ -87,9 +87,9 @@ pub fn calls_register_the_installed()
     calls_keep_what_members_keep(&Runtime::new());
 }
 
-/// The runtime's name is its own in native members too: what an applet calls accesses no plain object in the runtime's
-/// name, leaves no reference where it may not be stored, and what the runtime keeps names applets alone. So it does
-/// when a card is new, and behind each call of the runtime itself. It does nothing.
+/// Native members keep the runtime's name apart, too. A member that an applet calls accesses no plain object in the
+/// runtime's name, and stores no reference where it may not be stored. The runtime's state names only applets: on a new
+/// card, and after each call of the runtime itself. It does nothing.
 pub fn members_stay_apart()
     ensures members { AreNativesApart names_applets meaning }
     ensures new { names_applets nothing_kept ≡ true }
@@ -104,7 +104,7 @@ pub fn members_stay_apart()
     held_values_stay();
 }
 
-/// Objects hold what may be held still where words are written to one. It does nothing.
+/// Objects that hold only storable values still do after words are written to one. It does nothing.
 pub fn written_words_are_held()
     ensures { (heap : Heap TaggedValue) → HoldStorable heap → (number from : ℕ) (words : List ℕ)
         → HoldStorable (put_all heap number from (map Word words)) }
@@ -112,8 +112,8 @@ pub fn written_words_are_held()
     held_values_stay();
 }
 
-/// What the runtime keeps fits still behind a load: in the world with the package, and with more objects behind those
-/// that were there. It does nothing.
+/// The runtime's state still fits after a load: in the world with the package, and with more objects after those that
+/// were there. It does nothing.
 pub fn loads_keep_fitting()
     ensures { (w : World) (l : Linked) → IsBoundTo w l → (heap more : Heap TaggedValue) (k : Kept)
         → meaning.fits w heap k ≡ true → meaning.fits (with_linked w l) (heap ++ more) k ≡ true }
@@ -121,7 +121,7 @@ pub fn loads_keep_fitting()
     growing_keeps_lookups();
 }
 
-/// What members of the API are declared to take and give, in each world that is built. It does nothing.
+/// The declared types of the API's members in each built world. It does nothing.
 pub fn members_are_declared()
     ensures { (world : List Shape) → IsBuilt world → (number : ℕ) (member : ApiMember)
         → member_of number ≡ Some member → type_of_member world number ≡ Some (declared_signature member) }
@@ -129,12 +129,11 @@ pub fn members_are_declared()
     built_worlds_stand_on_the_api();
 }
 
-/// What a native member may change of what the runtime keeps, and whose AIDs it tells. Register alone registers an
-/// instance, of the applet that it is called on, in the name of the instance that is being installed. Members of APDU
-/// alone change where the exchange of a command and its answer stands. getAID and a request for a shareable object tell
-/// the AID of the active owner, and getPreviousContextAID that of the owner before it. And a call by an applet leaves
-/// the AID objects as they are, but where register is called for that of the instance that is being installed and
-/// hasn't registered. It does nothing.
+/// What a native member may change of the runtime's state, and which AIDs it returns. Only register registers an
+/// instance, of the applet on which it is called, for the instance that is being installed. Only members of APDU change
+/// the state of the exchange. getAID and a request for a shareable object pass on the AID of the active owner, and
+/// getPreviousContextAID that of the owner before it. A call by an applet leaves the AID objects unchanged, except if
+/// register is called for that of the instance that is being installed and hasn't registered. It does nothing.
 pub fn members_keep_what_is_kept()
     ensures { (w : World) (call : NativeCall Kept) → IsRemembered w call (meaning.answer w call) }
 {

@@ -1,4 +1,4 @@
-//! A native member: what it tests of its arguments, and what it does where they pass.
+//! Native members: the tests of their arguments, and their work after these.
 
 ghost use Rattle.std.specs.Prelude.{◌≡◌};
 ghost use Rattle.jc_natives.specs.PrivateMeaning.{row_of, work_of};
@@ -14,14 +14,14 @@ use jc_store::Store;
 
 /// A member of one of the classes that have native members.
 pub(crate) trait Member: Copy {
-    // Which one it is of all.
+    // Which native member it is.
     ghost native: { Self → Named };
 
-    /// What it tests of its arguments.
+    /// The tests of its arguments.
     fn row(self) -> MemberRow
         ensures { result ≡ row_of (native self) };
 
-    /// Does its work, where its arguments pass its tests.
+    /// Does its work, after its arguments have passed its tests.
     fn work(self, store: &mut Store, call: &WordCall<'_>, runtime: &mut Runtime) -> Ended
         requires passed { Passes (seen_in store.old call.now) call.now.arguments.now (native self) }
         ensures { record { store = store.new; kept = runtime.new; ended = result }
@@ -29,7 +29,7 @@ pub(crate) trait Member: Copy {
             (work_of (seen_in store.old call.now) runtime.old call.now.arguments.now (native self)) };
 }
 
-/// Tests the arguments of a member, and does its work. Where the member is known so is its row when this is compiled.
+/// Tests the arguments of a member, and does its work. If the member is known at compile time, its row is, too.
 #[inline(always)]
 pub(crate) fn tested<M: Member>(
     member: M,

@@ -1,4 +1,4 @@
-//! The native members of a card, over what its runtime keeps.
+//! The native members of a card, with its runtime's state.
 
 ghost use Rattle.std.specs.Prelude.{◌≡◌};
 ghost use Rattle.jc_api.specs.Numbered.{numbered};
@@ -30,7 +30,7 @@ use jc_link::{built_worlds_are_sound, built_worlds_stand_on_the_api};
 use jc_machine::{AtOnce, Natives, WordCall, WordCallback, WordOutcome};
 use jc_store::Store;
 
-// The member that applets answer questions for shareable objects by.
+// The member with which applets answer requests for shareable objects.
 const ANSWERING_MEMBER: u16 = 40;
 
 // Tests the arguments of a member, and does its work.
@@ -56,7 +56,7 @@ fn call_native(
 }
 
 // Calls the member with a number, if there is one. Those of Util are named by their numbers. The smallest are compiled
-// in place, for calls with as many words as they take: so their arguments are known to be there.
+// in place, for calls with as many words as they take, so all their arguments are there.
 #[inline(always)]
 fn call_member(store: &mut Store, call: &WordCall<'_>, runtime: &mut Runtime) -> Ended
     ensures { record { store = store.new; kept = runtime.new; ended = result }
@@ -96,7 +96,7 @@ fn callback_of(question: Question) -> WordCallback
     }
 }
 
-// How a member ends, as an interpreter is told it.
+// The end of a member as the outcome for an interpreter.
 #[inline(always)]
 fn outcome_of(ended: Ended) -> WordOutcome
     ensures { TellsEnd result ended }
@@ -108,7 +108,7 @@ fn outcome_of(ended: Ended) -> WordOutcome
     }
 }
 
-// What members mean of a call that fits is what they mean on words. It does nothing.
+// For a call that fits, the meaning of members on tagged values equals that on words. It does nothing.
 #[inline(always)]
 fn members_mean_the_same()
     ensures { (w : worlds.World) (call : NativeCall Kept) → IsAccepted w → IsFitCall meaning w call

@@ -45,14 +45,14 @@ pub enum ApduNative {
     SetOutgoingAndSend,
 }
 
-/// Members of Applet, its constructor apart.
+/// Members of Applet, except its constructor.
 #[derive(Clone, Copy, Debug)]
 pub enum AppletNative {
     Register,
     RegisterBytes,
     Select,
     Deselect,
-    /// It is abstract, so that no call begins with it.
+    /// It is abstract, so no call begins with it.
     Process,
     SelectingApplet,
     GetShareable,
@@ -71,7 +71,7 @@ pub enum SystemNative {
     MakeReferences,
 }
 
-/// What the components of a transient array are.
+/// The type of the components of a transient array.
 #[derive(Clone, Copy, Debug)]
 pub enum Elements {
     Booleans,

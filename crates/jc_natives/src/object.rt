@@ -26,7 +26,7 @@ fn have_same_aid(store: &Store, one: u16, other: u16) -> bool
     count == aid_count(store, other) && same_bytes(store, one, 1, other, 1, count)
 }
 
-// Whether two objects are AIDs of the same bytes.
+// Whether two objects are AIDs with the same bytes.
 fn are_same_aids(store: &Store, call: &WordCall<'_>, one: u16, other: u16) -> bool
     ensures { result ≡ are_same_aids (seen_in store.now call.now) one other }
 {
@@ -91,8 +91,7 @@ impl Member for ObjectNative {
     }
 }
 
-/// Calls a member of Object or of an exception. Each arm names its member, so that its row is known when it is
-/// compiled.
+/// Calls a member of Object or of an exception. Each arm names its member, so its row is known at compile time.
 #[inline(never)]
 pub(crate) fn object_native(
     store: &mut Store,

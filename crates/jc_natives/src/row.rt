@@ -1,6 +1,6 @@
-//! What members test of their arguments, as data.
+//! The tests of members' arguments, as data.
 
-/// How a member uses an object: the firewall decides by that.
+/// The use that a member makes of an object, by which the firewall decides.
 #[derive(Clone, Copy, Debug)]
 pub enum Use {
     /// It constructs the object.
@@ -13,33 +13,33 @@ pub enum Use {
     Calls,
 }
 
-/// What is tested of a reference among the arguments.
+/// A test of a reference among the arguments.
 #[derive(Clone, Copy, Debug)]
 pub enum Test {
-    /// Nothing is tested.
+    /// No test.
     Nothing,
-    /// The argument at a place is an object that may be used so.
+    /// The argument at an index is an object that may be used in this way.
     Object(usize, Use),
-    /// The argument at a place is null, or an object that may be used so.
+    /// The argument at an index is null, or an object that may be used in this way.
     ObjectOrNull(usize, Use),
-    /// The second argument may be called, where both are AIDs.
+    /// If the first two arguments are AIDs, the second may be called.
     BesideAid,
 }
 
-/// How many components a range has.
+/// The number of components of a range.
 #[derive(Clone, Copy, Debug)]
 pub enum Length {
-    /// As many as the argument at a place says, a short.
+    /// The argument at an index, as a short.
     ShortAt(usize),
-    /// As many as the low byte of the argument at a place says, with its sign.
+    /// The low byte of the argument at an index, sign-extended.
     ByteAt(usize),
-    /// Always so many.
+    /// A fixed number.
     Fixed(u16),
-    /// As many as the AID has bytes that is the argument at a place.
+    /// The number of bytes of the AID that is the argument at an index.
     OfAid(usize),
 }
 
-/// A range in an array: the places of the array and of the offset among the arguments, and the length.
+/// A range in an array: the indexes of the array and of the offset among the arguments, and the length.
 #[derive(Clone, Copy, Debug)]
 pub struct Range {
     pub(crate) array: usize,
@@ -47,7 +47,7 @@ pub struct Range {
     pub(crate) length: Length,
 }
 
-/// What a member tests: two references from left to right, and then two ranges from left to right.
+/// The tests of a member: two references from left to right, and then two ranges from left to right.
 #[derive(Clone, Copy, Debug)]
 pub struct MemberRow {
     pub(crate) first: Test,

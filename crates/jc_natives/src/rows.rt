@@ -1,12 +1,12 @@
-//! The forms of what members test. All of it is inlined: where the member is known so is its row when it is compiled,
-//! and none is made.
+//! The forms of members' tests. All of them are inlined: if the member is known at compile time, its row is, too, and
+//! isn't built.
 
 ghost use Rattle.std.specs.Prelude.{◌≡◌};
 ghost use Rattle.jc_natives.specs.PrivateRows.{called, called_on, constructed, on_array, on_arrays, range};
 
 use crate::row::{Length, MemberRow, Range, Test, Use};
 
-/// A range in an array, whose array and offset stand at these places.
+/// A range in an array, with the indexes of the array and the offset.
 #[inline(always)]
 pub(crate) fn range(array: usize, offset: usize, length: Length) -> Option<Range>
     ensures { result ≡ range array offset length }
@@ -18,7 +18,7 @@ pub(crate) fn range(array: usize, offset: usize, length: Length) -> Option<Range
     })
 }
 
-/// Nothing is tested.
+/// No test.
 pub(crate) const UNTESTED: MemberRow = MemberRow {
     first: Test::Nothing,
     second: Test::Nothing,
@@ -26,7 +26,7 @@ pub(crate) const UNTESTED: MemberRow = MemberRow {
     second_range: None,
 };
 
-/// The object that is constructed.
+/// Tests the object that is constructed.
 #[inline(always)]
 pub(crate) fn constructed() -> MemberRow
     ensures { result ≡ constructed }
@@ -37,7 +37,7 @@ pub(crate) fn constructed() -> MemberRow
     }
 }
 
-/// The object whose member is called.
+/// Tests the object whose member is called.
 #[inline(always)]
 pub(crate) fn called() -> MemberRow
     ensures { result ≡ called }
@@ -48,7 +48,7 @@ pub(crate) fn called() -> MemberRow
     }
 }
 
-/// The same, and a range in the array that is its first argument.
+/// The same, and a range in the array that is the first argument.
 #[inline(always)]
 pub(crate) fn called_on(array: Test, length: Length) -> MemberRow
     ensures { result ≡ called_on array length }
@@ -61,7 +61,7 @@ pub(crate) fn called_on(array: Test, length: Length) -> MemberRow
     }
 }
 
-/// A range in the one array of a static member.
+/// Tests a range in the one array of a static member.
 #[inline(always)]
 pub(crate) fn on_array(array: Test, length: Length) -> MemberRow
     ensures { result ≡ on_array array length }
@@ -74,7 +74,7 @@ pub(crate) fn on_array(array: Test, length: Length) -> MemberRow
     }
 }
 
-/// Ranges in the two arrays of a static member.
+/// Tests ranges in the two arrays of a static member.
 #[inline(always)]
 pub(crate) fn on_arrays(source: Test, target: Test) -> MemberRow
     ensures { result ≡ on_arrays source target }

@@ -32,12 +32,12 @@ const ILLEGAL_TRANSIENT: u16 = 3;
 
 const NEGATIVE_SIZE_EXCEPTION: u16 = 5;
 
-/// What stands for the class of an array where classes have numbers.
+/// The class number of an array.
 const NUMBER_OF_OBJECT: u16 = 0;
 
 const OBJECT: ClassName = ClassName::Api(ApiClass::Object);
 
-// The AID object of a registered instance; 0 where there is none.
+// The AID object of a registered instance, or 0 if there is none.
 fn aid_of(instance: Option<Instance>) -> u16
     ensures { result ≡ aid_of instance }
 {
@@ -67,7 +67,7 @@ fn lookup_aid(store: &Store, call: &WordCall<'_>, runtime: &Runtime) -> u16
     aid_of(runtime.instance_in(store, array, offset, count))
 }
 
-// Asks an applet for a shareable object, if it is there.
+// Asks an applet for a shareable object, if there is that applet.
 fn ask(
     store: &mut Store,
     call: &WordCall<'_>,
@@ -102,7 +102,7 @@ fn ask_for_shareable(store: &mut Store, call: &WordCall<'_>, runtime: &Runtime) 
     ask(store, call, runtime, word, instance)
 }
 
-// The event that a number stands for.
+// The event with a number.
 fn event_of(number: u16) -> Option<ClearingEvent>
     ensures { result ≡ event_of number }
 {
@@ -140,7 +140,7 @@ fn array_type(elements: Elements) -> ObjectType
     }
 }
 
-// Makes an array, where there is room for it.
+// Makes an array, if there is room for it.
 #[tactic(auto, using(crate::proofs::Room::full_has_none, crate::proofs::Room::not_full_has_some))]
 fn make_where_room(
     store: &mut Store,
@@ -254,7 +254,7 @@ impl Member for SystemNative {
     }
 }
 
-/// Calls a member of JCSystem. Each arm names its member, so that its row is known when it is compiled.
+/// Calls a member of JCSystem. Each arm names its member, so its row is known at compile time.
 #[inline(never)]
 pub(crate) fn system_native(
     store: &mut Store,

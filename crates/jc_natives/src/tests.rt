@@ -1,4 +1,4 @@
-//! What all members test, by one rule. It is inlined, so that of a row that is known no more is left than its tests.
+//! The tests of all members, by one rule. It is inlined, so only the tests of a known row are left.
 
 ghost use Rattle.std.specs.Prelude.{◌≡◌, ℕ, true, Some};
 ghost use Rattle.jc_natives.specs.PrivateWords.{seen_in};
@@ -57,7 +57,7 @@ fn is_array(object: ObjectType) -> bool
     }
 }
 
-// What the firewall asks of an object that is there.
+// The firewall's facts of an object.
 #[inline(always)]
 pub(crate) fn facts_of(store: &Store, call: &WordCall<'_>, number: u16) -> Facts
     requires { IsThere store.now number }
@@ -77,7 +77,7 @@ pub(crate) fn facts_of(store: &Store, call: &WordCall<'_>, number: u16) -> Facts
     }
 }
 
-// What is thrown by a verdict, if it denies.
+// The object that is thrown by a verdict, if that denies.
 #[inline(always)]
 fn thrown_by(verdict: Verdict) -> Option<u16>
     ensures { (store : stores.Store) (call : words.WordCall) (way : Use) (number : ℕ)
@@ -89,7 +89,7 @@ fn thrown_by(verdict: Verdict) -> Option<u16>
     }
 }
 
-// Whether an object is the active context's own, and isn't cleared on deselect. Then each use of it is allowed. No
+// Whether an object is the active context's own, and isn't cleared on deselect. Then every use of it is allowed. No
 // context is 255.
 #[inline(always)]
 fn is_own(store: &Store, call: &WordCall<'_>, number: u16) -> bool
@@ -99,7 +99,7 @@ fn is_own(store: &Store, call: &WordCall<'_>, number: u16) -> bool
     call.active.context < 255 && store.is_own(number, call.active.context)
 }
 
-// Tests a use of any object, by the firewall.
+// Tests a use of any object with the firewall.
 #[inline(never)]
 fn judged(store: &Store, call: &WordCall<'_>, way: Use, number: u16) -> Option<u16>
     requires { IsThere store.now number }
@@ -149,7 +149,7 @@ pub(crate) fn is_aid_object(store: &Store, call: &WordCall<'_>, number: u16) -> 
             .is_class_below(class_of(store.kind_of(number).object_type), AID)
 }
 
-// Makes one test.
+// Performs one test.
 #[inline(always)]
 fn test(store: &Store, call: &WordCall<'_>, wanted: Test) -> Option<u16>
     ensures { result ≡ (test (seen_in store.now call.now) call.now.arguments.now wanted).thrown }
@@ -169,7 +169,7 @@ fn test(store: &Store, call: &WordCall<'_>, wanted: Test) -> Option<u16>
     }
 }
 
-// The second argument may be called, where both are AIDs.
+// Whether the second argument may be called, if the first two are AIDs.
 #[inline(never)]
 fn beside_aid(store: &Store, call: &WordCall<'_>) -> Option<u16>
     ensures { result ≡ (test (seen_in store.now call.now) call.now.arguments.now BesideAid).thrown }
@@ -183,7 +183,7 @@ fn beside_aid(store: &Store, call: &WordCall<'_>) -> Option<u16>
     }
 }
 
-// How many components a range has.
+// The number of components of a range.
 #[inline(always)]
 fn length_of(store: &Store, call: &WordCall<'_>, length: Length) -> u16
     ensures { result ≡ length_of (seen_in store.now call.now) call.now.arguments.now length }
@@ -218,7 +218,7 @@ fn ranged(store: &Store, call: &WordCall<'_>, range: Option<Range>) -> Option<u1
     }
 }
 
-/// Makes the tests of a member. What is thrown is told where one fails.
+/// Performs the tests of a member, and returns the object that is thrown if one fails.
 #[inline(always)]
 pub(crate) fn refusal(store: &Store, call: &WordCall<'_>, row: &MemberRow) -> Option<u16>
     ensures { result ≡ (tested (seen_in store.now call.now) call.now.arguments.now row.now).thrown }

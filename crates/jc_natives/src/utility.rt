@@ -190,8 +190,8 @@ fn array_compare_tested(store: &mut Store, call: &WordCall<'_>, runtime: &mut Ru
     tested(UtilityNative::ArrayCompare, store, call, runtime)
 }
 
-/// Calls a member of Util. Each arm names its member, so that its row is known when it is compiled. Where a call names
-/// its member no more is left than that.
+/// Calls a member of Util. Each arm names its member, so its row is known at compile time. If the call names its
+/// member, only that arm is left.
 #[inline(always)]
 pub(crate) fn utility_called(
     store: &mut Store,

@@ -1,4 +1,4 @@
-//! The low bytes of words that are lent out of objects.
+//! The low bytes of words that are borrowed from objects.
 
 ghost use Rattle.std.specs.Prelude.{◌≡◌, ◌+◌, ◌++◌, ◌≤◌, ◌<◌, true, false, bytes_eq, length, map, take};
 ghost use Rattle.arrayvec.specs.ArrayVec.{array_vec_len};
@@ -7,7 +7,7 @@ ghost use Rattle.jc_natives.specs.Cells.{byte_order, low, order_of};
 use crate::kept::MOST_SENT;
 use arrayvec::ArrayVec;
 
-// How many words are compared at once, where there are so many.
+// How many words are compared at once, as long as there are as many.
 const HUGE: usize = 128;
 
 const LARGE: usize = 32;
@@ -36,7 +36,7 @@ pub(crate) fn order_of_bytes(one: u8, other: u8) -> Option<u16>
     }
 }
 
-/// Whether the low bytes of words are these.
+/// Whether the low bytes of words equal these.
 pub(crate) fn are_words(words: &[u16], bytes: &[u8]) -> bool
     ensures { result ≡ bytes_eq bytes.now (map low words.now) }
 {
@@ -51,7 +51,7 @@ pub(crate) fn are_words(words: &[u16], bytes: &[u8]) -> bool
     true
 }
 
-// Whether words are the same. Where they aren't their low bytes may be.
+// Whether words are equal. If they aren't, their low bytes may still be.
 #[inline]
 fn are_same(one: &[u16], other: &[u16]) -> bool
     requires sized { length one.now ≡ length other.now }
@@ -65,8 +65,8 @@ fn are_same(one: &[u16], other: &[u16]) -> bool
     same
 }
 
-// How many words in front are the same, of which so many are known to be: on from there in blocks of a size. The last
-// block begins among those that are known.
+// How many words at the front are equal, of which `known` are known to be. It goes on from there in blocks of a size.
+// The last block may overlap the known ones.
 #[inline(always)]
 fn same_from(one: &[u16], other: &[u16], known: usize, size: usize) -> usize
     requires sized { length one.now ≡ length other.now }
@@ -94,8 +94,8 @@ fn same_from(one: &[u16], other: &[u16], known: usize, size: usize) -> usize
     }
 }
 
-// How many of many words in front are the same, in large blocks that begin behind so many words. None, where there are
-// few words, or some of the first aren't the same.
+// How many of many words at the front are equal, in large blocks that begin after `unaligned` words. It is 0 if there
+// are few words, or if some of the first differ.
 #[inline]
 fn same_among_many(one: &[u16], other: &[u16], unaligned: usize) -> usize
     requires sized { length one.now ≡ length other.now }
@@ -109,8 +109,8 @@ fn same_among_many(one: &[u16], other: &[u16], unaligned: usize) -> usize
     same_from(one, other, unaligned, HUGE)
 }
 
-// How many words in front are the same, but for some behind the last block. It is inlined, since few words are compared
-// mostly.
+// How many words at the front are equal, without some after the last block. It is inlined, since mostly few words are
+// compared.
 #[inline(always)]
 fn same_start(one: &[u16], other: &[u16], unaligned: usize) -> usize
     requires sized { length one.now ≡ length other.now }
@@ -129,8 +129,8 @@ fn same_start(one: &[u16], other: &[u16], unaligned: usize) -> usize
     same_from(one, other, large, SMALL)
 }
 
-/// How many components stand in front of the first that is aligned to a block, from an index of an object on in front
-/// of which so many components of other objects stand.
+/// How many components come before the first that is aligned to a block, from index `from` of an object on. The objects
+/// before it have `before` components.
 #[inline]
 pub(crate) fn words_to_alignment(before: u16, from: u16) -> usize
     ensures { result < 8 }
@@ -139,7 +139,7 @@ pub(crate) fn words_to_alignment(before: u16, from: u16) -> usize
     (SMALL - start % SMALL) % SMALL
 }
 
-/// How the low bytes of words compare: -1, 0 or 1. Many are compared in blocks that begin behind so many words.
+/// How the low bytes of words compare: -1, 0 or 1. Many are compared in blocks that begin after `unaligned` words.
 #[inline]
 pub(crate) fn order_of_words(one: &[u16], other: &[u16], unaligned: usize) -> u16
     requires sized { length one.now ≡ length other.now }
@@ -154,7 +154,7 @@ pub(crate) fn order_of_words(one: &[u16], other: &[u16], unaligned: usize) -> u1
     0
 }
 
-/// Whether the low bytes of words are the same.
+/// Whether the low bytes of words are equal.
 #[inline]
 pub(crate) fn are_same_words(one: &[u16], other: &[u16]) -> bool
     requires sized { length one.now ≡ length other.now }
@@ -168,7 +168,7 @@ pub(crate) fn are_same_words(one: &[u16], other: &[u16]) -> bool
     true
 }
 
-/// Puts the low bytes of words behind bytes.
+/// Appends the low bytes of words.
 pub(crate) fn append_words(bytes: &mut ArrayVec<u8, MOST_SENT>, words: &[u16])
     requires { array_vec_len bytes.old + length words.now ≤ 256 }
     ensures { bytes.new.items ≡ bytes.old.items ++ map low words.now }

@@ -1,6 +1,6 @@
--- What a command does to objects: the firewall judges each of its accesses; one that it denies throws, and changes
--- nothing; and a plain object changes only in its own context, or by clearing (Java Card Runtime Environment
--- Specification, Applet Isolation and Object Sharing: Class and Object Access Behavior; Transient Objects).
+-- The law of accesses of a command: the firewall judges each access; a denied access throws, and changes nothing; and a
+-- plain object changes only in its own context, or by clearing (Java Card Runtime Environment Specification, Applet
+-- Isolation and Object Sharing: Class and Object Access Behavior; Transient Objects).
 use Rattle.std.specs.Prelude.{◌≡◌, ◌≢◌, ◌⊎◌, ⊤, ℕ, true, List, Some, IsSome, slice_get}
 use Rattle.jc_firewall.specs.Verdict.{runtime_context}
 use Rattle.jc_link.specs.Built.{IsBuilt}
@@ -27,8 +27,8 @@ use Rattle.jc_card.specs.Parts.{Left}
 
 -- ---- a command
 
--- in the list stands an access to an object by which it may change, and that is allowed; of a plain one in its own
--- context, or the runtime's
+-- the list has an allowed access to an object by which it may change; to a plain object in its own context, or in the
+-- runtime's
 pub record IsAccessed (touches : List Touch) (number : ℕ) (object : Object TaggedValue) : Type 0 where
   pub place : ℕ
   pub touch : Touch
@@ -44,9 +44,9 @@ pub record ChangesBy (touches : List Touch) (before after : Heap TaggedValue) : 
   pub components : (number : ℕ) (o p : Object TaggedValue) → object_at before number ≡ Some o
       → object_at after number ≡ Some p → (p.cells ≡ o.cells) ⊎ IsAccessed touches number o
 
--- a step keeps the law of accesses, and makes those of its instruction; it keeps frames and their owners but by calls,
--- returns and catches; what is thrown from it is caught by the nearest handler that catches it; and the objects that
--- were there stay
+-- a step keeps the law of accesses, and makes those of its instruction; it changes frames and their owners only by
+-- calls, returns and catches; what is thrown from it is caught by the nearest handler that catches it; and the objects
+-- that were there stay
 pub record IsLawfulStep (s : Surroundings Kept) (m : Machine Kept) : Type 0 where
   pub guarded : IsGuarded s m
   pub accesses : AccessesAreOwn s m
@@ -56,7 +56,7 @@ pub record IsLawfulStep (s : Surroundings Kept) (m : Machine Kept) : Type 0 wher
   pub kept : (after : Machine Kept) → machine_of (defensive_step s m).outcome ≡ Some after
       → KeepsObjects m.heap after.heap
 
--- so does each step of a command, and each native member that the runtime itself calls
+-- each step of a command does, and each native member that the runtime itself calls
 abbrev pub law_of_accesses : Claims
 law_of_accesses = record {
   step = λ s m. IsLawfulStep s m;
@@ -64,8 +64,8 @@ law_of_accesses = record {
   write = λ heap number. ⊤;
 }
 
--- the law of accesses, of what is asked for on a card: how it leads on, part by part; that the packages stay; and what
--- its accesses change
+-- the law of accesses for a command on a card: it consists of such parts, the packages stay, and only its accesses
+-- change objects
 pub record IsGuardedCommand {A : Type 0} (order : Order) (c : CardState) (l : Left A) : Type 0 where
   pub accesses : Leads law_of_accesses order c l.touches l.card
   pub packages : l.card.world ≡ c.world
@@ -73,8 +73,8 @@ pub record IsGuardedCommand {A : Type 0} (order : Order) (c : CardState) (l : Le
 
 -- ---- plain objects
 
--- a step changes a plain object only where the context of its frame is that of the object's owner; so does a native
--- member, with the context as which it is called; and what the runtime writes isn't plain
+-- a step changes a plain object only if the context of its frame is that of the object's owner; a native member does so
+-- only with the context as which it is called; and the runtime writes to no plain object
 abbrev pub law_of_plain_objects : Claims
 law_of_plain_objects = record {
   step = λ s m. (after : Machine Kept) → machine_of (defensive_step s m).outcome ≡ Some after
@@ -83,17 +83,17 @@ law_of_plain_objects = record {
   write = λ heap number. (o : Object TaggedValue) → object_at heap number ≡ Some o → o.kind.mark ≢ Plain;
 }
 
--- a card on which the runtime's name is its own: its packages are linked, no code of theirs runs as the runtime, and
--- the instances are of their contexts. No field, component or static field of it holds a reference to a temporary entry
--- point or a global array, but static fields to arrays of libraries
+-- a card on which only the runtime runs as the runtime: its packages are linked, and no instance is in the runtime's
+-- context. No field, component or static field of it holds a reference to a temporary entry point or a global array,
+-- except static fields to arrays of libraries
 pub record IsApartCard (c : CardState) : Type 0 where
   pub packages : IsBuilt c.world.shapes
   pub objects : IsSetApart c.heap
   pub statics : FieldsHoldStorable c.heap c.statics
   pub instances : names_applets c.kept ≡ true
 
--- behind a command it stays so on a card; and part by part, plain objects are changed in their own contexts alone, and
--- by clearing
+-- after a command the card still is such; and, part by part, plain objects change only in their own contexts, and by
+-- clearing
 pub record KeepsApart (order : Order) (c : CardState) (touches : List Touch) (after : CardState) : Type 0 where
   pub card : IsApartCard after
   pub plain : Leads law_of_plain_objects order c touches after
@@ -107,7 +107,7 @@ AllCleared before after = (number : ℕ) (o : Object TaggedValue) → object_at 
 
 -- ---- a load
 
--- a load leaves each object as it was
+-- a load leaves each object unchanged
 abbrev pub LeavesObjects : Heap TaggedValue → Heap TaggedValue → Type 0
 LeavesObjects before after = (number : ℕ) (o : Object TaggedValue) → object_at before number ≡ Some o
     → object_at after number ≡ Some o

@@ -1,5 +1,5 @@
--- What commands are answered, and which instances are registered behind them (Java Card Runtime Environment
--- Specification, Applet Lifetime, Selection; ISO/IEC 7816-4, status words).
+-- The answers to commands, and the registered instances after them (Java Card Runtime Environment Specification, Applet
+-- Lifetime, Selection; ISO/IEC 7816-4, status words).
 use Rattle.std.specs.Prelude.{◌≡◌, ℕ, Bool, true, false, List, [], ◌∷◌, ◌++◌, Option, Some, None, IfSome}
 use Rattle.jc_api.specs.declared.class.ApiClass.TheVariants.{IsoException}
 use Rattle.jc_machine.specs.Lookup.{is_of_class}
@@ -27,8 +27,8 @@ use Rattle.jc_card.specs.declared.places.AppletPlace.{AppletPlace}
 
 -- ---- the status of a call that ended
 
--- one that ended by itself has the status that is given; an ISOException that nothing caught says it by its reason; of
--- another object, and of a budget that is used up, there is no precise diagnosis
+-- the status of a call that ended normally is the given one; that of an ISOException that nothing caught is its reason;
+-- for another object, and for a spent budget, it is 6F00, without a precise diagnosis
 pub data HasStatus (c : CardState) (done : ℕ) : Ended → ℕ → Type 0 where
   by_itself : (value : Option TaggedValue) → HasStatus c done (Normally value) done
   by_reason : (number : ℕ) (at : Option CodePoint) (o : Object TaggedValue) → object_at c.heap number ≡ Some o
@@ -50,9 +50,9 @@ pub record EndsWith {A B : Type 0} (l : Left A) (called : Left B) : Type 0 where
   pub touches : l.touches ≡ accesses ++ called.touches
   pub ran : l.ran ≡ steps ++ called.ran
 
--- a command's last part is the call of process of the applet that is selected, which had sent nothing before: the
--- answer's data are what it sent, and its status is 9000, where that call ended by itself. Else no applet is selected
--- behind the command, or the bytes are no command: there are no data, and the status says so
+-- a command's last part is the call of process of the selected applet, and nothing was sent before it: the answer's
+-- data are what it sent, and its status is 9000 if that call ended normally. Otherwise no applet is selected after the
+-- command, or the bytes are no command: then there are no data, and the status says so
 pub data IsAnswered (bytes : List ℕ) (l : Left Response) : Type 0 where
   by_process : (before : CardState) (owner : Owner) (called : Left Ended) → before.selected ≡ Some owner
       → before.kept.sent ≡ [] → call_selected before Process ≡ Some called → EndsWith l called
@@ -65,7 +65,7 @@ pub data IsAnswered (bytes : List ℕ) (l : Left Response) : Type 0 where
 
 -- ---- registered instances
 
--- the registered instances are what they were, and none is being installed
+-- the registered instances are unchanged, and none is being installed
 pub record KeepsRegistered (c after : CardState) : Type 0 where
   pub instances : after.kept.instances ≡ c.kept.instances
   pub installing : after.kept.installing ≡ None
@@ -90,9 +90,9 @@ comes_at_once AidInUse = true
 comes_at_once NoInstance = true
 comes_at_once (InstallFailed failure) = false
 
--- an install that is refused at once changes nothing. One whose method ends by itself, and has registered an instance,
--- succeeds: there is this one more, and its number is the answer. Any other fails: the registered instances are what
--- they were. Behind each none is being installed
+-- an install that is refused at once changes nothing. An install whose method ends normally, and has registered an
+-- instance, succeeds: there is this one more, and its number is the answer. Any other install fails, and the registered
+-- instances are unchanged. After each install none is being installed
 pub data IsInstalled (c : CardState) (l : Left Installed) : Type 0 where
   refused : (fault : InstallFault) → comes_at_once fault ≡ true → l.value ≡ Refused fault → l.card ≡ c
       → IsInstalled c l
@@ -109,7 +109,8 @@ pub data IsInstalled (c : CardState) (l : Left Installed) : Type 0 where
 
 -- ---- all commands
 
--- of each command on each card; of who is registered, on each card on which none is being installed, as on a new one
+-- the answers to all commands on each card; the registered instances on each card on which none is being installed,
+-- such as a new one
 pub record AreAnswered : Type 0 where
   pub apdus : (c : CardState) (bytes : List ℕ) → IfSome (apdu_command c bytes) (IsAnswered bytes)
   pub registered : (c : CardState) → c.kept.installing ≡ None → (bytes : List ℕ)

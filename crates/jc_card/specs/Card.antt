@@ -1,4 +1,4 @@
--- The card of the defensive machine, between commands: no frame lives then (Java Card Runtime Environment
+-- The card of the defensive machine, between commands: then no frame lives (Java Card Runtime Environment
 -- Specification, Lifetime of the Java Card Virtual Machine, Applet Lifetime).
 use Rattle.std.specs.Prelude.{ℕ, List, [], Option}
 use Rattle.std.specs.Option.{option_and_then}
@@ -13,10 +13,9 @@ use Rattle.jc_firewall.specs.Verdict.{runtime}
 use Rattle.jc_store.specs.Heap.{Heap}
 use Rattle.jc_words.specs.Values.{TaggedValue}
 
--- the packages; the objects; the static fields of each loaded package; what the runtime keeps, the registered
--- instances of applets among it, and how many instance numbers were given out; the context and the number of the
--- instance that is selected, if one is; and how much there may be of objects, of frames and, in one call of the
--- runtime's, of steps
+-- the packages; the objects; the static fields of each loaded package; the runtime's state, with the registered
+-- instances of applets and the number of assigned instance numbers; the context and the number of the selected
+-- instance, if there is one; and the limits of objects, of frames and, in one call of the runtime, of steps
 pub record CardState : Type 0 where
   pub world : World
   pub heap : Heap TaggedValue
@@ -26,7 +25,7 @@ pub record CardState : Type 0 where
   pub limits : Limits
   pub steps : ℕ
 
--- ---- the card, with another part
+-- ---- the card with one part replaced
 
 abbrev pub with_heap : CardState → Heap TaggedValue → CardState
 with_heap c heap = record c { heap = heap }
@@ -40,18 +39,18 @@ with_selected c selected = record c { selected = selected }
 abbrev pub with_steps : CardState → ℕ → CardState
 with_steps c steps = record c { steps = steps }
 
--- as a call left it
+-- the card after a call
 abbrev pub left_by : CardState → Machine Kept → CardState
 left_by c m = record c { heap = m.heap; statics = m.statics; kept = m.runtime }
 
--- ---- what surrounds its calls
+-- ---- the surroundings of its calls
 
--- the native members are those of the API; a context counts as the selected one, or none does
+-- the native members are those of the API; one context counts as selected, or none
 abbrev pub around : CardState → Option ℕ → Surroundings Kept
 around c selected =
     record { world = c.world; natives = meaning; limits = c.limits; selected = selected }
 
--- what is kept beside the frames of a call, as a machine with the frame of no method
+-- the rest of a call besides its frames, as a machine with the frame of no method
 abbrev pub beside : CardState → Owner → Machine Kept
 beside c owner =
     record { heap = c.heap; statics = c.statics; runtime = c.kept; top = no_frame owner; waiting = [] }
@@ -59,7 +58,7 @@ beside c owner =
 abbrev pub at_rest : CardState → Machine Kept
 at_rest c = beside c runtime
 
--- ---- the instance that is selected
+-- ---- the selected instance
 
 abbrev pub selected_instance : CardState → Option Instance
 selected_instance c = option_and_then (instance_of c.kept.instances) c.selected

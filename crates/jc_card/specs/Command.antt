@@ -1,9 +1,8 @@
--- Commands as a reader sends them (ISO/IEC 7816-3 and 7816-4: short command APDUs, SELECT by name).
+-- Command APDUs of a reader (ISO/IEC 7816-3 and 7816-4: short command APDUs, SELECT by name).
 use Rattle.std.specs.Prelude.{ℕ, ◌+◌, ◌==◌, ◌&&◌, ◌||◌, Bool, not, List, [], ◌∷◌, ◌++◌, length, drop, take, Option}
 use Rattle.std.specs.Prelude.{Some, None, bytes_eq, get_or, replicate, if◌then◌else◌}
 
--- a command: CLA, INS, P1 and P2; P3, which is Lc or Le, and 0 where it is missing; the data; and Le, 0 where it is
--- missing
+-- a command: CLA, INS, P1 and P2; P3, which is Lc or Le, or 0 if it is missing; the data; and Le, or 0 if it is missing
 pub record Command : Type 0 where
   pub header : List ℕ
   pub p3 : ℕ
@@ -14,7 +13,7 @@ pub record Command : Type 0 where
 abbrev pub p3_of : List ℕ → ℕ
 p3_of bytes = get_or bytes 4 0
 
--- Lc, which isn't 0, and so many bytes of data; Le may stand behind them
+-- Lc isn't 0, and that many bytes of data follow, possibly with Le after them
 abbrev pub has_data : List ℕ → Bool
 has_data bytes =
     not (p3_of bytes == 0) && (length bytes == 5 + p3_of bytes || length bytes == 6 + p3_of bytes)
@@ -31,7 +30,7 @@ with_data bytes = record {
   expected = get_or bytes (5 + p3_of bytes) 0;
 }
 
--- the command that bytes are, if they are one: a header alone, with Le, or with data
+-- the command that these bytes encode, if they are one: a header alone, with Le, or with data
 abbrev pub command_of : List ℕ → Option Command
 command_of bytes =
     if length bytes == 4 || length bytes == 5 then Some (without_data bytes)
@@ -41,7 +40,7 @@ command_of bytes =
 abbrev pub is_select : Command → Bool
 is_select k = bytes_eq k.header (0x00 ∷ 0xA4 ∷ 0x04 ∷ 0x00 ∷ [])
 
--- what the APDU buffer holds when a command came: the header and P3, and then zeros
+-- the APDU buffer when a command arrives: the header and P3, and then zeros
 abbrev pub buffer_size : ℕ
 buffer_size = 261
 

@@ -1,5 +1,5 @@
--- What the card does to a command of a reader, and to a reset (Java Card Runtime Environment Specification, Selection,
--- Applet Lifetime: select, deselect and process; Transient Objects; Card Reset Behavior).
+-- Commands of a reader, and a reset, on the card (Java Card Runtime Environment Specification, Selection, Applet
+-- Lifetime: select, deselect and process; Transient Objects; Card Reset Behavior).
 use Rattle.std.specs.Prelude.{ℕ, ◌==◌, Bool, true, false, not, List, [], Option, Some, None, is_some, if◌then◌else◌}
 use Rattle.std.specs.Option.{option_map_or}
 use Rattle.jc_api.specs.declared.class.ApiClass.TheVariants.{IsoException}
@@ -22,7 +22,7 @@ use Rattle.jc_card.specs.Command.{wrong_length}
 use Rattle.jc_card.specs.Parts.{Ended, Left, Normally, OutOfBudget, Uncaught, and_then, call_selected, clear, gives}
 use Rattle.jc_card.specs.Parts.{write}
 
--- the data and the status of an answer, and why its call of an applet, if there was one, didn't end by itself
+-- the data and the status of an answer, and why its call of an applet, if there was one, didn't end normally
 pub record Response : Type 0 where
   pub sent : List ℕ
   pub status : ℕ
@@ -31,9 +31,10 @@ pub record Response : Type 0 where
 abbrev pub status_alone : ℕ → Response
 status_alone status = record { sent = []; status = status; cause = None }
 
--- ---- how a call that ended is answered
+-- ---- the status of a call that ended
 
--- an ISOException, or one of a subclass, that nothing caught says the status; of anything else there is no diagnosis
+-- the status of an object that nothing caught: the reason of an ISOException, or of an object of a subclass; of
+-- anything else there is no diagnosis
 abbrev pub status_of_thrown : CardState → Object TaggedValue → ℕ
 status_of_thrown c object =
     if is_of_class c.world.shapes (Api IsoException) object.kind.object_type then reason_of object else unknown_error
@@ -45,25 +46,25 @@ status_of c (OutOfBudget spent at) = unknown_error
 
 -- ---- selection
 
--- the transient arrays of the selected applet's context that are cleared on deselect are, and no applet is selected
+-- clears the transient arrays of the selected applet's context that are cleared on deselect, and selects no applet
 abbrev pub unselect : CardState → Option (Left (Unit {0}))
 unselect c =
     option_map_or (λ (owner : Owner). clear Deselect (Some owner.context) (with_selected c None)) c.selected
     (gives c tt)
 
--- the applet that is selected is deselected: whatever its deselect method does, it isn't selected behind it
+-- deselects the selected applet: whatever its deselect method does, it isn't selected afterwards
 abbrev pub deselect : CardState → Option (Left (Unit {0}))
 deselect c = and_then (call_selected c Deselect) (λ c ended. unselect c)
 
--- an applet agrees to be selected where its select method gives a word that isn't 0
+-- an applet agrees to be selected if its select method returns a word that isn't 0
 abbrev pub agrees : Ended → Bool
 agrees (Normally value) = option_map_or (λ v. not (bits v == 0)) value false
 agrees (Uncaught object at) = false
 agrees (OutOfBudget spent at) = false
 
--- ---- the command is before the applet that is selected
+-- ---- the selected applet gets the command
 
--- its process method is called. What was sent is the answer's data, however that ends
+-- calls its process method. The answer's data are what was sent, however the call ends
 abbrev pub answered : CardState → Ended → Option (Left Response)
 answered c ended =
     let after = with_kept c (without_command c.kept) in
@@ -73,7 +74,7 @@ abbrev pub process : CardState → Command → Bool → Option (Left Response)
 process c k selecting =
     and_then (call_selected (with_kept c (with_command c.kept k.incoming k.expected selecting)) Process) answered
 
--- it is asked whether it agrees to be selected. If it does the command is before it; else none is selected
+-- asks whether it agrees to be selected. If it does, it gets the command; otherwise no applet is selected
 abbrev pub refused : CardState → Option (Left Response)
 refused c = and_then (unselect c) (λ c u. gives c (status_alone not_selected))
 
@@ -83,15 +84,14 @@ asked c k ended = if agrees ended then process c k true else refused c
 abbrev pub ask : CardState → Command → Option (Left Response)
 ask c k = and_then (call_selected c Select) (λ c ended. asked c k ended)
 
--- SELECT of a registered instance: the applet that was selected is deselected; then the new one counts as selected, and
--- is asked
+-- SELECT of a registered instance: the selected applet is deselected; then the new one counts as selected, and is asked
 abbrev pub choose : CardState → Owner → Command → Option (Left Response)
 choose c owner k = ask (with_selected c (Some owner)) k
 
 abbrev pub select : CardState → Owner → Command → Option (Left Response)
 select c owner k = and_then (deselect c) (λ c u. choose c owner k)
 
--- any other command is before the applet that is selected, if one is
+-- the selected applet, if there is one, gets any other command
 abbrev pub dispatch : CardState → Command → Option (Left Response)
 dispatch c k =
     if is_some (selected_instance c) then process c k false else gives c (status_alone not_selected)
@@ -105,7 +105,7 @@ perform c k = option_map_or (λ (i : Instance). select c i.owner k) (selected_by
 
 -- ---- the commands
 
--- a command comes: the buffer holds its first bytes, and then it is performed
+-- receives a command: the buffer gets its first bytes, and then it is performed
 abbrev pub receive : CardState → Command → Option (Left Response)
 receive c k = and_then (write apdu_buffer (buffer_of k) c) (λ c u. perform c k)
 
@@ -113,6 +113,6 @@ receive c k = and_then (write apdu_buffer (buffer_of k) c) (λ c u. perform c k)
 abbrev pub apdu_command : CardState → List ℕ → Option (Left Response)
 apdu_command c bytes = option_map_or (receive c) (command_of bytes) (gives c (status_alone wrong_length))
 
--- a reset: no applet is selected, and all transient arrays are zero or null. No method is called
+-- a reset: no applet is selected, and all transient arrays are zero or null. It calls no method
 abbrev pub reset_command : CardState → Option (Left (Unit {0}))
 reset_command c = and_then (clear Reset None (with_selected c None)) (λ c u. clear Deselect None c)

@@ -1,5 +1,5 @@
--- A card for examples: a small package is loaded, whose applet registers when it is installed, and answers each command
--- with no data and the normal status.
+-- A card for examples, with a small package. Its applet registers when it is installed, and answers each command with
+-- no data and the normal status.
 use Rattle.std.specs.Prelude.{ℕ, List, [], ◌∷◌, Option, map}
 use Rattle.std.specs.Option.{option_and_then, option_map}
 use Rattle.jc_api.specs.Bound.{default_binding}
@@ -39,7 +39,7 @@ select_of aid = 0x00 ∷ 0xA4 ∷ 0x04 ∷ 0x00 ∷ 6 ∷ aid
 abbrev pub header_alone : List ℕ
 header_alone = 0x80 ∷ 0x01 ∷ 0x00 ∷ 0x00 ∷ []
 
--- ---- what is shown of them
+-- ---- the results that are shown
 
 abbrev pub card_of : {A : Type 0} → Option (Left A) → Option CardState
 card_of done = option_map (λ l. l.card) done
@@ -64,7 +64,7 @@ installed_card = card_of (install_on loaded_card applet_aid applet_aid)
 abbrev pub selected_card : Option CardState
 selected_card = option_and_then (λ c. card_of (send_to c (select_of applet_aid))) installed_card
 
--- what is answered on it to a command
+-- the answer of the card to a command
 abbrev pub answer_on : Option CardState → List ℕ → Option Response
 answer_on card bytes = option_and_then (λ c. said_by (send_to c bytes)) card
 

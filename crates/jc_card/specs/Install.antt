@@ -33,7 +33,7 @@ row_with aid applets = find (λ (a : Applet). bytes_eq a.aid aid) applets
 abbrev pub applet_in : List ℕ → LinkedBody → Option Applet
 applet_in aid body = option_and_then (row_with aid) body.kept.applets
 
--- the first loaded package that has one, of those with numbers from one on
+-- the first loaded package that has one, of those with numbers from `number` on
 abbrev pub applet_from : ℕ → List LinkedBody → List ℕ → Option AppletPlace
 applet_from number [] aid = None
 applet_from number (body ∷ bodies) aid =
@@ -45,14 +45,14 @@ applet_of c aid = applet_from 1 c.world.bodies aid
 
 -- ---- refusals
 
--- data of an install are at most 108 bytes
+-- the greatest number of data bytes of an install
 abbrev pub most_data : ℕ
 most_data = 108
 
 abbrev pub refused_if : Bool → InstallFault → Option InstallFault → Option InstallFault
 refused_if condition fault otherwise = if condition then Some fault else otherwise
 
--- the first that applies, of one that isn't about the applet
+-- the first refusal that applies, apart from a missing applet
 abbrev pub refusal_of : CardState → List ℕ → List ℕ → Option InstallFault
 refusal_of c instance incoming =
     refused_if (nat_lt most_data (length incoming)) faults.TooLong
@@ -61,8 +61,8 @@ refusal_of c instance incoming =
 
 -- ---- the installation
 
--- what the install method is given: the length of the instance's AID, and that; a length of 0, since there is no
--- control information; the length of the data, and these. The rest of the array is 0
+-- the parameters of the install method: the length of the instance's AID, and the AID; a length of 0, since there is no
+-- control information; the length of the data, and the data. The rest of the array is 0
 abbrev pub install_size : ℕ
 install_size = 127
 
@@ -72,24 +72,24 @@ parameters_of instance incoming = length instance ∷ (instance ++ 0 ∷ length 
 abbrev pub padded : ℕ → List ℕ → List ℕ
 padded size words = words ++ replicate (size - length words) 0
 
--- how it went: the instance's number, or a refusal
+-- the result: the instance's number, or a refusal
 pub data Installed : Type 0 where
   HasNumber : (number : ℕ) → Installed
   Refused : (fault : InstallFault) → Installed
 
--- the method ended, and the instance registered
+-- whether the method ended, and the instance registered
 abbrev pub succeeds : CardState → Ended → Bool
 succeeds c (Normally value) = has_registered c.kept
 succeeds c (Uncaught object at) = false
 succeeds c (OutOfBudget spent at) = false
 
--- the status of one that failed: that of an ISOException which nothing caught, if it was one
+-- the status of an install that failed: that of an ISOException that nothing caught, if there was one
 abbrev pub failure_status : CardState → Ended → ℕ
 failure_status c (Normally value) = unknown_error
 failure_status c (Uncaught number at) = option_map_or (status_of_thrown c) (object_at c.heap number) unknown_error
 failure_status c (OutOfBudget spent at) = unknown_error
 
--- and why it failed
+-- the failure of an install: its status and cause
 abbrev pub failure_of : CardState → Ended → Failure
 failure_of c ended = record { status = failure_status c ended; cause = failure_cause c ended }
 
@@ -97,20 +97,20 @@ abbrev pub installed : CardState → Owner → Ended → Installed
 installed c owner ended =
     if succeeds c ended then HasNumber owner.instance else Refused (faults.InstallFailed (failure_of c ended))
 
--- behind the install method: an instance that registered in an install that failed is none; the context's arrays that
--- are cleared on deselect are cleared; and no applet is selected
+-- after the install method: an instance that registered is removed if the install failed; the context's arrays that are
+-- cleared on deselect are cleared
 abbrev pub settle : CardState → Owner → Ended → Option (Left Installed)
 settle c owner ended =
     and_then (clear Deselect (Some owner.context) (with_kept c (after_install c.kept (succeeds c ended))))
     (λ after u. gives after (installed c owner ended))
 
--- the install method of the applet is called as the new instance, whose context counts as the selected one
+-- calls the install method of the applet as the new instance, whose context counts as the selected one
 abbrev pub call_install : CardState → AppletPlace → Owner → ℕ → Option (Left Ended)
 call_install c place owner size =
     call_method c owner.context owner (Loaded place.number place.install)
     (Ref install_array ∷ Word 0 ∷ Word size ∷ [])
 
--- an instance with a number of its own is installed, and the number is used then, however that ends
+-- installs an instance with a number of its own, which is used then, whatever the end of the install
 abbrev pub install_as : CardState → AppletPlace → Owner → List ℕ → List ℕ → List ℕ → Option (Left Installed)
 install_as c place owner applet instance incoming =
     let parameters = parameters_of instance incoming in
@@ -124,7 +124,7 @@ next_owner c place = record { context = place.number; instance = suc c.kept.numb
 abbrev pub begin : CardState → AppletPlace → List ℕ → List ℕ → List ℕ → Option (Left Installed)
 begin c place applet instance incoming = install_as c place (next_owner c place) applet instance incoming
 
--- an installation that isn't refused: the applet that is selected is deselected first
+-- an installation that isn't refused: the selected applet is deselected first
 abbrev pub accepted : CardState → AppletPlace → List ℕ → List ℕ → List ℕ → Option (Left Installed)
 accepted c place applet instance incoming =
     and_then (deselect c) (λ c u. begin c place applet instance incoming)
@@ -134,7 +134,7 @@ install_at c applet instance incoming place =
     option_map_or (λ fault. gives c (Refused fault)) (refusal_of c instance incoming)
     (accepted c place applet instance incoming)
 
--- the applet's AID, the instance's, and data: the refusal with the least number, or the installation
+-- from the applet's AID, the instance's, and data: the refusal with the least number, or the installation
 abbrev pub install_command : CardState → List ℕ → List ℕ → List ℕ → Option (Left Installed)
 install_command c applet instance incoming =
     option_map_or (install_at c applet instance incoming) (applet_of c applet)

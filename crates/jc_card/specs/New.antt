@@ -1,5 +1,5 @@
--- A card that is new (Java Card Runtime Environment Specification, Lifetime of the Java Card Virtual Machine, JCRE Entry
--- Point Objects, Global Arrays).
+-- New cards (Java Card Runtime Environment Specification, Lifetime of the Java Card Virtual Machine, JCRE Entry Point
+-- Objects, Global Arrays).
 use Rattle.std.specs.Prelude.{[], None}
 use Rattle.jc_api.specs.Bound.{Bound}
 use Rattle.jc_machine.specs.Accepted.{api_alone}
@@ -8,7 +8,7 @@ use Rattle.jc_machine.specs.declared.limits.Limits.{Limits}
 use Rattle.jc_natives.specs.Kept.{nothing_kept}
 use Rattle.jc_card.specs.Card.{CardState}
 
--- no package is loaded beside the API's, the runtime's own objects are all objects, and no applet is installed
+-- only the API's packages, only the runtime's own objects, and no installed applet
 abbrev pub new_card : Limits → Bound → CardState
 new_card l bound = record {
   world = api_alone bound;

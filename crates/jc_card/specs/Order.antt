@@ -1,5 +1,5 @@
--- What a command does, part by part: which method is called, as whom, which arrays are cleared, and which instance is
--- selected (Java Card Runtime Environment Specification, Applet Lifetime, Selection, Transient Objects, Card Reset
+-- The parts of a command: the methods that it calls, and as whom, the arrays that it clears, and the instance that it
+-- selects (Java Card Runtime Environment Specification, Applet Lifetime, Selection, Transient Objects, Card Reset
 -- Behavior).
 use Rattle.std.specs.Prelude.{◌≡◌, ℕ, suc, Bool, true, false, List, [], ◌∷◌, ◌++◌, Option, Some, None, is_some}
 use Rattle.std.specs.Prelude.{if◌then◌else◌}
@@ -40,10 +40,10 @@ use Rattle.jc_card.specs.declared.calls.AppletCall.{AppletCall}
 use Rattle.jc_card.specs.declared.calls.AppletCall.TheVariants as calls
 use Rattle.jc_card.specs.declared.places.AppletPlace.{AppletPlace}
 
--- ---- what is asked for
+-- ---- orders
 
 -- a command of a reader, and the owner of the registered instance that it selects, if it selects one; the installation
--- of the applet with an AID, which lies there, as an owner; a reset; or what is refused at once
+-- of the applet with an AID, at a place, as an owner; a reset; or an order that is refused at once
 pub data Order : Type 0 where
   Performs : (command : Command) (selects : Option Owner) → Order
   Installs : (applet : List ℕ) (place : AppletPlace) (owner : Owner) → Order
@@ -59,19 +59,19 @@ abbrev pub install_order : CardState → List ℕ → Order
 install_order c applet =
     option_map_or (λ place. Installs applet place (next_owner c place)) (applet_of c applet) Refuses
 
--- ---- what is said of the parts of a command
+-- ---- claims of the parts of a command
 
--- of a step in its surroundings; of a native member that the runtime itself calls, and its answer; and of an object
--- that the runtime writes
+-- a claim of each step in its surroundings; of each native member that the runtime itself calls, and its answer; and of
+-- each object that the runtime writes
 pub record Claims : Type 1 where
   pub step : Surroundings Kept → Machine Kept → Type 0
   pub native : World → NativeCall Kept → NativeAnswer Kept → Type 0
   pub write : Heap TaggedValue → ℕ → Type 0
 
--- ---- which method is called
+-- ---- the methods that are called
 
--- a command calls process; one that selects an instance deselect and select too; an installation calls deselect; and a
--- reset calls no method
+-- a command calls process; one that selects an instance calls deselect and select, too; an installation calls deselect;
+-- and a reset calls no method
 abbrev pub calls_member : Order → AppletCall → Bool
 calls_member (Performs command selects) calls.Select = is_some selects
 calls_member (Performs command selects) calls.Deselect = is_some selects
@@ -82,8 +82,8 @@ calls_member (Installs applet place owner) calls.Process = false
 calls_member Resets call = false
 calls_member Refuses call = false
 
--- a call as an owner: of a member of Applet, on the object of the instance that is selected; or of the applet's install
--- method, as the instance that is being installed
+-- a call as an owner: of a member of Applet, on the object of the selected instance; or of the applet's install method,
+-- as the instance that is being installed
 pub data IsCallOf (c : CardState) : Order → Owner → MethodName → List TaggedValue → Type 0 where
   of_selected : (order : Order) (call : AppletCall) (i : Instance) (object : Object TaggedValue) (method : MethodName)
       → calls_member order call ≡ true → selected_instance c ≡ Some i → c.selected ≡ Some i.owner
@@ -95,9 +95,9 @@ pub data IsCallOf (c : CardState) : Order → Owner → MethodName → List Tagg
       → IsCallOf c (Installs applet place owner) owner (Loaded place.number place.install)
       (Ref install_array ∷ Word 0 ∷ Word size ∷ [])
 
--- ---- a call of the runtime's
+-- ---- a call of the runtime
 
--- the machine that a step leaves where it ends its call
+-- the machine after a step that ends its call
 abbrev pub machine_at_end : Outcome Kept → Option (Machine Kept)
 machine_at_end (Next m) = None
 machine_at_end (Throws m object) = Some m
@@ -105,8 +105,8 @@ machine_at_end (Ends m value) = Some m
 machine_at_end (UsedUp m) = Some m
 machine_at_end Stuck = None
 
--- at most so many steps, of each of which this is said, and each from the machine that the one before it left: the
--- accesses, and the machine behind the last
+-- at most n steps, with the claim of each, and each from the machine that the one before it left: the accesses, and the
+-- machine after the last
 pub data Steps (claims : Claims) (s : Surroundings Kept) : ℕ → Machine Kept → List Touch → Machine Kept → Type 0 where
   spent : (m : Machine Kept) → Steps claims s 0 m [] m
   last : (n : ℕ) (m after : Machine Kept) → claims.step s m → machine_at_end (defensive_step s m).outcome ≡ Some after
@@ -115,11 +115,11 @@ pub data Steps (claims : Claims) (s : Surroundings Kept) : ℕ → Machine Kept 
       → (defensive_step s m).outcome ≡ Next next → Steps claims s n next more after
       → Steps claims s (suc n) m ((defensive_step s m).touches ++ more) after
 
--- a machine that begins on a card with a frame
+-- a machine on a card, with its first frame
 abbrev pub machine_with : CardState → Frame → Machine Kept
 machine_with c f = record { heap = c.heap; statics = c.statics; runtime = c.kept; top = f; waiting = [] }
 
--- what a native member is called with as an owner, with no owner before it
+-- the call of a native member as an owner, with no previous owner
 abbrev pub call_as : CardState → Owner → ℕ → List TaggedValue → NativeCall Kept
 call_as c owner member arguments = record {
   member = member;
@@ -132,8 +132,8 @@ call_as c owner member arguments = record {
   limits = c.limits;
 }
 
--- a call of a method as an owner, whose context counts as the selected one: the steps of a method of a package, from
--- the frame at its start; or none, where there is no room for that, or no step is left; or a native member
+-- a call of a method as an owner, whose context counts as the selected one: the steps of a package's method, from the
+-- frame at its start; no step, if there is no room for that frame or no step is left; or a native member
 pub data RunsAs (claims : Claims) (c : CardState) (owner : Owner) (arguments : List TaggedValue)
     : MethodName → List Touch → Machine Kept → Type 0 where
   by_method : (place : MethodPlace) (declared : DeclaredMethod) (header : MethodHeader) (touches : List Touch)
@@ -156,9 +156,9 @@ pub data RunsAs (claims : Claims) (c : CardState) (owner : Owner) (arguments : L
         waiting = [];
       })
 
--- ---- what the runtime does in its own name
+-- ---- the runtime's work in its own name
 
--- its access to an object that is there. The verdict is the firewall's, whichever applet is selected
+-- an access of the runtime to an object. The verdict is the firewall's, whatever applet is selected
 pub record IsOwnAccess (w : World) (heap : Heap TaggedValue) (touch : Touch) : Type 0 where
   pub by : touch.by ≡ ByRuntime
   pub active : touch.active ≡ runtime_context
@@ -167,7 +167,7 @@ pub record IsOwnAccess (w : World) (heap : Heap TaggedValue) (touch : Touch) : T
   pub verdict : (selected : Option ℕ)
       → touch.verdict ≡ verdict_of touch.access touch.active (facts_for w.shapes selected heap (asked_by touch) object)
 
--- by such accesses, all of them allowed, objects become others: each stays, and changes only where it was accessed
+-- such accesses, all of them allowed, change objects: each object stays, and changes only if it was accessed
 pub record IsOwnWork (w : World) (before : Heap TaggedValue) (touches : List Touch) (after : Heap TaggedValue)
     : Type 0 where
   pub judged : AllByRecursion (IsOwnAccess w before) touches
@@ -175,22 +175,22 @@ pub record IsOwnWork (w : World) (before : Heap TaggedValue) (touches : List Tou
   pub kept : KeepsObjects before after
   pub changes : ChangesAccessed runtime_context touches before after
 
--- each other object is what it was
+-- each other object is unchanged
 abbrev pub LeavesOthers : ℕ → Heap TaggedValue → Heap TaggedValue → Type 0
 LeavesOthers number before after = (other : ℕ) → (other ≡ number → ⊥) → object_at after other ≡ object_at before other
 
--- it writes to an object, and to no other
+-- the runtime writes to an object, and to no other
 pub record IsOwnWrite (claims : Claims) (c : CardState) (number : ℕ) (after : Heap TaggedValue) : Type 0 where
   pub work : IsOwnWork c.world c.heap (runtime_touch c.heap number) after
   pub others : LeavesOthers number c.heap after
   pub claimed : claims.write c.heap number
 
--- the transient arrays of an event, of a context or of all, are zero or null, and each other object is what it was
+-- the transient arrays of an event, of a context or of all, are zero or null, and each other object is unchanged
 abbrev pub Clears : ClearingEvent → Option ℕ → Heap TaggedValue → Heap TaggedValue → Type 0
 Clears event context before after = (number : ℕ) (o : Object TaggedValue) → object_at before number ≡ Some o
     → object_at after number ≡ Some (if is_cleared_by event context o then zeroed o else o)
 
--- it clears exactly what an event and a context name
+-- the runtime clears exactly the arrays that an event and a context name
 pub record IsClearing (c : CardState) (event : ClearingEvent) (context : Option ℕ) (touches : List Touch)
     (after : Heap TaggedValue) : Type 0 where
   pub work : IsOwnWork c.world c.heap touches after
@@ -198,13 +198,13 @@ pub record IsClearing (c : CardState) (event : ClearingEvent) (context : Option 
 
 -- ---- one part after the other
 
--- what is asked for, a card, the accesses that are made then, and the card behind them. Nothing is done, or one part
--- after the other. Whatever is asked for may call methods (IsCallOf). What may call deselect may leave nobody selected,
--- once the arrays of that context which are cleared on deselect are. A command writes words into the APDU buffer, it is
--- kept what it brought and what it was answered, and it selects the instance that it names, where none is selected. An
--- installation begins where none is, in the context of the applet's package and with the next number; it writes words
--- into the array of an install; and it settles, with the arrays of its own context cleared. Behind a reset all arrays
--- are, and none is selected. What is refused at once has no part
+-- an order, a card, the accesses that it makes, and the card after it. It does nothing, or one part after the other.
+-- Any order that calls methods may do so (IsCallOf). An order that may call deselect may unselect the instance, after
+-- clearing those arrays of its context that are cleared on deselect. A command writes words to the APDU buffer, opens
+-- and closes the exchange, and selects the instance that it names, if none is selected. An installation begins if none
+-- is selected, in the context of the applet's package and with the next number; it writes words to the array of an
+-- install; and it settles after clearing the arrays of its own context that are cleared on deselect. A reset clears all
+-- transient arrays, and unselects. An order that is refused at once has no part
 pub data Leads (claims : Claims) : Order → CardState → List Touch → CardState → Type 0 where
   nowhere : (order : Order) (c : CardState) → Leads claims order c [] c
   onward : (order : Order) (c between after : CardState) (touches more : List Touch)

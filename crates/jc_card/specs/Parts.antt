@@ -1,5 +1,5 @@
--- The parts of commands: calls of the runtime's, what it writes in its own name, and the clearing of transient arrays
--- (Java Card Runtime Environment Specification, Applet Lifetime, Transient Objects).
+-- The parts of commands: calls of the runtime, writes in its own name, and clearing of transient arrays (Java Card
+-- Runtime Environment Specification, Applet Lifetime, Transient Objects).
 use Rattle.std.specs.Prelude.{ℕ, suc, List, [], ◌∷◌, ◌++◌, Option, Some, None, map, if◌then◌else◌}
 use Rattle.std.specs.Option.{option_and_then, option_map, option_map_or}
 use Rattle.jc_machine.specs.Machine.{Machine, Touch}
@@ -24,32 +24,31 @@ use Rattle.jc_card.specs.declared.calls.AppletCall.TheVariants.{Select, Deselect
 
 -- ---- one part after the other
 
--- the accesses of a part and the contexts in which its steps ran, both in their order; the card behind it; and what it
--- gives
+-- the accesses of a part and the contexts in which its steps ran, both in order; the card after it; and its result
 pub record Left (A : Type 0) : Type 0 where
   pub touches : List Touch
   pub ran : List ℕ
   pub card : CardState
   pub value : A
 
--- a part that makes no access
+-- a part without accesses
 abbrev pub gives : {A : Type 0} → CardState → A → Option (Left A)
 gives c value = Some (record { touches = []; ran = []; card = c; value = value })
 
--- behind the accesses and the steps of another one
+-- a part after the accesses and the steps of another one
 abbrev pub behind : {A : Type 0} → List Touch → List ℕ → Left A → Left A
 behind touches ran l =
     record { touches = touches ++ l.touches; ran = ran ++ l.ran; card = l.card; value = l.value }
 
--- a part, and then the next; where a call is stuck there is nothing
+-- a part, and then the next; if a call is stuck there is no result
 abbrev pub and_then : {A B : Type 0} → Option (Left A) → (CardState → A → Option (Left B)) → Option (Left B)
 and_then None next = None
 and_then (Some l) next = option_map (behind l.touches l.ran) (next l.card l.value)
 
 -- ---- calls
 
--- how a call of the runtime's ends for it: what nothing caught, and where it was thrown; what is spent, and where a
--- frame stood
+-- the end of a call of the runtime: what nothing caught, and where it was thrown; what is spent, and where a frame
+-- stood
 pub data Ended : Type 0 where
   Normally : (value : Option TaggedValue) → Ended
   Uncaught : (object : ℕ) (at : Option CodePoint) → Ended
@@ -68,7 +67,7 @@ ended_call c called WasStuck = None
 abbrev pub ended : CardState → Called Kept → Option (Left Ended)
 ended c called = ended_call c called called.ends
 
--- how a call of a method begins on a card
+-- the start of a call of a method on a card
 abbrev pub start_on : CardState → Owner → MethodName → List TaggedValue → Start Kept
 start_on c owner method arguments = record {
   heap = c.heap;
@@ -79,12 +78,12 @@ start_on c owner method arguments = record {
   arguments = arguments;
 }
 
--- a method is called as an instance, with no owner before it, while a context counts as the selected one
+-- calls a method as an instance, with no previous owner, while a context counts as the selected one
 abbrev pub call_method : CardState → ℕ → Owner → MethodName → List TaggedValue → Option (Left Ended)
 call_method c selected owner method arguments =
     ended c (runtime_call (around c (Some selected)) c.steps (start_on c owner method arguments))
 
--- the members of Applet that the runtime calls, by their numbers, and what they take
+-- the members of Applet that the runtime calls, by their numbers, and their arguments
 abbrev pub member_called : AppletCall → ℕ
 member_called Select = 36
 member_called Deselect = 37
@@ -95,7 +94,7 @@ arguments_of Select = []
 arguments_of Deselect = []
 arguments_of Process = Ref apdu_object ∷ []
 
--- the method that an instance's object has in the place of such a member is called as the instance
+-- calls as the instance the method that its object's class has for such a member
 abbrev pub call_on : CardState → Instance → AppletCall → Object TaggedValue → Option (Left Ended)
 call_on c i call object =
     option_and_then (λ method. call_method c i.owner.context i.owner method (Ref i.object ∷ arguments_of call))
@@ -104,18 +103,18 @@ call_on c i call object =
 abbrev pub call_applet : CardState → Instance → AppletCall → Option (Left Ended)
 call_applet c i call = option_and_then (call_on c i call) (object_at c.heap i.object)
 
--- that of the applet that is selected; where none is, nothing is called
+-- calls that of the selected applet; without one it calls nothing
 abbrev pub call_selected : CardState → AppletCall → Option (Left Ended)
 call_selected c call =
     option_map_or (λ i. call_applet c i call) (selected_instance c) (gives c (Normally None))
 
--- ---- what the runtime writes
+-- ---- writes of the runtime
 
--- its access to an object; none where the object isn't there
+-- its access to an object; none if there is no object
 abbrev pub runtime_touch : Heap TaggedValue → ℕ → List Touch
 runtime_touch heap number = option_map_or (λ object. own_touch number object ∷ []) (object_at heap number) []
 
--- words into the components of an object, from the first on
+-- writes words to the components of an object, from the first on
 abbrev pub write : ℕ → List ℕ → CardState → Option (Left (Unit {0}))
 write number words c = Some (record {
   touches = runtime_touch c.heap number;
@@ -126,14 +125,14 @@ write number words c = Some (record {
 
 -- ---- clearing
 
--- the accesses to the objects that an event clears, of which the first has a number
+-- the accesses to the objects that an event clears; the first object has this number
 abbrev pub clearing_touches : ClearingEvent → Option ℕ → ℕ → Heap TaggedValue → List Touch
 clearing_touches event context number [] = []
 clearing_touches event context number (object ∷ heap) =
     (if is_cleared_by event context object then own_touch number object ∷ [] else [])
     ++ clearing_touches event context (suc number) heap
 
--- the arrays of an event are zero or null: those of a context, or all
+-- clears the arrays of an event, to zero or null: those of a context, or all
 abbrev pub clear : ClearingEvent → Option ℕ → CardState → Option (Left (Unit {0}))
 clear event context c = Some (record {
   touches = clearing_touches event context 1 c.heap;

@@ -22,7 +22,7 @@ use Rattle.jc_store.specs.Heap.{Heap, Object, object_at}
 use Rattle.jc_words.specs.Values.{TaggedValue, Word}
 use Rattle.jc_card.specs.PrivateTyped.{KeepNumbers}
 
--- what is known of each step, and of each native member
+-- the laws of each step, and of each native member
 pub record StepsGuarded : Type 0 where
   pub members : AreNativesGuarded meaning
   pub steps : (s : Surroundings Kept) → AreNativesGuarded s.natives → (m : Machine Kept) → IsGuarded s m

@@ -1,4 +1,4 @@
--- Private. What a machine on words is behind a load.
+-- Private. The machine on words after a load.
 use Rattle.std.specs.Prelude.{◌≡◌, ℕ, suc, ◌+◌, ◌<◌, ◌++◌, List, length, true}
 use Rattle.jc_interp.specs.Agree.{HoldsFields}
 use Rattle.jc_interp.specs.Loading.{with_package}
@@ -10,8 +10,8 @@ use Rattle.jc_safety.specs.Loading.{has_room_for, loaded_arrays, loaded_statics}
 use Rattle.jc_store.specs.Heap.{Heap}
 use Rattle.jc_words.specs.Values.{TaggedValue}
 
--- words of static fields, which hold them where there are few objects; and where there is room the machine has them,
--- and the package's arrays
+-- words of static fields, which hold the fields if there are few objects; and if there is room, the machine has these
+-- words and the package's arrays
 pub record Grows (before after : WordMachine) (number : ℕ) (l : Linked) : Type 0 where
   pub words : List ℕ
   pub holds : length before.store.objects + length l.body.kept.statics.arrays < 65536

@@ -1,4 +1,4 @@
--- Private. The runtime's own objects as they are made, one behind the other.
+-- Private. Making the runtime's own objects, one after the other.
 use Rattle.std.specs.Prelude.{◌≡◌, ℕ, zero, suc, ◌+◌, ◌<◌, ◌≤◌, List, [], ◌∷◌, ◌++◌, length, map, replicate, get_or}
 use Rattle.std.specs.Prelude.{None}
 use Rattle.jc_api.specs.declared.class.ApiClass.{ApiClass}
@@ -25,7 +25,7 @@ temporary class size = record { object = Instance (Api class); mark = TemporaryE
 abbrev pub global_bytes : ℕ → OwnObject
 global_bytes size = record { object = ByteArray; mark = GlobalArray; size = size }
 
--- those that differ, and the AIDs behind them
+-- those that differ, and the AIDs after them
 abbrev pub first_objects : List OwnObject
 first_objects =
     temporary ArithmeticException 0 ∷ temporary ArrayStoreException 0 ∷ temporary ClassCastException 0
@@ -40,17 +40,17 @@ aid_object = record { object = Instance (Api Aid); mark = PermanentEntryPoint; s
 abbrev pub own_object : ℕ → OwnObject
 own_object place = get_or first_objects place aid_object
 
--- so many of them
+-- the first n of them
 unfoldable pub own_objects_until : ℕ → List OwnObject
 own_objects_until zero = []
 own_objects_until (suc n) = own_objects_until n ++ own_object n ∷ []
 
--- a store has room for one of them more
+-- a store has room for one more of them
 pub record HasRoomFor (s : Store) (own : OwnObject) : Type 0 where
   pub object : length s.objects < s.most_objects
   pub cells : cells_in s.objects + 1 + own.size ≤ s.most_cells
 
--- it has room for all of them, where nothing else is
+-- an empty store has room for all of them
 pub record HasOwnRoom (s : Store) : Type 0 where
   pub objects : own_objects ≤ s.most_objects
   pub cells : own_cells ≤ s.most_cells
@@ -59,7 +59,7 @@ pub record HasOwnRoom (s : Store) : Type 0 where
 abbrev pub HaveApiNumbers : List ClassName → Type 0
 HaveApiNumbers names = (c : ApiClass) → HasNumber names (Api c)
 
--- one as it is made
+-- one of them, as it is made
 abbrev pub made_of : {V : Type 0} → V → OwnObject → Object V
 made_of {V} blank o = record {
   kind = record { object_type = o.object; mark = o.mark; clears = None };
@@ -70,7 +70,7 @@ made_of {V} blank o = record {
 abbrev pub words_until : ℕ → Heap ℕ
 words_until n = map (made_of 0) (own_objects_until n)
 
--- a store has so many of them and nothing else, and each has the number of its class
+-- a store has the first n of them and nothing else, and each has the number of its class
 pub record HasOwn (names : List ClassName) (before after : Store) (n : ℕ) : Type 0 where
   pub objects : after.objects ≡ words_until n
   pub classes : length after.classes ≡ n

@@ -1,4 +1,4 @@
--- The laws by which cards stay typed, as records.
+-- The laws that keep cards typed, as records.
 use Rattle.std.specs.Prelude.{◌≡◌, ◌<◌, ◌≤◌, ℕ, suc, Bool, List, Some, None, length, true}
 use Rattle.jc_api.specs.Member.{ApiMember, member_of}
 use Rattle.jc_api.specs.declared.class.ApiClass.TheVariants.{Object as ObjectClass}
@@ -30,13 +30,13 @@ use Rattle.jc_words.specs.Values.{TaggedValue, Word}
 
 -- ---- calls
 
--- the laws that each call stands on
+-- the laws of each call
 pub record CallLaws : Type 0 where
   pub lawful : IsLawful meaning
   pub calls : (s : Surroundings Kept) → MayRun s → (steps : ℕ) (start : Start Kept) → IsTypedStart s start
       → EndsTyped s (runtime_call s steps start).ends
 
--- the laws that a call of an applet stands on
+-- the laws of a call of an applet
 pub record Laws : Type 0 where
   pub sound : (world : List Shape) → IsSmall world → IsBuilt world → IsSound world
   pub order : (world : List Shape) → IsOrderly world → superclass_of world (Api ObjectClass) ≡ None
@@ -48,16 +48,16 @@ pub record Laws : Type 0 where
       → IsTypedBeside s (standing start (no_frame start.owner)) → (member : ℕ) (object : Object TaggedValue)
       → IsMemberCall s start member object → FindsMethod s start member object
 
--- ---- what the runtime writes, clears and keeps
+-- ---- writes, clearing and the state of the runtime
 
--- a byte that is written to an array of bytes leaves all typed
+-- writing a byte to an array of bytes leaves all typed
 abbrev pub KeepsTyped : Type 0
 KeepsTyped = (s : Surroundings Kept) → MayRun s → (m : Machine Kept) → IsTypedBeside s m
     → (number index byte : ℕ) (object : Object TaggedValue) → object_at m.heap number ≡ Some object
     → object.kind.object_type ≡ ByteArray → byte < 256
     → IsTypedBeside s (machine_with_heap m (with_object m.heap number (with_cell object index (Word byte))))
 
--- objects of any test are zeroed, and all is typed still
+-- clearing the objects that pass any test leaves all typed
 abbrev pub ZeroedTyped : Type 0
 ZeroedTyped = (s : Surroundings Kept) → MayRun s → (m : Machine Kept) → IsTypedBeside s m
     → (test : Object TaggedValue → Bool) → IsTypedBeside s (machine_with_heap m (zeroed_where test m.heap))
@@ -68,14 +68,14 @@ BeginsFitting = (w : World) (heap : Heap TaggedValue) (kept : Kept) → meaning.
     → (owner : Owner) (aid : List ℕ) → is_aid aid ≡ true → owner.instance ≡ suc kept.numbers → kept.numbers < 32
     → meaning.fits w heap (with_install kept owner aid) ≡ true
 
--- a call gives no instance number out
+-- a call assigns no instance number
 abbrev pub KeepNumbers : Type 0
 KeepNumbers = (s : Surroundings Kept) → s.natives ≡ meaning → (steps : ℕ) (start : Start Kept)
     → LeavesNumbers start.runtime.numbers (runtime_call s steps start).ends
 
 -- ---- commands
 
--- the laws that each command stands on: of calls, of what the runtime does to objects, and of what it keeps
+-- the laws of each command: of calls, of the runtime's work on objects, and of its state
 pub record CommandLaws : Type 0 where
   pub applets : Laws
   pub byte : KeepsTyped

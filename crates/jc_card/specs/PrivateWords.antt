@@ -1,4 +1,4 @@
--- Private. What the runtime's calls of applets are handed, on words; what its writing and its installs stand on.
+-- Private. The arguments of the runtime's calls of applets, on words; the conditions of its writes and installs.
 use Rattle.std.specs.Prelude.{◌≡◌, ℕ, ◌≤◌, List, [], ◌∷◌, length, Some}
 use Rattle.jc_link.specs.Linked.{HasInstall, IsKnown, LinkedBody, World}
 use Rattle.jc_machine.specs.Lookup.{body_at}
@@ -16,18 +16,18 @@ words_taken Select = []
 words_taken Deselect = []
 words_taken Process = apdu_object ∷ []
 
--- what an install method is handed: the array, an offset of 0, and a length
+-- the arguments of an install method: the array, an offset of 0, and a length
 abbrev pub install_words : ℕ → List ℕ
 install_words size = install_array ∷ 0 ∷ size ∷ []
 
--- an array of bytes is there, with so many components at least
+-- there is an array of bytes with at least this many components
 pub record HasBytes (heap : Heap TaggedValue) (number count : ℕ) : Type 0 where
   pub object : Object TaggedValue
   pub there : object_at heap number ≡ Some object
   pub bytes : object.kind.object_type ≡ ByteArray
   pub within : count ≤ length object.cells
 
--- a loaded package stands there, and at the offset an install method
+-- there is a loaded package with this number, and an install method at the offset
 pub record IsInstallPlace (w : World) (place : AppletPlace) : Type 0 where
   pub body : LinkedBody
   pub there : body_at w place.number ≡ Some body

@@ -1,4 +1,4 @@
--- When a card on words is the card of the defensive machine without its tags, and what its commands do.
+-- When a card on words represents a card of the defensive machine without its tags, and the effects of its commands.
 use Rattle.std.specs.Prelude.{⊤, ◌≡◌, ℕ, true, List, [], Option, Some, None, Result, Ok, Err}
 use Rattle.std.specs.Option.{option_map_or}
 use Rattle.jc_base.specs.declared.fault.LoadFault.{LoadFault}
@@ -35,7 +35,7 @@ pub record CardWords : Type 0 where
 
 -- ---- agreement
 
--- the words read a card that is as it should be, over the world's own tables; and no frame lives
+-- the words represent a typed card, with the world's own tables; and no frame lives
 pub record Holds (k : CardWords) (c : CardState) : Type 0 where
   pub typed : IsTypedCard c
   pub world : k.world ≡ c.world
@@ -47,25 +47,26 @@ pub record Holds (k : CardWords) (c : CardState) : Type 0 where
   pub most_cells : k.most_cells ≡ c.limits.cells
   pub steps : k.steps ≡ c.steps
 
--- what a card on words always is: it holds a card of the defensive machine
+-- the invariant of a card on words: it represents a card of the defensive machine
 pub record IsCard (k : CardWords) : Type 0 where
   pub card : CardState
   pub holds : Holds k card
 
 -- ---- what a command does
 
--- it leaves what the command on the defensive machine's card leaves, which isn't stuck, and its answer reads that one's
+-- it represents the card after the command on the defensive machine's card, which isn't stuck, and its answer is that
+-- command's
 abbrev pub IsDone : {A : Type 0} → CardWords → (A → Type 0) → Option (Left A) → Type 0
 IsDone after reads None = ⊥
 IsDone after reads (Some l) = Holds after l.card × reads l.value
 
--- for each card of the defensive machine that the words hold
+-- for each card of the defensive machine that the words represent
 abbrev pub Does : {A : Type 0} → CardWords → CardWords → (A → Type 0) → (CardState → Option (Left A)) → Type 0
 Does before after reads command = (c : CardState) → Holds before c → IsDone after reads (command c)
 
--- ---- what is given
+-- ---- results
 
--- a call on words ended so. A value that it gave was written
+-- the end of a call on words. A value that it returned was written
 pub record GaveSo (word : Option ℕ) (value : Option TaggedValue) : Type 0 where
   pub reads : ReadsResult word value
   pub written : option_map_or is_written value true ≡ true
@@ -81,11 +82,11 @@ ReadsEnded (Threw object point) (OutOfBudget spent at) = ⊥
 ReadsEnded (RanOut budget point) (Normally value) = ⊥
 ReadsEnded (RanOut budget point) (Uncaught number at) = ⊥
 
--- nothing is
+-- no result
 abbrev pub GivesNothing : Unit {0} → Type 0
 GivesNothing u = ⊤
 
--- an answer's data and status, and why its call didn't end by itself
+-- an answer's data and status, and why its call didn't end normally
 pub record ReadsResponse (answer : Answer) (response : Response) : Type 0 where
   pub sent : answer.sent.items ≡ response.sent
   pub status : answer.status ≡ response.status
@@ -93,8 +94,8 @@ pub record ReadsResponse (answer : Answer) (response : Response) : Type 0 where
 
 -- ---- loading
 
--- a load leaves a card that holds what the load on the defensive machine's card leaves, and is answered so: for each
--- card of the defensive machine that the words hold
+-- a load leaves a card that represents the card after the load on the defensive machine's card, with the same result:
+-- for each card of the defensive machine that the words represent
 pub record LoadsFrom (c : CardState) (after : CardWords) (image certificate : List ℕ) (result : Result ℕ LoadFault)
     : Type 0 where
   pub card : CardState
@@ -105,7 +106,7 @@ abbrev pub Loads : CardWords → CardWords → List ℕ → List ℕ → Result 
 Loads before after image certificate result =
     (c : CardState) → Holds before c → LoadsFrom c after image certificate result
 
--- how an installation went: the instance's number, or the refusal
+-- the result of an installation: the instance's number, or the refusal
 abbrev pub ReadsInstalled : Result ℕ InstallFault → Installed → Type 0
 ReadsInstalled (Ok number) (HasNumber taken) = number ≡ taken
 ReadsInstalled (Ok number) (Refused fault) = ⊥

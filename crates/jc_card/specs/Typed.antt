@@ -1,12 +1,12 @@
--- When a card of the defensive machine is as it should be, and a command on it isn't stuck.
+-- When a card of the defensive machine is typed, and a command on it isn't stuck.
 use Rattle.std.specs.Prelude.{◌<◌, Option, Some, None}
 use Rattle.jc_machine.specs.Accepted.{IsAccepted}
 use Rattle.jc_machine.specs.Typed.{IsTypedBeside}
 use Rattle.jc_card.specs.Card.{CardState, around, at_rest}
 use Rattle.jc_card.specs.Parts.{Left}
 
--- its packages were accepted; what it holds is typed, and what the runtime keeps fits that; and there may be no more
--- cells than a word counts
+-- its packages were accepted; its contents are typed, and the runtime's state fits them; and its limit of cells fits a
+-- word
 pub record IsTypedCard (c : CardState) : Type 0 where
   pub accepted : IsAccepted c.world
   pub beside : IsTypedBeside (around c None) (at_rest c)

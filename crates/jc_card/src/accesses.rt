@@ -1,4 +1,4 @@
-//! What the firewall guards in commands (Java Card Runtime Environment Specification, Applet Isolation and Object
+//! The laws of the firewall for commands (Java Card Runtime Environment Specification, Applet Isolation and Object
 //! Sharing).
 
 ghost use Rattle.std.specs.Prelude.{ℕ, List, [], ◌++◌, Result, IfSome};
@@ -32,7 +32,7 @@ use jc_natives::{
 };
 use jc_safety::api_runs_its_own_code;
 
-/// What is known of each step and of each native member, in one record. It does nothing.
+/// The laws of each step and of each native member, in one record. It does nothing.
 fn steps_are_guarded()
     ensures { StepsGuarded }
 {
@@ -51,15 +51,15 @@ fn steps_are_guarded()
     api_runs_its_own_code();
 }
 
-/// The law of accesses, of each command on each card. What a command does to objects is done part by part: by calls of
-/// the instance that is selected or installed, whose context counts as the selected one; by words that the runtime
-/// writes into the APDU buffer or the array of an install; and by clearing exactly the transient arrays that an event
-/// and a context name. A call is at most so many steps, each from the machine that the one before it left, from the
-/// frame at the start of its method. Each keeps the law of accesses of a step, makes the accesses of its instruction,
-/// and keeps frames and their owners but by calls, returns and catches; what is thrown is caught by the nearest handler
-/// that catches it. The packages and the objects stay.
-/// Components change only of objects of which an allowed access is listed. Behind a reset each transient array is zero
-/// or null. A load makes no access, and leaves each object as it was. It does nothing.
+/// The law of accesses, for each command on each card. A command consists of parts: calls of the instance that is
+/// selected or installed, whose context counts as the selected one; words that the runtime writes to the APDU buffer or
+/// the array of an install; and the clearing of exactly the transient arrays that an event and a context name. A call
+/// takes at most the given number of steps, each from the machine that the one before it left, beginning with the frame
+/// at the start of its method. Each step keeps the law of accesses of a step, and makes the accesses of its
+/// instruction. It changes frames and their owners only by calls, returns and catches. What is thrown is caught by the
+/// nearest handler that catches it. The packages and the objects stay.
+/// Only objects with a listed allowed access change. After a reset each transient array is zero or null. A load makes
+/// no access, and leaves each object unchanged. It does nothing.
 pub fn commands_are_guarded()
     ensures apdu { (c : CardState) (bytes : List ℕ) → IfSome (apdu_command c bytes)
         (IsGuardedCommand (apdu_order c bytes) c) }
@@ -73,10 +73,10 @@ pub fn commands_are_guarded()
     steps_are_guarded();
 }
 
-/// The runtime's name is its own, on a card that is new and behind each command: no code of packages runs as the
-/// runtime. So a plain object changes only in steps of a frame in its owner's context, or by clearing. And no field,
-/// component or static field holds a reference to a temporary entry point or a global array, but static fields to
-/// arrays of libraries. It does nothing.
+/// Only the runtime runs as the runtime, on a new card and after each command: no code of packages does. So a plain
+/// object changes only in steps of a frame in its owner's context, or by clearing. No field, component or static field
+/// holds a reference to a temporary entry point or a global array, except static fields to arrays of libraries. It does
+/// nothing.
 pub fn commands_stay_apart()
     ensures new { (limits : Limits) (binding : Bound) → HasNoClash binding → IsApartCard (new_card limits binding) }
     ensures apdu { (c : CardState) → IsApartCard c → (bytes : List ℕ)
@@ -95,8 +95,8 @@ pub fn commands_stay_apart()
     new_machines_are_typed();
 }
 
-/// A command keeps what the plain objects of a context hold, as long as none of its steps runs in that context. What an
-/// event clears, the transient arrays, is left out. It does nothing.
+/// A command leaves the plain objects of a context unchanged, as long as none of its steps runs in that context.
+/// Transient arrays, which an event clears, are excepted. It does nothing.
 pub fn commands_keep_contents()
     ensures apdu { (c : CardState) → IsApartCard c → (bytes : List ℕ) → IfSome (apdu_command c bytes) (KeepsOut c) }
     ensures install { (c : CardState) → IsApartCard c → (applet instance incoming : List ℕ)
@@ -106,10 +106,9 @@ pub fn commands_keep_contents()
     steps_are_guarded();
 }
 
-/// A command sees nothing of what the plain objects of a context hold, as long as none of its steps runs in that
-/// context. On a card that differs in their components alone it makes the same accesses, runs in the same contexts and
-/// is answered the same, and the card behind it differs there alone. So does a load, which runs nothing. It does
-/// nothing.
+/// A command sees nothing of the plain objects of a context, as long as none of its steps runs in that context. On a
+/// card that differs only in their components it makes the same accesses, runs in the same contexts and has the same
+/// answer, and the card after it differs only there. The same holds for a load, which runs nothing. It does nothing.
 pub fn commands_see_no_contents()
     ensures apdu { (c : CardState) → IsApartCard c → (bytes : List ℕ) → SeesNothing c (λ c. apdu_command c bytes) }
     ensures install { (c : CardState) → IsApartCard c → (applet instance incoming : List ℕ)
@@ -122,8 +121,8 @@ pub fn commands_see_no_contents()
     steps_are_guarded();
 }
 
-/// What accesses change, and others behind them; and that nothing changes where each object is left as it was. It does
-/// nothing.
+/// The changes of accesses, and of more accesses after them, add up. Nothing changes if each object is left unchanged.
+/// It does nothing.
 pub fn accesses_add_up()
     ensures none { (before after : Heap TaggedValue) → LeavesObjects before after → ChangesBy [] before after }
     ensures more { (first between last : Heap TaggedValue) (touches behind : List Touch)

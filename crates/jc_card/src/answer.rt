@@ -1,4 +1,4 @@
-//! What the card answers to a command of a reader.
+//! The card's answer to a command of a reader.
 
 ghost use Rattle.std.specs.Prelude.{◌≡◌};
 ghost use Rattle.jc_card.specs.Commands.{status_alone};
@@ -17,7 +17,7 @@ pub struct Answer {
     pub sent: ArrayVec<u8, MOST_SENT>,
     /// The status word.
     pub status: u16,
-    /// Why the call of the applet didn't end by itself, if there was one and it didn't.
+    /// Why the call of the applet didn't end normally, if there was one and it didn't.
     pub cause: Option<Cause>,
 }
 

@@ -38,7 +38,7 @@ fn member_called(call: AppletCall) -> u16
     }
 }
 
-/// The words that it is called on: the object's number, and what it takes.
+/// The words of its arguments: the object's number, and the others.
 fn call_words(call: AppletCall, object: u16) -> ArrayVec<u16, 2>
     ensures words { result.items ≡ object ∷ words_taken call }
     ensures few { length result.items < 256 }
@@ -85,7 +85,7 @@ impl Card {
         )
     }
 
-    // The instance that is selected, if one is.
+    // The selected instance, if one is selected.
     pub(crate) fn selected_instance(&self) -> Option<Instance>
         ensures instance { (c : CardState) → Holds self.now c → result ≡ selected_instance c }
         ensures fits { IfSome result (λ i. (c : CardState) → Holds self.now c
@@ -94,7 +94,7 @@ impl Card {
         self.runtime.instance_of(self.selected?)
     }
 
-    // Calls a member of the applet that is selected; where none is, nothing is called.
+    // Calls a member of the selected applet; without one it calls nothing.
     pub(crate) fn call_selected(&mut self, call: AppletCall) -> RunEnd
         ensures { Does self.old self.new (ReadsEnded result) (λ c. call_selected c call) }
     {

@@ -20,9 +20,9 @@ pub struct Card {
     pub(crate) most_objects: u16,
     pub(crate) most_cells: u16,
     pub(crate) steps: u32,
-    /// What the firewall denied behind a SecurityException with which the last call ended.
+    /// The firewall's denial of the SecurityException with which the last call ended.
     pub(crate) denial: Option<Denial>,
-    /// The frame in which the last call stopped, where it didn't end by itself.
+    /// The frame in which the last call stopped, if it didn't end normally.
     pub(crate) stopped: ShownFrame,
 }
 

@@ -1,4 +1,4 @@
-//! Why a call of an applet didn't end by itself: what is told beside a status that says nothing.
+//! Why a call of an applet didn't end normally: a cause that its status doesn't tell.
 
 ghost use Rattle.std.specs.Prelude.{◌≡◌, option_map};
 ghost use Rattle.jc_card.specs.Card.{CardState};
@@ -16,31 +16,30 @@ use jc_store::ObjectType;
 /// Why a call of an applet didn't end as it should.
 #[derive(Clone, Copy, Debug, PartialEq, Eq)]
 pub enum Cause {
-    /// Nothing caught an exception: what it is an instance of, its reason, which stands in its first component, and
-    /// where it was thrown.
+    /// Nothing caught an exception: its type, its reason, which is its first component, and where it was thrown.
     Threw {
         object: ObjectType,
         reason: u16,
         at: Option<CodePoint>,
     },
-    /// A budget was spent, while a frame stood there.
+    /// A budget was spent, while a frame stood at this point.
     RanOut {
         spent: Budget,
         at: Option<CodePoint>,
     },
-    /// The install method ended, and registered no instance.
+    /// The install method ended, but registered no instance.
     NotRegistered,
 }
 
 impl Card {
-    /// What the firewall denied, where the last command or install ended with a SecurityException of the runtime's: the
-    /// access of the instruction that threw it, or the first use of an argument that it denies to the native member
-    /// which that instruction calls.
+    /// The firewall's denial, if the last command or install ended with the runtime's SecurityException: the denied
+    /// access of the instruction that threw it, or the first denied use of an argument of the native member that this
+    /// instruction calls.
     pub fn denial(&self) -> Option<Denial> {
         self.denial
     }
 
-    /// The frame in which the last call of an applet stopped, where nothing caught what code threw, or the steps were
+    /// The frame in which the last call of an applet stopped, if nothing caught what code threw, or the steps were
     /// spent.
     pub fn stopped(&self) -> Option<&ShownFrame> {
         if self.stopped.is_there {
@@ -50,7 +49,7 @@ impl Card {
         }
     }
 
-    // What nothing caught, if it is there.
+    // The cause for an object that nothing caught, if it exists.
     fn cause_of_thrown(&self, object: u16, at: Option<CodePoint>) -> Option<Cause>
         ensures { (c : CardState) → Holds self.now c → result ≡ option_map (thrown_cause at) (object_at c.heap object) }
     {
@@ -64,7 +63,7 @@ impl Card {
         })
     }
 
-    // Why a call didn't end by itself, by how it ended.
+    // Why a call didn't end normally, from its end.
     pub(crate) fn cause_of(&self, ended: RunEnd) -> Option<Cause>
         ensures { (c : CardState) (e : Ended) → Holds self.now c → ReadsEnded ended e → result ≡ cause_of c e }
     {
@@ -75,7 +74,7 @@ impl Card {
         }
     }
 
-    // Why an install failed, by how its method ended.
+    // Why an install failed, from the end of its method.
     pub(crate) fn failure_cause(&self, ended: RunEnd) -> Option<Cause>
         ensures { (c : CardState) (e : Ended) → Holds self.now c → ReadsEnded ended e → result ≡ failure_cause c e }
     {

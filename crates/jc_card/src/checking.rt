@@ -1,4 +1,4 @@
-//! Packages that are linked and checked before they are loaded.
+//! Linking and checking of packages before they are loaded.
 
 ghost use Rattle.std.specs.Prelude.{◌≡◌, ◌⊎◌, ◌≤◌, ℕ, IfErr, IfOk, List, length, true};
 ghost use Rattle.jc_card.specs.Load.{IsFit, IsOutOfMemory, IsUnfit};
@@ -15,8 +15,8 @@ use jc_link::{Linked, World, link, linked_packages_are_known};
 use jc_machine::accepted_worlds_grow;
 use std::alloc::Global;
 
-/// The packages of a world are accepted if they were, with one behind them that fits, whose image is bytes. It does
-/// nothing.
+/// If the packages of a world are accepted, they still are with a package appended that fits, and whose image is bytes.
+/// It does nothing.
 pub(crate) fn fit_packages_are_accepted()
     ensures { (w : LinkedWorld) → IsAccepted w → length w.shapes ≤ most_in_world → (image certificate : List ℕ)
         → are_bytes image ≡ true → (l : LinkedPackage) → IsFit w.shapes image certificate l
@@ -28,8 +28,8 @@ pub(crate) fn fit_packages_are_accepted()
     accepted_worlds_grow();
 }
 
-/// The package in an image, linked behind others and checked with the bytes of its certificate. With it their world is
-/// accepted if it was.
+/// The package in an image, linked to the packages of a world and checked with the bytes of its certificate. If the
+/// world is accepted, it still is with this package.
 pub(crate) fn checked(
     alloc: Global,
     image: &[u8],
@@ -44,7 +44,7 @@ pub(crate) fn checked(
 {
     fit_packages_are_accepted();
     bytes_are_low(image);
-    // Only its contract counts: how many packages there are at most.
+    // Only its contract is needed: how many packages there are at most.
     let _count = world.len();
     let linked = link(alloc, &cut(image)?, world)?;
     let rows = jc_cert::read(alloc, certificate)?;

@@ -1,4 +1,4 @@
-//! Commands as a reader sends them (ISO/IEC 7816-4, short APDUs).
+//! Command APDUs of a reader (ISO/IEC 7816-4, short APDUs).
 
 ghost use Rattle.std.specs.Prelude.{◌≡◌, ◌≤◌, length, IfSome, IfNone, None, option_map};
 ghost use Rattle.jc_card.specs.Command.{command_of, has_data, is_select, p3_of};
@@ -13,11 +13,11 @@ const SELECT: [u8; 4] = [0x00, 0xA4, 0x04, 0x00];
 pub(crate) struct Command<'a> {
     /// CLA, INS, P1 and P2.
     pub(crate) header: &'a [u8],
-    /// Lc or Le, 0 where it is missing.
+    /// Lc or Le, or 0 if it is missing.
     pub(crate) p3: u8,
     /// The data, at most 255 bytes.
     pub(crate) incoming: &'a [u8],
-    /// Le, 0 where it is missing.
+    /// Le, or 0 if it is missing.
     pub(crate) expected: u8,
 }
 
@@ -38,7 +38,7 @@ fn p3_of(bytes: &[u8]) -> u8
     }
 }
 
-// Whether Lc, which isn't 0, and so many bytes of data are there, with Le or without.
+// Whether Lc isn't 0, and that many bytes of data follow, with Le or without.
 fn has_data(bytes: &[u8]) -> bool
     ensures { result ≡ has_data bytes.now }
 {
@@ -47,7 +47,7 @@ fn has_data(bytes: &[u8]) -> bool
 }
 
 impl<'a> Command<'a> {
-    /// The command that bytes are: a header alone, with Le, or with data. None where they are none.
+    /// The command that these bytes encode: a header alone, with Le, or with data. `None` if they are none.
     pub(crate) fn parse(bytes: &'a [u8]) -> Option<Command<'a>>
         ensures command { result ≡ command_of bytes.now }
         ensures header { IfSome result (λ k. length k.header ≡ 4) }

@@ -1,4 +1,4 @@
-//! What the card does to a command (Java Card Runtime Environment Specification, Selection, Applet Lifetime: select,
+//! Commands of a reader on the card (Java Card Runtime Environment Specification, Selection, Applet Lifetime: select,
 //! deselect and process).
 
 ghost use Rattle.std.specs.Prelude.{◌≡◌, ◌≤◌, IfSome, length};
@@ -22,7 +22,7 @@ use crate::writing::BUFFER_SIZE;
 use jc_names::Owner;
 use jc_natives::Instance;
 
-/// What the APDU buffer holds when a command came: its first five bytes, and zeros.
+/// The APDU buffer when a command arrives: its first five bytes, and zeros.
 fn buffer_of(command: &Command<'_>) -> [u8; BUFFER_SIZE]
     requires header { length command.now.header ≡ 4 }
     ensures buffer { result ≡ buffer_of command.now }
@@ -35,7 +35,7 @@ fn buffer_of(command: &Command<'_>) -> [u8; BUFFER_SIZE]
 }
 
 impl Card {
-    // The command is before the applet that is selected.
+    // Gives the command to the selected applet.
     fn process(&mut self, command: &Command<'_>, selecting: bool) -> Answer
         requires few { length command.now.incoming ≤ 255 }
         ensures { Does self.old self.new (ReadsResponse result) (λ c. process c command.now selecting) }
@@ -46,7 +46,7 @@ impl Card {
         self.answer(ended)
     }
 
-    // The applet that counts as selected isn't any more.
+    // Unselects the applet that counts as selected.
     fn refuse(&mut self) -> Answer
         ensures { Does self.old self.new (ReadsResponse result) refused }
     {
@@ -54,7 +54,7 @@ impl Card {
         Answer::status_alone(NOT_SELECTED)
     }
 
-    // The applet that counts as selected is asked whether it agrees. If it does the command is before it.
+    // Asks the applet that counts as selected whether it agrees. If it does, it gets the command.
     fn ask(&mut self, command: &Command<'_>) -> Answer
         requires few { length command.now.incoming ≤ 255 }
         ensures { Does self.old self.new (ReadsResponse result) (λ c. ask c command.now) }
@@ -67,7 +67,7 @@ impl Card {
         }
     }
 
-    // Another applet counts as selected, and is asked.
+    // Makes another applet count as selected, and asks it.
     fn choose(&mut self, owner: Owner, command: &Command<'_>) -> Answer
         requires few { length command.now.incoming ≤ 255 }
         ensures { Does self.old self.new (ReadsResponse result) (λ c. choose c owner command.now) }
@@ -76,7 +76,7 @@ impl Card {
         self.ask(command)
     }
 
-    // Another applet is selected, and the one before it deselected.
+    // Deselects the selected applet, and selects another.
     fn select(&mut self, owner: Owner, command: &Command<'_>) -> Answer
         requires few { length command.now.incoming ≤ 255 }
         ensures { Does self.old self.new (ReadsResponse result) (λ c. select c owner command.now) }
@@ -85,7 +85,7 @@ impl Card {
         self.choose(owner, command)
     }
 
-    // The command is before the applet that is selected, if one is.
+    // Gives the command to the selected applet, if there is one.
     fn dispatch(&mut self, command: &Command<'_>) -> Answer
         requires few { length command.now.incoming ≤ 255 }
         ensures { Does self.old self.new (ReadsResponse result) (λ c. dispatch c command.now) }
@@ -108,7 +108,7 @@ impl Card {
         }
     }
 
-    // Performs a command whose first bytes stand in the APDU buffer.
+    // Performs a command whose first bytes are in the APDU buffer.
     fn perform(&mut self, command: &Command<'_>) -> Answer
         requires few { length command.now.incoming ≤ 255 }
         ensures { Does self.old self.new (ReadsResponse result) (λ c. perform c command.now) }
@@ -119,7 +119,7 @@ impl Card {
         }
     }
 
-    // The APDU buffer holds a command's first bytes.
+    // Writes a command's first bytes to the APDU buffer.
     fn fill_buffer(&mut self, command: &Command<'_>)
         requires header { length command.now.header ≡ 4 }
         ensures { Does self.old self.new GivesNothing (write apdu_buffer (buffer_of command.now)) }
@@ -127,7 +127,7 @@ impl Card {
         self.write_buffer(&buffer_of(command));
     }
 
-    // A command comes.
+    // Receives a command.
     fn receive(&mut self, command: &Command<'_>) -> Answer
         requires header { length command.now.header ≡ 4 }
         requires few { length command.now.incoming ≤ 255 }
@@ -137,7 +137,7 @@ impl Card {
         self.perform(command)
     }
 
-    /// Does what a command of a reader asks for, and answers it. Bytes that are no command are answered 6700.
+    /// Performs a command of a reader, and returns the answer. Bytes that are no command are answered 6700.
     pub fn apdu(&mut self, bytes: &[u8]) -> Answer
         ensures done { Does self.old self.new (ReadsResponse result) (λ c. apdu_command c bytes.now) }
         ensures guarded { (c : CardState) → Holds self.old c

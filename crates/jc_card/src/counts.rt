@@ -1,4 +1,4 @@
-//! How much of a card is used, and how many steps a call may make.
+//! Counts of a card's objects and cells, and its budget of steps.
 
 ghost use Rattle.std.specs.Prelude.{◌≡◌, length};
 ghost use Rattle.jc_card.specs.Card.{CardState, with_steps};
@@ -22,7 +22,7 @@ impl Card {
         self.most_cells
     }
 
-    /// How many objects there are, the runtime's own among them.
+    /// How many objects there are, the runtime's own included.
     pub fn objects_used(&self) -> u16
         ensures { (c : CardState) → Holds self.now c → result ≡ length c.heap }
     {
@@ -36,7 +36,7 @@ impl Card {
         self.machine.store.cells_used()
     }
 
-    /// A call of the runtime's may make so many steps from now on, at least 1.
+    /// Sets how many steps a call of the runtime may make from now on, at least 1.
     #[tactic(auto, using(crate::proofs::Selecting::steps_held))]
     pub fn set_steps(&mut self, steps: u32)
         ensures { (c : CardState) → Holds self.old c → Holds self.new (with_steps c steps) }

@@ -1,4 +1,4 @@
-//! Examples of the card: what the prover computes of its definitions.
+//! Examples of the card, which the prover computes from its definitions.
 
 ghost use Rattle.std.specs.Prelude.{◌≡◌, [], ◌∷◌, Some};
 ghost use Rattle.std.specs.Option.{option_and_then};
@@ -9,7 +9,7 @@ ghost use Rattle.jc_card.specs.Examples.{send_to};
 ghost use Rattle.jc_card.specs.Install.{HasNumber, Refused};
 ghost use Rattle.jc_card.specs.declared.fault.InstallFault.TheVariants.{AidInUse, UnknownApplet};
 
-/// The applet of a small package is installed: its install method makes an object, which registers. It does nothing.
+/// Installs the applet of a small package: its install method makes an object, which registers. It does nothing.
 pub fn applets_are_installed()
     ensures number { said_by (install_on loaded_card applet_aid applet_aid) ≡ Some (HasNumber 1) }
     ensures accesses { objects_accessed (install_on loaded_card applet_aid applet_aid)
@@ -19,7 +19,7 @@ pub fn applets_are_installed()
         ≡ Some (Refused AidInUse) }
 {}
 
-/// It is selected, and then each command is before it, until a reset. It does nothing.
+/// Selects it; then it gets each command, until a reset. It does nothing.
 pub fn applets_are_selected()
     ensures selected { answer_on installed_card (select_of applet_aid) ≡ Some (status_alone 0x9000) }
     ensures processed { answer_on selected_card header_alone ≡ Some (status_alone 0x9000) }

@@ -1,4 +1,4 @@
-//! A command before an applet, and its answer (Java Card API Specification, APDU).
+//! The exchange of a command and its answer with an applet (Java Card API Specification, APDU).
 
 ghost use Rattle.std.specs.Prelude.{◌≡◌, ◌≤◌, length};
 ghost use Rattle.jc_card.specs.Card.{CardState, with_kept};
@@ -16,7 +16,7 @@ use jc_interp::RunEnd;
 use jc_natives::calls_keep_fitting;
 
 impl Card {
-    // A command is before the applet that is selected: its data, its Le, and whether it selected the applet.
+    // Gives a command to the selected applet: its data, its Le, and whether it selected the applet.
     pub(crate) fn open(&mut self, incoming: &[u8], expected: u8, selecting: bool)
         requires few { length incoming.now ≤ 255 }
         ensures { Does self.old self.new GivesNothing
@@ -27,7 +27,7 @@ impl Card {
         self.runtime.open(incoming, expected, selecting);
     }
 
-    // No command is.
+    // Ends the exchange: no applet has a command.
     pub(crate) fn close(&mut self)
         ensures { Does self.old self.new GivesNothing (λ c. gives (with_kept c (without_command c.kept)) tt) }
     {
@@ -35,7 +35,7 @@ impl Card {
         self.runtime.close();
     }
 
-    // The answer to it: what was sent, the status of how the process call ended, and why, if not by itself.
+    // The answer: the sent data, the status of the end of the process call, and why that didn't end normally.
     pub(crate) fn answer(&self, ended: RunEnd) -> Answer
         ensures { (c : CardState) (e : Ended) → Holds self.now c → ReadsEnded ended e
             → ReadsResponse result (record {

@@ -1,4 +1,4 @@
-//! Why an applet isn't installed, and why there is no card.
+//! Why an applet isn't installed, and why no card is made.
 
 ghost use Rattle.std.specs.Prelude.{◌≡◌};
 
@@ -7,10 +7,10 @@ use std::alloc::AllocError;
 use std::fmt;
 use thiserror::Error;
 
-/// Why an applet isn't installed. Of several refusals that apply the one with the smallest number is told.
+/// Why an applet isn't installed. If several refusals apply, the one with the smallest number is reported.
 #[derive(Clone, Copy, Debug, PartialEq, Eq, Error)]
 pub enum InstallFault {
-    /// No loaded package has an applet with the AID.
+    /// No loaded package has an applet with this AID.
     #[error("20 UnknownApplet")]
     UnknownApplet,
     /// The data have more than 108 bytes.
@@ -22,7 +22,7 @@ pub enum InstallFault {
     /// All 32 instance numbers are used.
     #[error("23 NoInstance")]
     NoInstance,
-    /// The install method ended with an exception, used its budget up, or registered no instance.
+    /// The install method ended with an exception, spent its budget, or registered no instance.
     #[error("24 InstallFailed {0}")]
     InstallFailed(Failure),
 }
@@ -42,7 +42,7 @@ impl fmt::Display for Failure {
     }
 }
 
-/// Why there is no card.
+/// Why no card is made.
 #[derive(Clone, Copy, Debug, PartialEq, Eq, Error)]
 pub enum CardFault {
     /// One of the limits is too small or too large.

@@ -1,4 +1,4 @@
-//! A world that gets a package, and the machine over it.
+//! Adding a package to a world, a program and a machine.
 
 ghost use Rattle.std.specs.Prelude.{◌≡◌, ◌<◌, IfErr, IfOk, length};
 ghost use Rattle.jc_card.specs.PrivateLoad.{Grows};
@@ -10,8 +10,8 @@ use jc_link::{Linked, World};
 use jc_program::Program;
 use std::alloc::{AllocError, Global};
 
-/// Puts a package behind those of a world, its tables behind those of the program, and its static fields and arrays
-/// into the machine over them, if there is room for these. Where no memory is left all are as they were.
+/// Appends a package to a world, its tables to the program, and its static fields and arrays to the machine, if there
+/// is room for these. If memory runs out, all three are unchanged.
 pub(crate) fn grow(
     alloc: Global,
     world: &mut World,

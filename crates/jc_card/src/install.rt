@@ -1,5 +1,5 @@
-//! The installation of applets (Java Card Runtime Environment Specification, Applet Lifetime: the install method,
-//! Applet installation parameters).
+//! Installation of applets (Java Card Runtime Environment Specification, Applet Lifetime: the install method, Applet
+//! installation parameters).
 
 ghost use Rattle.std.specs.Prelude.{◌≡◌, ◌<◌, ◌≤◌, suc, IfNone, IfSome, Some, length};
 ghost use Rattle.jc_card.specs.Accesses.{IsApartCard, IsGuardedCommand, KeepsApart};
@@ -38,10 +38,10 @@ use jc_store::ClearingEvent;
 /// The most bytes of data of an install.
 const MOST_DATA: usize = 108;
 
-/// The most instances, and the highest number of one.
+/// The most instances, and the greatest number of one.
 const MOST_INSTANCES: u8 = 32;
 
-/// What an install method is handed, without the zeros behind it.
+/// The parameters of an install method, without the zeros after them.
 fn parameters_of(instance: &Aid, incoming: &[u8]) -> ArrayVec<u8, INSTALL_SIZE>
     requires few { length incoming.now ≤ most_data }
     ensures parameters { result.items ≡ parameters_of instance.now incoming.now }
@@ -56,7 +56,7 @@ fn parameters_of(instance: &Aid, incoming: &[u8]) -> ArrayVec<u8, INSTALL_SIZE>
     parameters
 }
 
-/// Bytes, and zeros behind them.
+/// Bytes, padded with zeros.
 fn padded(bytes: &[u8]) -> [u8; INSTALL_SIZE]
     requires few { length bytes.now ≤ install_size }
     ensures padded { result ≡ padded install_size bytes.now }
@@ -67,7 +67,7 @@ fn padded(bytes: &[u8]) -> [u8; INSTALL_SIZE]
     array
 }
 
-/// What an install method is called on: the array, an offset of 0, and how many bytes of it count.
+/// The arguments of an install method: the array, an offset of 0, and the number of its bytes that are used.
 fn install_words(size: u16) -> ArrayVec<u16, 3>
     ensures words { result.items ≡ install_words size }
     ensures few { length result.items < 256 }
@@ -79,7 +79,7 @@ fn install_words(size: u16) -> ArrayVec<u16, 3>
     words
 }
 
-/// What is called, by where a method stands.
+/// The target of a call, by the place of its method.
 fn called_at(program: &Program, place: AppletPlace) -> Called
     ensures { result ≡ called_of program.now.methods (Some (Loaded place.number place.install)) }
 {
@@ -90,7 +90,7 @@ fn called_at(program: &Program, place: AppletPlace) -> Called
 }
 
 impl Card {
-    // Why an applet that is there isn't installed, if there is a reason.
+    // Why an applet that exists isn't installed, if there is a reason.
     fn refusal_of(&self, instance: &Aid, incoming: &[u8]) -> Option<InstallFault>
         ensures refusal { (c : CardState) → Holds self.now c → result ≡ refusal_of c instance.now incoming.now }
         ensures few { IfNone result (length incoming.now ≤ most_data) }
@@ -108,7 +108,7 @@ impl Card {
         None
     }
 
-    // An instance with the next number is being installed, of an applet with an AID.
+    // Assigns the next number to an instance that is being installed, of an applet with an AID.
     fn take_number(&mut self, owner: Owner, applet: Aid)
         requires next { owner.instance ≡ suc self.old.kept.numbers }
         requires room { self.old.kept.numbers < most_instances }
@@ -168,7 +168,7 @@ impl Card {
         }
     }
 
-    // And why it failed.
+    // The failure of an install: its status and cause.
     fn failure_of(&self, ended: RunEnd) -> Failure
         ensures { (c : CardState) (e : Ended) → Holds self.now c → ReadsEnded ended e → result ≡ failure_of c e }
     {
@@ -178,7 +178,7 @@ impl Card {
         }
     }
 
-    // The install is over.
+    // Ends the install.
     fn end_install(&mut self, succeeds: bool)
         ensures { Does self.old self.new GivesNothing (λ c. gives (with_kept c (after_install c.kept succeeds)) tt) }
     {
@@ -186,7 +186,7 @@ impl Card {
         self.runtime.end_install(succeeds);
     }
 
-    // Behind the install method: an instance of an install that failed is none.
+    // Ends an install after its method: an instance that registered is removed if the install failed.
     fn settle(&mut self, owner: Owner, ended: RunEnd) -> Result<u8, InstallFault>
         ensures { (c : CardState) (e : Ended) → Holds self.old c → ReadsEnded ended e
             → IsDone self.new (ReadsInstalled result) (settle c owner e) }
@@ -202,7 +202,7 @@ impl Card {
         }
     }
 
-    // Installs an applet as an instance that has the next number.
+    // Installs an applet as an instance with the next number.
     fn install_as(
         &mut self,
         place: AppletPlace,
@@ -218,7 +218,7 @@ impl Card {
         ensures { Does self.old self.new (ReadsInstalled result)
             (λ c. install_as c place owner applet.now instance.now incoming.now) }
     {
-        // a look at a field makes the card's invariant known
+        // a read of a field makes the card's invariant known
         let _ = &self.world;
         let parameters = parameters_of(instance, incoming);
         let bytes = parameters.as_slice();
@@ -228,7 +228,7 @@ impl Card {
         self.settle(owner, ended)
     }
 
-    // The instance's context is its package's, and its number the next one.
+    // Begins an install. The instance's context is its package's, and its number the next one.
     fn begin(
         &mut self,
         place: AppletPlace,
@@ -249,7 +249,7 @@ impl Card {
         self.install_as(place, owner, applet, instance, incoming)
     }
 
-    // Deselects the applet that is selected, and installs one.
+    // Deselects the selected applet, and installs another.
     fn accept(
         &mut self,
         place: AppletPlace,
@@ -263,15 +263,15 @@ impl Card {
         ensures { Does self.old self.new (ReadsInstalled result)
             (λ c. accepted c place applet.now instance.now incoming.now) }
     {
-        // a look at a field makes the card's invariant known
+        // a read of a field makes the card's invariant known
         let _ = &self.world;
         calls_keep_numbers();
         self.deselect();
         self.begin(place, applet, instance, incoming)
     }
 
-    /// Installs an applet of a loaded package: the applet's AID, the instance's, and data. The answer is the number of
-    /// the instance. A refusal but the last leaves the card as it was.
+    /// Installs an applet of a loaded package, from the applet's AID, the instance's AID, and data. It returns the
+    /// number of the instance. Every refusal except the last leaves the card unchanged.
     pub fn install(
         &mut self,
         applet: &Aid,

@@ -1,4 +1,4 @@
-//! What words, bytes and AIDs keep to, by their types.
+//! Laws of words, bytes and AIDs that their types imply.
 
 ghost use Rattle.std.specs.Prelude.{◌≡◌, ◌<◌, true};
 ghost use Rattle.jc_natives.specs.Kept.{are_bytes, is_aid};

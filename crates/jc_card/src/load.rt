@@ -22,7 +22,7 @@ use jc_safety::loads_stay_typed;
 use std::alloc::{AllocError, Global};
 
 impl Card {
-    // Whether there is room for a package more, and for its arrays.
+    // Whether there is room for another package, and for its arrays.
     fn has_room(&self, linked: &Linked) -> bool
         ensures { (c : CardState) → Holds self.now c → result ≡ has_room c linked.now }
     {
@@ -35,7 +35,7 @@ impl Card {
             )
     }
 
-    // Puts a package behind the others for which there is room. Where no memory is left the card is as it was.
+    // Appends a package for which there is room. If memory runs out, the card is unchanged.
     fn put(&mut self, alloc: Global, linked: Linked) -> Result<u8, AllocError>
         requires bound { IsBoundTo self.old.world linked }
         requires accepted { IsAccepted (with_linked self.old.world linked) }
@@ -60,10 +60,10 @@ impl Card {
         Ok(number)
     }
 
-    /// Loads a package, from its image and the bytes of its certificate. The answer is its number, from 1 on. A refused
-    /// package leaves the card as it was. Of several refusals that apply the one with the smallest number is told.
-    /// `Memory` may come in place of an `Ok`, or of the refusals 10 to 18. It never comes in place of those of 1 to 9,
-    /// which say that the image isn't cut into its components, or isn't read as a package.
+    /// Loads a package from its image and the bytes of its certificate. It returns the package's number, from 1 on. A
+    /// refused package leaves the card unchanged. If several refusals apply, the one with the smallest number is
+    /// reported. `Memory` may replace an `Ok`, or the refusals 10 to 18. It never replaces the refusals 1 to 9, by
+    /// which the image doesn't split into its components, or isn't read as a package.
     pub fn load(&mut self, alloc: Global, image: &[u8], certificate: &[u8]) -> Result<u8, LoadFault>
         ensures done { Loads self.old self.new image.now certificate.now result }
         ensures guarded { (c after : CardState) → IsLoad c image.now certificate.now result after

@@ -1,4 +1,4 @@
-//! A card that is new.
+//! New cards.
 
 ghost use Rattle.std.specs.Prelude.{◌≡◌, ◌↔◌, IfOk, Err, false};
 ghost use Rattle.jc_machine.specs.Limits.{are_limits};
@@ -21,8 +21,8 @@ use jc_store::Store;
 use std::alloc::Global;
 
 impl Card {
-    /// A card without packages beside the API's, whose AIDs and tokens a binding says, within limits. All memory that
-    /// it takes but for packages is reserved here.
+    /// A card with only the API's packages, with the AIDs and tokens of a binding, and within limits. It reserves all
+    /// memory of the card, except that of packages.
     pub fn new(alloc: Global, limits: Limits, binding: &Binding) -> Result<Card, CardFault>
         ensures new { IfOk result (λ card. Holds card (new_card limits binding.now)) }
         ensures limits { (result ≡ Err BadLimits) ↔ (are_limits limits ≡ false) }

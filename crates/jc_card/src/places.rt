@@ -13,11 +13,11 @@ use jc_link::{LinkedBody, World};
 pub(crate) struct AppletPlace {
     /// The package's number, from 1 on.
     pub(crate) number: u8,
-    /// Where its install method stands.
+    /// The offset of its install method.
     pub(crate) install: u16,
 }
 
-/// Whether a row has an AID.
+/// Whether a row has this AID.
 fn has_aid(applet: &Applet, aid: &Aid) -> bool
     ensures { result ≡ bytes_eq applet.now.aid aid.now }
 {

@@ -1,5 +1,5 @@
-//! The runtime's own objects, which it makes when a card is new (Java Card Runtime Environment Specification, JCRE
-//! Entry Point Objects, Global Arrays; Java Card API Specification, AID, APDU, Applet.install).
+//! The runtime's own objects, which a new card has (Java Card Runtime Environment Specification, JCRE Entry Point
+//! Objects, Global Arrays; Java Card API Specification, AID, APDU, Applet.install).
 
 ghost use Rattle.std.specs.Prelude.{◌≡◌, [], suc};
 ghost use Rattle.jc_card.specs.PrivateNew.{HasOwn, HasOwnRoom, HasRoomFor, HaveApiNumbers};
@@ -12,7 +12,7 @@ use jc_names::{ClassName, Owner};
 use jc_program::{Classes, classes_have_numbers};
 use jc_store::{Mark, ObjectKind, ObjectType, Store};
 
-/// One of them, as it is made: all its components are 0.
+/// One of these objects; when it is made, all its components are 0.
 #[derive(Clone, Copy)]
 pub(crate) struct OwnObject {
     object: ObjectType,
@@ -21,7 +21,7 @@ pub(crate) struct OwnObject {
     size: u16,
 }
 
-/// An instance of a class, to which no reference may be stored.
+/// An instance of a class, as a temporary entry point: no reference to it may be stored.
 fn temporary(class: ApiClass, size: u16) -> OwnObject
     ensures { result ≡ temporary class size }
 {
@@ -32,7 +32,7 @@ fn temporary(class: ApiClass, size: u16) -> OwnObject
     }
 }
 
-/// An array of bytes for all contexts.
+/// A global array of bytes.
 fn global_bytes(size: u16) -> OwnObject
     ensures { result ≡ global_bytes size }
 {
@@ -50,11 +50,11 @@ const AID: OwnObject = OwnObject {
     size: 17,
 };
 
-/// How many there are: 13, and an AID for each of 32 instances.
+/// How many objects there are: 13, and an AID for each of 32 instances.
 const OWN_OBJECTS: u16 = 45;
 
-/// The one at a place, from 0 on: the exceptions of the machine and of the API, the APDU, its buffer, the array that an
-/// install method is given, and then the AIDs.
+/// The object at an index, from 0 on: the exceptions of the machine and of the API, the APDU, its buffer, the array of
+/// an install method's parameters, and then the AIDs.
 fn own_object(place: u16) -> OwnObject
     ensures { result ≡ own_object place }
 {
@@ -76,7 +76,7 @@ fn own_object(place: u16) -> OwnObject
     }
 }
 
-/// The class that an object counts as: arrays are of Object.
+/// The class of an object; an array's is Object.
 fn class_of(object: ObjectType) -> ClassName
     ensures { result ≡ class_of object }
 {
@@ -89,7 +89,7 @@ fn class_of(object: ObjectType) -> ClassName
     }
 }
 
-/// Makes the one at a place, behind those before it. The store has room for it.
+/// Makes the object at an index, after those before it. The store has room for it.
 fn make(store: &mut Store, classes: &Classes, place: u16)
     requires numbers { HaveApiNumbers classes.now }
     requires room { HasRoomFor store.old (own_object place) }
@@ -109,7 +109,7 @@ fn make(store: &mut Store, classes: &Classes, place: u16)
         .unwrap();
 }
 
-/// Makes all of them, in the order of their numbers. The store is empty, and has room for them.
+/// Makes all of them, in order of their numbers. The store is empty, and has room for them.
 pub(crate) fn make_own_objects(store: &mut Store, classes: &Classes)
     requires objects { store.old.objects ≡ [] }
     requires classes { store.old.classes ≡ [] }

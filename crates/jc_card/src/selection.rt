@@ -18,7 +18,7 @@ use jc_safety::objects_stay_typed;
 use jc_store::ClearingEvent;
 
 impl Card {
-    // The arrays of an event are zero or null: those of a context, or all.
+    // Clears the arrays of an event, to zero or null: those of a context, or all.
     pub(crate) fn clear(&mut self, event: ClearingEvent, context: Option<u8>)
         ensures { Does self.old self.new GivesNothing (clear event context) }
     {
@@ -27,14 +27,14 @@ impl Card {
         self.machine.store.clear(event, context);
     }
 
-    // Another applet counts as selected, or none does.
+    // Makes another applet count as selected, or none.
     pub(crate) fn set_selected(&mut self, selected: Option<Owner>)
         ensures { Does self.old self.new GivesNothing (λ c. gives (with_selected c selected) tt) }
     {
         self.selected = selected;
     }
 
-    // The arrays of the selected applet's context that are cleared on deselect are, and no applet is selected.
+    // Clears the arrays of the selected applet's context that are cleared on deselect, and selects no applet.
     pub(crate) fn unselect(&mut self)
         ensures { Does self.old self.new GivesNothing unselect }
     {
@@ -44,7 +44,7 @@ impl Card {
         }
     }
 
-    // The applet that is selected, if one is, is deselected.
+    // Deselects the selected applet, if there is one.
     pub(crate) fn deselect(&mut self)
         ensures { Does self.old self.new GivesNothing deselect }
     {
@@ -52,7 +52,7 @@ impl Card {
         self.unselect();
     }
 
-    /// A reset: no applet is selected, and all transient arrays are zero or null. No method is called.
+    /// Resets the card: no applet is selected, and all transient arrays are zero or null. It calls no method.
     pub fn reset(&mut self)
         ensures done { Does self.old self.new GivesNothing reset_command }
         ensures guarded { (c : CardState) → Holds self.old c → IfSome (reset_command c) (IsGuardedCommand Resets c) }

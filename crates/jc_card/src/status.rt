@@ -1,4 +1,4 @@
-//! How calls that ended are answered (ISO/IEC 7816-4, status words; Java Card API Specification, ISOException).
+//! The status of calls that ended (ISO/IEC 7816-4, status words; Java Card API Specification, ISOException).
 
 ghost use Rattle.std.specs.Prelude.{◌≡◌, Some, get_or};
 ghost use Rattle.std.specs.Option.{option_map_or};
@@ -22,7 +22,7 @@ use jc_link::built_worlds_have_the_api;
 use jc_names::ClassName;
 use jc_program::{ClassNumber, class_subtypes_are_below, classes_have_numbers, program_laws};
 
-/// All went well.
+/// Normal processing.
 pub(crate) const NORMAL: u16 = 0x9000;
 
 /// The length is wrong.
@@ -34,10 +34,10 @@ pub(crate) const NOT_SELECTED: u16 = 0x6999;
 /// No precise diagnosis.
 pub(crate) const UNKNOWN_ERROR: u16 = 0x6F00;
 
-/// The class whose objects say a status.
+/// The class whose objects carry a status.
 const ISO_EXCEPTION: ClassName = ClassName::Api(ApiClass::IsoException);
 
-/// Whether an applet agrees to be selected, by how its select method ended.
+/// Whether an applet agrees to be selected, from the end of its select method.
 pub(crate) fn agrees(ended: RunEnd) -> bool
     ensures { (e : Ended) → ReadsEnded ended e → result ≡ agrees e }
 {
@@ -47,7 +47,7 @@ pub(crate) fn agrees(ended: RunEnd) -> bool
     }
 }
 
-/// The first of words; 0 where there is none.
+/// The first of these words, or 0 if there is none.
 fn first_of(words: &[u16]) -> u16
     ensures { result ≡ get_or words.now 0 0 }
 {
@@ -58,7 +58,7 @@ fn first_of(words: &[u16]) -> u16
 }
 
 impl Card {
-    // Whether an object that is there is an ISOException, or of a subclass.
+    // Whether an object is an ISOException, or of a subclass.
     fn is_iso_exception(&self, object: u16) -> bool
         requires there { IsThere self.now.machine.store object }
         ensures { (c : CardState) (thrown : Object TaggedValue) → Holds self.now c
@@ -76,7 +76,7 @@ impl Card {
         }
     }
 
-    // The reason of an exception, which stands in its first component.
+    // The reason of an exception, which is its first component.
     pub(crate) fn reason_of(&self, object: u16) -> u16
         ensures { (c : CardState) (thrown : Object TaggedValue) → Holds self.now c
             → object_at c.heap object ≡ Some thrown → result ≡ reason_of thrown }
@@ -99,7 +99,7 @@ impl Card {
         }
     }
 
-    // The status of a process call, by how it ended.
+    // The status of a process call, from its end.
     pub(crate) fn status_of(&self, ended: RunEnd) -> u16
         ensures { (c : CardState) (e : Ended) → Holds self.now c → ReadsEnded ended e → result ≡ status_of c e }
     {

@@ -1,4 +1,4 @@
-//! The defensive machine's card alone: no command is stuck (Java Card Virtual Machine Specification, Verification of
+//! Laws of the defensive machine's card: no command is stuck (Java Card Virtual Machine Specification, Verification of
 //! CAP files).
 
 ghost use Rattle.std.specs.Prelude.{◌≡◌, ◌<◌, ℕ, List, Result, true};
@@ -24,7 +24,7 @@ use jc_natives::{
 };
 use jc_safety::{accepted_packages_are_type_safe, loads_stay_typed, objects_stay_typed};
 
-/// The laws by which the parts of commands leave cards typed, in one record. It does nothing.
+/// The laws that the parts of commands leave cards typed, in one record. It does nothing.
 fn parts_stay_typed()
     ensures { CommandLaws }
 {
@@ -38,10 +38,10 @@ fn parts_stay_typed()
     calls_keep_fitting();
 }
 
-/// No command on a card of the defensive machine is stuck, whatever was done to the card before. A card that is new is
-/// typed. On a typed card each command gives an answer, and leaves a typed card: bytes of a reader, whatever they are;
-/// an install of whichever applet, with whichever AID and data; and a reset. A load of whatever bytes leaves one too,
-/// with whatever certificate. It does nothing.
+/// No command on a card of the defensive machine is stuck, whatever happened to the card before. A new card is typed.
+/// On a typed card each command returns an answer, and leaves a typed card: any bytes of a reader; an install of any
+/// applet, with any AID and data; and a reset. A load of any bytes with any certificate leaves a typed card, too. It
+/// does nothing.
 pub fn commands_are_never_stuck()
     ensures new { (limits : Limits) (binding : Bound) → limits.cells < 65536 → HasNoClash binding
         → IsTypedCard (new_card limits binding) }

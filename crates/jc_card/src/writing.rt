@@ -1,4 +1,4 @@
-//! What the runtime writes into its own arrays (Java Card Runtime Environment Specification, Global Arrays).
+//! Writes of the runtime to its own arrays (Java Card Runtime Environment Specification, Global Arrays).
 
 ghost use Rattle.std.specs.Prelude.{◌≡◌, length};
 ghost use Rattle.jc_card.specs.Card.{CardState};
@@ -13,18 +13,18 @@ use crate::card::Card;
 use jc_machine::Natives;
 use jc_safety::objects_stay_typed;
 
-/// The APDU buffer, and how many bytes it has.
+/// The APDU buffer, and its number of bytes.
 const APDU_BUFFER: u16 = 12;
 
 pub(crate) const BUFFER_SIZE: usize = 261;
 
-/// The array that an install method is handed, and how many bytes it has.
+/// The array of an install method's parameters, and its number of bytes.
 pub(crate) const INSTALL_ARRAY: u16 = 13;
 
 pub(crate) const INSTALL_SIZE: usize = 127;
 
 impl Card {
-    // Writes bytes into an array of the runtime's, from its first component on.
+    // Writes bytes to an array of the runtime, from its first component on.
     fn write(&mut self, number: u16, bytes: &[u8])
         requires array { (c : CardState) → Holds self.old c → HasBytes c.heap number (length bytes.now) }
         ensures { Does self.old self.new GivesNothing (write number bytes.now) }
@@ -42,7 +42,7 @@ impl Card {
         self.write(APDU_BUFFER, bytes);
     }
 
-    // Fills the array that an install method is handed.
+    // Fills the array of an install method's parameters.
     pub(crate) fn write_parameters(&mut self, bytes: &[u8])
         requires whole { length bytes.now ≡ install_size }
         ensures { Does self.old self.new GivesNothing (write install_array bytes.now) }

@@ -1,4 +1,4 @@
--- What is answered to the commands of a script, and the lines that answers are written as.
+-- The answers to the commands of a script, and their lines.
 use Rattle.std.specs.Prelude.{ℕ, ◌/◌, ◌%◌, List, [], ◌∷◌, ◌++◌, codes}
 use Rattle.std.specs.Fmt.{decimal}
 use Rattle.hex.specs.Hex.{encode_upper}
@@ -39,7 +39,7 @@ install_words AidInUse = codes "22 AidInUse"
 install_words NoInstance = codes "23 NoInstance"
 install_words (InstallFailed failure) = codes "24 InstallFailed " ++ status_text failure.status
 
--- the status, and data before it where any are sent
+-- the status, and before it the data, if any were sent
 abbrev pub response_line : List ℕ → ℕ → List ℕ
 response_line [] status = codes "sw " ++ status_text status
 response_line (byte ∷ sent) status =
@@ -57,7 +57,7 @@ line_of (Cells used most) = ((codes "cells " ++ decimal used) ++ codes " of ") +
 line_of (Objects used most) = ((codes "objects " ++ decimal used) ++ codes " of ") ++ decimal most
 line_of (Steps steps) = codes "steps " ++ decimal steps
 
--- ---- answers of the code
+-- ---- the code's answers
 
 abbrev pub shown_response : Answer → Response
 shown_response answer = record { sent = answer.sent.items; status = answer.status; cause = answer.cause }

@@ -1,5 +1,5 @@
--- A run of the card: commands one behind the other, what they are answered, which objects they access, and in which
--- contexts they run (Java Card Runtime Environment Specification, Applet Lifetime).
+-- A run of the card: commands one after the other, their answers, the objects that they access, and the contexts in
+-- which they run (Java Card Runtime Environment Specification, Applet Lifetime).
 use Rattle.std.specs.Prelude.{ℕ, List, [], ◌∷◌, ◌++◌, Option}
 use Rattle.std.specs.Option.{option_map_or}
 use Rattle.jc_card.specs.Card.{CardState}
@@ -11,7 +11,7 @@ use Rattle.jc_run.specs.Answer.{Answered}
 use Rattle.jc_run.specs.Play.{IsAnswered}
 use Rattle.jc_script.specs.Script.{Apdu, Cells, Install, Load, Objects, Reset, ScriptCommand, Steps}
 
--- the accesses that a command makes, in their order. A load makes none, and neither does a count or a budget
+-- the accesses of a command, in order. A load makes none, and neither does a count or a budget
 abbrev pub accesses_in : {A : Type 0} → Option (Left A) → List Touch
 accesses_in done = option_map_or (λ l. l.touches) done []
 
@@ -24,7 +24,7 @@ accesses_of c Cells = []
 accesses_of c Objects = []
 accesses_of c (Steps steps) = []
 
--- the contexts in which its steps run, in their order
+-- the contexts in which its steps run, in order
 abbrev pub contexts_in : {A : Type 0} → Option (Left A) → List ℕ
 contexts_in done = option_map_or (λ l. l.ran) done []
 
@@ -37,9 +37,8 @@ contexts_of c Cells = []
 contexts_of c Objects = []
 contexts_of c (Steps steps) = []
 
--- commands one behind the other, each on the card that the one before it left: what they are answered, their accesses
--- and the contexts in which their steps run, in their order, and the card behind them. No call of a command that is
--- answered is stuck
+-- commands one after the other, each on the card that the one before it left: their answers, their accesses and the
+-- contexts in which their steps run, in order, and the card after them. No call of an answered command is stuck
 pub data IsCardRun (images certificates : List ℕ → List ℕ → Type 0)
     : List ScriptCommand → CardState → List Answered → List Touch → List ℕ → CardState → Type 0 where
   nothing : (c : CardState) → IsCardRun images certificates [] c [] [] [] c

@@ -1,4 +1,4 @@
--- How a script ends, by the fault that is told.
+-- The end of a script, from the reported fault.
 use Rattle.std.specs.Prelude.{ℕ, Result, Ok, Err}
 use Rattle.jc_card.specs.declared.fault.CardFault.{CardFault}
 use Rattle.jc_card.specs.declared.fault.CardFault.TheVariants as cards
@@ -8,12 +8,12 @@ use Rattle.jc_run.specs.Play.{BadLimits, BadLine, NoMemory, NotRead, NotWritten,
 use Rattle.jc_run.specs.declared.fault.ScriptFault.{ScriptFault}
 use Rattle.jc_run.specs.declared.fault.ScriptFault.TheVariants as faults
 
--- why there is no card
+-- why no card is made
 abbrev pub card_fault : CardFault → ScriptFault
 card_fault cards.BadLimits = faults.BadLimits
 card_fault cards.Memory = faults.Memory
 
--- why what a line names isn't read, by the line's number
+-- why a file that a line names isn't read, with the line's number
 abbrev pub source_fault : ℕ → SourceFault → ScriptFault
 source_fault number sources.Failed = faults.Source number
 source_fault number sources.Memory = faults.Memory

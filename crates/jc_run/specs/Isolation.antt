@@ -1,8 +1,7 @@
--- Isolation. What the applets of a context keep in their own objects has no influence on a run as long as none of its
--- steps runs in that context: on no access, no answer and no other object. Meanwhile these objects stay as they are,
--- but for transient arrays (Java Card Runtime Environment Specification, Applet Isolation and Object Sharing). That a
--- context's code runs only by a call is said of each step (jc_machine Owning) and of each part of a command (jc_card
--- Order).
+-- Isolation. The objects of a context's applets have no influence on a run as long as none of its steps runs in that
+-- context: on no access, no answer and no other object. Meanwhile these objects stay unchanged, except transient arrays
+-- (Java Card Runtime Environment Specification, Applet Isolation and Object Sharing). A context's code runs only by a
+-- call: jc_machine Owning states this for each step, and jc_card Order for each part of a command.
 use Rattle.std.specs.Prelude.{◌≡◌, ℕ, true, List, None}
 use Rattle.jc_card.specs.Accesses.{IsApartCard}
 use Rattle.jc_card.specs.Answering.{AreAnswered}
@@ -20,8 +19,8 @@ use Rattle.jc_run.specs.Answer.{Answered}
 use Rattle.jc_run.specs.CardRun.{IsCardRun}
 use Rattle.jc_script.specs.Script.{ScriptCommand}
 
--- the same commands are answered the same, with the same accesses and steps in the same contexts, on a card with other
--- objects; and the card behind them differs in components of the context's plain objects alone
+-- on a card with other objects, the same commands have the same answers, accesses and contexts of steps; and the card
+-- after them differs only in components of the context's plain objects
 pub record RunsAlike (images certificates : List ℕ → List ℕ → Type 0) (context : ℕ) (commands : List ScriptCommand)
     (c : CardState) (heap : Heap TaggedValue) (answers : List Answered) (touches : List Touch) (ran : List ℕ)
     (after : CardState) : Type 0 where
@@ -29,11 +28,12 @@ pub record RunsAlike (images certificates : List ℕ → List ℕ → Type 0) (c
   pub alike : AreAlike context after.heap heap_behind
   pub run : IsCardRun images certificates commands (with_heap c heap) answers touches ran (with_heap after heap_behind)
 
--- of each context, and of each run none of whose steps runs in it, from a card on which the runtime's name is its own:
--- on each card that differs in components of the context's plain objects alone it runs alike; and behind it those of
--- these objects that aren't transient arrays hold what they held. Native members change of what the runtime keeps, and
--- return of AIDs, what is theirs to. An answer holds what this command's call of process sent. Who is registered
--- changes by installs that succeed alone, and between commands none is being installed
+-- for each context, and each run none of whose steps runs in it, from a card on which only the runtime runs as the
+-- runtime: on each card that differs only in components of the context's plain objects it runs alike; and after it
+-- those of these objects that no event clears have the components that they had. Native members change only what is
+-- theirs of the runtime's state, and return only AIDs that are theirs to return. An answer has what this command's call
+-- of process sent. Only installs that succeed change the registered instances, and between commands none is being
+-- installed
 pub record AreIsolated (images certificates : List ℕ → List ℕ → Type 0) : Type 0 where
   pub unseen : (context : ℕ) (commands : List ScriptCommand) (c : CardState) (answers : List Answered)
       (touches : List Touch) (ran : List ℕ) (after : CardState) → IsApartCard c

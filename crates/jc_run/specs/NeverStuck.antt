@@ -1,4 +1,4 @@
--- That no command of the defensive machine's card is stuck, of any list of commands (Java Card Virtual Machine
+-- No command of the defensive machine's card is stuck, in any list of commands (Java Card Virtual Machine
 -- Specification, Verification of CAP files; Java Card Runtime Environment Specification, Applet Lifetime).
 use Rattle.std.specs.Prelude.{⊤, ◌≡◌, ℕ, ◌&&◌, Bool, true, List, [], ◌∷◌, IsSome}
 use Rattle.std.specs.List.{list_all}
@@ -10,7 +10,7 @@ use Rattle.jc_run.specs.Answer.{Answered}
 use Rattle.jc_run.specs.Play.{IsAnswered}
 use Rattle.jc_script.specs.Script.{Apdu, Cells, Install, Load, Objects, Reset, ScriptCommand, Steps}
 
--- what a command is handed is bytes, and AIDs of 5 to 16 of them
+-- the data of a command are bytes, and its AIDs have 5 to 16 of them
 abbrev pub is_of_bytes : ScriptCommand → Bool
 is_of_bytes (Load folder certificate) = true
 is_of_bytes (Install applet instance incoming) = is_aid applet && is_aid instance && are_bytes incoming
@@ -20,7 +20,7 @@ is_of_bytes Cells = true
 is_of_bytes Objects = true
 is_of_bytes (Steps steps) = true
 
--- it isn't stuck on a card: it is answered. A load, a count and a budget call no method
+-- a command isn't stuck on a card: it is answered. A load, a count and a budget call no method
 abbrev pub GoesOn : CardState → ScriptCommand → Type 0
 GoesOn c (Load folder certificate) = ⊤
 GoesOn c (Install applet instance incoming) = IsSome (install_command c applet instance incoming)
@@ -30,14 +30,14 @@ GoesOn c Cells = ⊤
 GoesOn c Objects = ⊤
 GoesOn c (Steps steps) = ⊤
 
--- commands one behind the other: none is stuck, on whatever card those before it may leave
+-- commands one after the other: none is stuck, on any card that those before it may leave
 abbrev pub NeverStuck : (images certificates : List ℕ → List ℕ → Type 0) → List ScriptCommand → CardState → Type 0
 NeverStuck images certificates [] c = ⊤
 NeverStuck images certificates (command ∷ commands) c =
     GoesOn c command × ((answer : Answered) (after : CardState)
     → IsAnswered images certificates c command answer after → NeverStuck images certificates commands after)
 
--- so is any list of commands on a card
+-- no list of commands is stuck on a card
 abbrev pub IsNeverStuck : (images certificates : List ℕ → List ℕ → Type 0) → CardState → Type 0
 IsNeverStuck images certificates c =
     (commands : List ScriptCommand) → list_all is_of_bytes commands ≡ true

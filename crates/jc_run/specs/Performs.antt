@@ -1,4 +1,4 @@
--- What commands and scripts do to a card on words, by what they come to on the card of the defensive machine.
+-- The effects of commands and scripts on a card on words, from their effects on the card of the defensive machine.
 use Rattle.std.specs.Prelude.{⊤, ◌≡◌, ℕ, List, [], ◌∷◌, ◌++◌, Option, Some}
 use Rattle.jc_api.specs.Bound.{Bound}
 use Rattle.jc_card.specs.Card.{CardState}
@@ -11,14 +11,14 @@ use Rattle.jc_run.specs.Runs.{IsPlayed, IsSimulated}
 use Rattle.jc_script.specs.Script.{Apdu, Cells, Install, Load, Objects, Reset, ScriptCommand, Steps}
 use Rattle.jc_script.specs.Script.{script_commands}
 
--- it leaves words that hold the card which it leaves on the machine's card, and is answered as there
+-- the words represent the card that the command leaves on the machine's card, and it has the same answer
 pub record Answers (images certificates : List ℕ → List ℕ → Type 0) (c : CardState) (command : ScriptCommand)
     (answer : Answered) (after : CardWords) : Type 0 where
   pub card : CardState
   pub answered : IsAnswered images certificates c command answer card
   pub holds : Holds after card
 
--- a load alone asks the source
+-- only a load reads the source
 abbrev pub AsksSource : ScriptCommand → Type 0
 AsksSource (Load folder certificate) = ⊤
 AsksSource (Install applet instance incoming) = ⊥
@@ -28,7 +28,7 @@ AsksSource Cells = ⊥
 AsksSource Objects = ⊥
 AsksSource (Steps steps) = ⊥
 
--- and for this, in this order
+-- the reads of a command, in this order
 abbrev pub asked_by : ScriptCommand → List Asked
 asked_by (Load folder certificate) = Image folder ∷ Certificate certificate ∷ []
 asked_by (Install applet instance incoming) = []
@@ -38,7 +38,7 @@ asked_by Cells = []
 asked_by Objects = []
 asked_by (Steps steps) = []
 
--- the last reading that failed was of one of the files that a command names
+-- the last read that failed was of one of the files that a command names
 abbrev pub IsFailingOf : (Asked → Type 0) → ScriptCommand → Type 0
 IsFailingOf failed_at (Load folder certificate) = IsFailing failed_at folder certificate
 IsFailingOf failed_at (Install applet instance incoming) = ⊥
@@ -48,15 +48,15 @@ IsFailingOf failed_at Cells = ⊥
 IsFailingOf failed_at Objects = ⊥
 IsFailingOf failed_at (Steps steps) = ⊥
 
--- what was written behind what was there, and how it ended, is what a script comes to on a card. Of the source behind
--- it is known what its last reading that failed asked for
+-- what was appended to the output, and the end, are those of a script on a card. The source's last failed read is known
+-- after it
 pub record PlaysOn (images certificates : List ℕ → List ℕ → Type 0) (failed_at : Asked → Type 0) (script : List ℕ)
     (c : CardState) (before : List ℕ) (now : Option (List ℕ)) (end : ScriptEnd) : Type 0 where
   pub written : List ℕ
   pub played : IsPlayed images certificates failed_at (script_commands script) c written end
   pub now_is : now ≡ Some (before ++ written)
 
--- it is what a script comes to on a new card: the simulation theorem holds of it
+-- they are those of a script on a new card: the simulation theorem holds for it
 pub record HasRun (images certificates : List ℕ → List ℕ → Type 0) (failed_at : Asked → Type 0) (limits : Limits)
     (binding : Bound) (script before : List ℕ) (now : Option (List ℕ)) (end : ScriptEnd) : Type 0 where
   pub written : List ℕ

@@ -1,5 +1,5 @@
--- What a command is answered by the card of the defensive machine, and how a script may end. What the source of
--- packages holds is two relations: the image of a package under a name, and the bytes of a certificate.
+-- The answers of the defensive machine's card to commands, and the ends of scripts. The contents of the source of
+-- packages are two relations: the image of a package under a name, and the bytes of a certificate under a name.
 use Rattle.std.specs.Prelude.{◌≡◌, ◌+◌, ℕ, nat_lt, true, List, [], ◌∷◌, ◌++◌, length, Option, Some, Result, Ok, Err}
 use Rattle.std.specs.Prelude.{if◌then◌else◌}
 use Rattle.jc_base.specs.declared.fault.LoadFault.{LoadFault}
@@ -41,7 +41,7 @@ pub record IsLoadAnswered (images certificates : List ℕ → List ℕ → Type 
   pub load : IsLoad c image bytes result after
   pub answer_is : answer ≡ load_answer result
 
--- a command of the machine, which isn't stuck, leaves this card, and what it gives is this answer
+-- a command of the machine, which isn't stuck, leaves this card, and its result is this answer
 pub record IsGiven {A : Type 0} (done : Option (Left A)) (said : A → Answered) (answer : Answered) (after : CardState)
     : Type 0 where
   pub left : Left A
@@ -49,7 +49,7 @@ pub record IsGiven {A : Type 0} (done : Option (Left A)) (said : A → Answered)
   pub after_is : after ≡ left.card
   pub answer_is : answer ≡ said left.value
 
--- what a command is answered, and the card behind it
+-- the answer to a command, and the card after it
 abbrev pub IsAnswered : (images certificates : List ℕ → List ℕ → Type 0) → CardState → ScriptCommand → Answered
     → CardState → Type 0
 IsAnswered images certificates c (Load folder certificate) answer after =
@@ -74,7 +74,7 @@ answer_line answer = line_of answer ++ 10 ∷ []
 -- ---- how a script ends
 
 -- all lines are done; a line is no command; a file of a line can't be read; the script can't be read; an answer can't
--- be written; memory is out; the card may not have its limits
+-- be written; out of memory; bad limits of the card
 pub data ScriptEnd : Type 0 where
   Over : ScriptEnd
   BadLine : (number : ℕ) → ScriptEnd
@@ -84,22 +84,22 @@ pub data ScriptEnd : Type 0 where
   NoMemory : ScriptEnd
   BadLimits : ScriptEnd
 
--- the last reading that failed was of one of a load's files: of its image or of its certificate
+-- the last read that failed was of one of a load's files: of its image or of its certificate
 pub data IsFailing (failed_at : Asked → Type 0) (folder certificate : List ℕ) : Type 0 where
   image : failed_at (Image folder) → IsFailing failed_at folder certificate
   certificate : failed_at (Certificate certificate) → IsFailing failed_at folder certificate
 
--- what is wrong with a line that isn't read whole: it stands behind the last that a script may have, or is too long
+-- the fault of a line that isn't read whole: it comes after the last that a script may have, or is too long
 abbrev pub unread_fault : ℕ → LineFault
 unread_fault number =
     if nat_lt most_lines number then fault_at TooMany 1 else fault_at TooLong (most_in_line + 1)
 
--- bytes of which these are the first
+-- the first part of some bytes
 pub record IsPart (bytes whole : List ℕ) : Type 0 where
   pub rest : List ℕ
   pub whole_is : whole ≡ bytes ++ rest
 
--- how many readings of the source failed: one, where it ended the script
+-- how many reads of the source failed: one, if it ended the script
 abbrev pub failures_at : ScriptEnd → ℕ
 failures_at Over = 0
 failures_at (BadLine number) = 0

@@ -13,14 +13,14 @@ use Rattle.jc_script.specs.Script.{Asks, Bad, Load, ScriptCommand, ScriptLine, S
 
 -- ---- lines
 
--- a command is done, and the line of its answer is written
+-- a command is performed, and the line of its answer is written
 pub record IsCommandPlayed (images certificates : List ℕ → List ℕ → Type 0) (c : CardState) (command : ScriptCommand)
     (written : List ℕ) (after : CardState) : Type 0 where
   pub answer : Answered
   pub answered : IsAnswered images certificates c command answer after
   pub written_is : written ≡ answer_line answer
 
--- what is written to a line, and the card behind it. A line that says nothing changes nothing
+-- what is written for a line, and the card after it. A skipped line changes nothing
 abbrev pub IsLinePlayed : (images certificates : List ℕ → List ℕ → Type 0) → CardState → ScriptLine → List ℕ
     → CardState → Type 0
 IsLinePlayed images certificates c Skipped written after = (written ≡ []) × (after ≡ c)
@@ -28,7 +28,7 @@ IsLinePlayed images certificates c (Asks command) written after =
     IsCommandPlayed images certificates c command written after
 IsLinePlayed images certificates c Bad written after = ⊥
 
--- what is written to a line that ends the script, and how
+-- what is written for a line that ends the script, and the end
 pub data EndsAt (images certificates : List ℕ → List ℕ → Type 0) (failed_at : Asked → Type 0) (c : CardState)
     (number : ℕ) : ScriptLine → List ℕ → ScriptEnd → Type 0 where
   bad : EndsAt images certificates failed_at c number Bad [] (BadLine number)
@@ -40,8 +40,8 @@ pub data EndsAt (images certificates : List ℕ → List ℕ → Type 0) (failed
       → IsAnswered images certificates c command answer after → IsPart written (answer_line answer)
       → EndsAt images certificates failed_at c number (Asks command) written NotWritten
 
--- what lines come to, of which the first has a number: the bytes that are written, and how it ends. The lines are done
--- in their order, each on the card that the one before it left
+-- the result of lines, of which the first has a number: the bytes that are written, and the end. The lines are played
+-- in order, each on the card that the one before it left
 pub data Plays (images certificates : List ℕ → List ℕ → Type 0) (failed_at : Asked → Type 0)
     : ℕ → List (List ℕ) → CardState → List ℕ → ScriptEnd → Type 0 where
   over : (number : ℕ) (c : CardState) → Plays images certificates failed_at number [] c [] Over
@@ -55,7 +55,7 @@ pub data Plays (images certificates : List ℕ → List ℕ → Type 0) (failed_
   unread : (number : ℕ) (lines : List (List ℕ)) (c : CardState)
       → Plays images certificates failed_at number lines c [] NotRead
 
--- what was written behind what was there, and how it ended, is what these lines come to; the first has a number
+-- what was appended to the output, and the end, are the result of these lines; the first has a number
 pub record PlaysFrom (images certificates : List ℕ → List ℕ → Type 0) (failed_at : Asked → Type 0) (number : ℕ)
     (bytes : List ℕ) (c : CardState) (before : List ℕ) (now : Option (List ℕ)) (end : ScriptEnd) : Type 0 where
   pub written : List ℕ
@@ -64,7 +64,7 @@ pub record PlaysFrom (images certificates : List ℕ → List ℕ → Type 0) (f
 
 -- ---- parts
 
--- known bytes grow by the first of some
+-- known bytes grow by a first part of some bytes
 pub record GrowsByPart (before after whole : List ℕ) : Type 0 where
   pub bytes : List ℕ
   pub part : IsPart bytes whole
@@ -75,7 +75,7 @@ AppendsPart None after whole = ⊤
 AppendsPart (Some before) None whole = ⊥
 AppendsPart (Some before) (Some after) whole = GrowsByPart before after whole
 
--- a load leaves a card that holds what it leaves on the defensive machine's card, and is answered as there
+-- a load leaves a card that represents the card after the load on the defensive machine's card, with the same answer
 pub record LoadsAs (c : CardState) (image certificate : List ℕ) (answer : Answered) (after : CardWords) : Type 0 where
   pub card : CardState
   pub result : Result ℕ LoadFault
@@ -83,7 +83,7 @@ pub record LoadsAs (c : CardState) (image certificate : List ℕ) (answer : Answ
   pub answer_is : answer ≡ load_answer result
   pub holds : Holds after card
 
--- a line is done
+-- a line is played
 pub record IsLineDone (images certificates : List ℕ → List ℕ → Type 0) (c : CardState) (said : ScriptLine)
     (after : CardWords) (before : List ℕ) (now : Option (List ℕ)) : Type 0 where
   pub card : CardState
@@ -99,7 +99,7 @@ pub record IsLineEnd (images certificates : List ℕ → List ℕ → Type 0) (f
   pub ends : EndsAt images certificates failed_at c number said written end
   pub now_is : now ≡ Some (before ++ written)
 
--- what is read: a line was taken off, or none is left
+-- a read: a line was taken off, or none is left
 pub record IsTaken (number : ℕ) (line bytes : List ℕ) (left : Option (List ℕ)) : Type 0 where
   pub rest : List ℕ
   pub left_is : left ≡ Some rest
@@ -109,7 +109,7 @@ abbrev pub IsRead : ℕ → List ℕ → List ℕ → Option (List ℕ) → Bool
 IsRead number taken bytes left true = IsTaken number taken bytes left
 IsRead number taken bytes left false = lines_of bytes ≡ []
 
--- nothing is read: the first line is bad, or the reader fails
+-- no line is read: the first line is bad, or the reader fails
 abbrev pub IsUnread : ℕ → List ℕ → ScriptEnd → Type 0
 IsUnread number bytes Over = ⊥
 IsUnread number bytes (BadLine told) = (told ≡ number) × BeginsBad number (lines_of bytes)
@@ -119,7 +119,7 @@ IsUnread number bytes NotWritten = ⊥
 IsUnread number bytes NoMemory = ⊥
 IsUnread number bytes BadLimits = ⊥
 
--- or none is left
+-- no line is left; or no line is read, as above
 abbrev pub IsEnd : ℕ → List ℕ → ScriptEnd → Type 0
 IsEnd number bytes Over = lines_of bytes ≡ []
 IsEnd number bytes (BadLine told) = (told ≡ number) × BeginsBad number (lines_of bytes)
@@ -129,7 +129,7 @@ IsEnd number bytes NotWritten = ⊥
 IsEnd number bytes NoMemory = ⊥
 IsEnd number bytes BadLimits = ⊥
 
--- a line was read and is done
+-- a line was read and played
 pub record IsTurn (images certificates : List ℕ → List ℕ → Type 0) (number : ℕ) (bytes : List ℕ) (c : CardState)
     (after : CardWords) (left : Option (List ℕ)) (before : List ℕ) (now : Option (List ℕ)) : Type 0 where
   pub first : List ℕ
@@ -145,8 +145,8 @@ Turns images certificates failed_at number bytes c after left before now true =
 Turns images certificates failed_at number bytes c after left before now false =
     PlaysFrom images certificates failed_at number bytes c before now Over
 
--- lines are done: whatever those that are left come to, all of them come to that behind what is written, whichever the
--- source is that is left at the end
+-- lines are played: whatever the result of those that are left, the result of all is that after what is written,
+-- whatever the source is at the end
 pub record HasPlayed {S : Type 0} (images certificates : List ℕ → List ℕ → Type 0) (failed_at : S → Asked → Type 0)
     (c : CardState) (script before : List ℕ) (number : ℕ) (after : CardWords) (left now : Option (List ℕ))
     : Type 0 where

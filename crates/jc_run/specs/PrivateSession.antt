@@ -9,8 +9,8 @@ use Rattle.jc_run.specs.PrivatePlay.{IsLinePlayed}
 use Rattle.jc_run.specs.Session.{MayRefuse}
 use Rattle.jc_script.specs.Script.{Asks, ScriptCommand, ScriptLine, lines_of, session_line}
 
--- what lines come to: the bytes that are written, and how it ends. The lines are done in their order, each on the card
--- that the one before it left. A line that is refused writes nothing and changes nothing
+-- the result of lines: the bytes that are written, and the end. The lines are played in order, each on the card that
+-- the one before it left. A refused line writes nothing and changes nothing
 pub data Converses (images certificates : List ℕ → List ℕ → Type 0)
     : List (List ℕ) → CardState → List ℕ → ScriptEnd → Type 0 where
   over : (c : CardState) → Converses images certificates [] c [] Over
@@ -27,14 +27,14 @@ pub data Converses (images certificates : List ℕ → List ℕ → Type 0)
       → Converses images certificates (first ∷ lines) c written NotWritten
   unread : (lines : List (List ℕ)) (c : CardState) → Converses images certificates lines c [] NotRead
 
--- what was written behind what was there, and how it ended, is what these lines come to
+-- what was appended to the output, and the end, are the result of these lines
 pub record ConversesFrom (images certificates : List ℕ → List ℕ → Type 0) (bytes : List ℕ) (c : CardState)
     (before : List ℕ) (now : Option (List ℕ)) (end : ScriptEnd) : Type 0 where
   pub written : List ℕ
   pub converses : Converses images certificates (lines_of bytes) c written end
   pub now_is : now ≡ Some (before ++ written)
 
--- a line is done, or refused
+-- a line is played, or refused
 pub data IsDoneOrRefused (images certificates : List ℕ → List ℕ → Type 0) (c : CardState) (said : ScriptLine)
     : List ℕ → CardState → Type 0 where
   played : (written : List ℕ) (after : CardState) → IsLinePlayed images certificates c said written after
@@ -49,7 +49,7 @@ pub record IsLineHeld (images certificates : List ℕ → List ℕ → Type 0) (
   pub holds : Holds after card
   pub now_is : now ≡ Some (before ++ written)
 
--- an answer can't be written: a part of its line may stand there
+-- an answer can't be written: a part of its line may be
 pub record IsLineUnwritten (images certificates : List ℕ → List ℕ → Type 0) (c : CardState) (said : ScriptLine)
     (before : List ℕ) (now : Option (List ℕ)) : Type 0 where
   pub written : List ℕ
@@ -73,7 +73,7 @@ EndsLine images certificates c said before now NotWritten =
 EndsLine images certificates c said before now NoMemory = ⊥
 EndsLine images certificates c said before now BadLimits = ⊥
 
--- a line was read and is done
+-- a line was read and played
 pub record IsSessionTurn (images certificates : List ℕ → List ℕ → Type 0) (bytes : List ℕ) (c : CardState)
     (after : CardWords) (left : Option (List ℕ)) (before : List ℕ) (now : Option (List ℕ)) : Type 0 where
   pub first : List ℕ
@@ -89,7 +89,7 @@ SessionTurns images certificates bytes c after left before now true =
 SessionTurns images certificates bytes c after left before now false =
     ConversesFrom images certificates bytes c before now Over
 
--- lines are done: whatever those that are left come to, all of them come to that behind what is written
+-- lines are played: whatever the result of those that are left, the result of all is that after what is written
 pub record HasConversed (images certificates : List ℕ → List ℕ → Type 0) (c : CardState) (input before : List ℕ)
     (after : CardWords) (left now : Option (List ℕ)) : Type 0 where
   pub card : CardState

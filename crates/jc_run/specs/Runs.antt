@@ -1,6 +1,6 @@
--- The simulation theorem, of a whole script: which commands were done, what the defensive machine answers to them,
--- which objects it accessed, and what changed by that (Java Card Runtime Environment Specification, Applet Isolation
--- and Object Sharing).
+-- The simulation theorem for a whole script: the commands that were performed, the answers of the defensive machine to
+-- them, the objects that it accessed, and the changes by these accesses (Java Card Runtime Environment Specification,
+-- Applet Isolation and Object Sharing).
 use Rattle.std.specs.Prelude.{⊤, ◌≡◌, ℕ, true, false, List, [], ◌∷◌, ◌++◌, Option, Some, None, IfSome, map}
 use Rattle.jc_api.specs.Bound.{Bound}
 use Rattle.jc_card.specs.Accesses.{ChangesBy, IsApartCard, IsGuardedCommand, KeepsApart, LeavesObjects}
@@ -24,7 +24,7 @@ use Rattle.jc_script.specs.Script.{Steps, script_commands}
 
 -- ---- the law of its accesses
 
--- the law of accesses, of a command on a card that leaves another one
+-- the law of accesses, for a command on a card that leaves another one
 abbrev pub IsGuarded : CardState → ScriptCommand → CardState → Type 0
 IsGuarded c (Load folder certificate) after = LeavesObjects c.heap after.heap
 IsGuarded c (Install applet instance incoming) after =
@@ -35,8 +35,8 @@ IsGuarded c Cells after = after ≡ c
 IsGuarded c Objects after = after ≡ c
 IsGuarded c (Steps steps) after = after ≡ with_steps c steps
 
--- on a card on which the runtime's name is its own: a command leaves such a card, and part by part it keeps plain
--- objects. A load makes no part
+-- for a card on which only the runtime runs as the runtime: a command leaves such a card, and part by part it keeps
+-- plain objects. A load has no parts
 abbrev pub IsKeptApart : CardState → ScriptCommand → CardState → Type 0
 IsKeptApart c (Load folder certificate) after = IsApartCard after
 IsKeptApart c (Install applet instance incoming) after =
@@ -48,12 +48,12 @@ IsKeptApart c Cells after = after ≡ c
 IsKeptApart c Objects after = after ≡ c
 IsKeptApart c (Steps steps) after = after ≡ with_steps c steps
 
--- whatever is loaded: any bytes may be what a name stands for
+-- whatever is loaded: a name may stand for any bytes
 abbrev pub anything : List ℕ → List ℕ → Type 0
 anything name bytes = ⊤
 
--- of each command on each card, and of each run from each card on. From a card on which the runtime's name is its own
--- each command is kept apart, and each run leaves such a card
+-- for each command on each card, and for each run from each card. From a card on which only the runtime runs as the
+-- runtime each command is kept apart, and each run leaves such a card
 pub record AreGuarded (images certificates : List ℕ → List ℕ → Type 0) : Type 0 where
   pub commands : (c : CardState) (command : ScriptCommand) (answer : Answered) (after : CardState)
       → IsAnswered images certificates c command answer after → IsGuarded c command after
@@ -69,19 +69,19 @@ pub record AreGuarded (images certificates : List ℕ → List ℕ → Type 0) :
 
 -- ---- a script
 
--- the commands of lines, in their order
+-- the commands of lines, in order
 abbrev pub commands_of : List Numbered → List ScriptCommand
 commands_of lines = map (λ n. n.command) lines
 
--- the lines of answers, one behind the other
+-- the lines of answers, one after the other
 abbrev pub answer_lines : List Answered → List ℕ
 answer_lines [] = []
 answer_lines (answer ∷ answers) = answer_line answer ++ answer_lines answers
 
--- how a script ends, on the card behind the commands that were done: which commands are left, what is written behind
--- the answers, and the end. All are done; or all up to a line that is none; a file of the next one, which is a load,
--- can't be read, and the last reading that failed was of it, or memory is out for its files; the script can't be read;
--- or of the next one's answer a part is written
+-- the end of a script, on the card after the commands that were performed: which commands are left, what is written
+-- after the answers, and the end. All are performed; or all up to a line that is none; a file of the next one, which is
+-- a load, can't be read, and the last read that failed was of it, or memory runs out for its files; the script can't be
+-- read; or a part of the next one's answer is written
 pub data EndsWith (images certificates : List ℕ → List ℕ → Type 0) (failed_at : Asked → Type 0) (c : CardState)
     (bad : Option ℕ) : List Numbered → List ℕ → ScriptEnd → Type 0 where
   over : bad ≡ None → EndsWith images certificates failed_at c bad [] [] Over
@@ -97,8 +97,8 @@ pub data EndsWith (images certificates : List ℕ → List ℕ → Type 0) (fail
       → IsAnswered images certificates c next.command answer after → IsPart part (answer_line answer)
       → EndsWith images certificates failed_at c bad (next ∷ left) part NotWritten
 
--- a script on a card: its commands are done in their order, up to an end. What they are answered is what is written,
--- each answer in a line of its own
+-- a script on a card: its commands are performed in order, up to an end. Their answers are what is written, each answer
+-- in a line of its own
 pub record IsPlayed (images certificates : List ℕ → List ℕ → Type 0) (failed_at : Asked → Type 0) (script : Script)
     (c : CardState) (written : List ℕ) (end : ScriptEnd) : Type 0 where
   pub done : List Numbered
@@ -113,7 +113,7 @@ pub record IsPlayed (images certificates : List ℕ → List ℕ → Type 0) (fa
   pub lines : written ≡ answer_lines answers ++ part
   pub ends : EndsWith images certificates failed_at card script.bad left part end
 
--- a script on a new card, which is made first: its limits don't fit, or memory is out for it, and then nothing is read
+-- a script on a new card, which is made first: its limits are bad, or memory runs out for it, and then nothing is read
 pub data RunsTo (images certificates : List ℕ → List ℕ → Type 0) (failed_at : Asked → Type 0) (limits : Limits)
     (binding : Bound) (script : List ℕ) : List ℕ → ScriptEnd → Type 0 where
   unfit : are_limits limits ≡ false → RunsTo images certificates failed_at limits binding script [] BadLimits
@@ -123,9 +123,9 @@ pub data RunsTo (images certificates : List ℕ → List ℕ → Type 0) (failed
       → RunsTo images certificates failed_at limits binding script written end
 
 -- the theorem: the responses are those of the defensive machine on a new card; each access is one that the firewall
--- allows, or is denied, throws and changes nothing; what a context keeps is isolated, on each card on which the
--- runtime's name is its own; the new card is one; and no list of commands is stuck there. Only the responses hang on
--- what the source holds: the others are said of every list of commands, whatever is loaded
+-- allows, or is denied, throws and changes nothing; contexts are isolated, on each card on which only the runtime runs
+-- as the runtime; the new card is such a card; and no list of commands is stuck there. Only the responses depend on the
+-- source's contents: the others hold for every list of commands, whatever is loaded
 pub record IsSimulated (images certificates : List ℕ → List ℕ → Type 0) (failed_at : Asked → Type 0) (limits : Limits)
     (binding : Bound) (script written : List ℕ) (end : ScriptEnd) : Type 0 where
   pub responses : RunsTo images certificates failed_at limits binding script written end

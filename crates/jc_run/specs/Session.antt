@@ -1,5 +1,5 @@
--- A session: lines that are answered one by one on the card of the defensive machine, which goes on behind a line that
--- is refused. What the source of packages holds is two relations, as for scripts.
+-- A session: lines that are answered one by one on the card of the defensive machine; it goes on after a refused line.
+-- The contents of the source of packages are two relations, as for scripts.
 use Rattle.std.specs.Prelude.{⊤, ◌≡◌, ℕ, false, true, List, [], ◌∷◌, ◌++◌, Option, Some}
 use Rattle.jc_api.specs.Bound.{Bound}
 use Rattle.jc_card.specs.Accesses.{IsApartCard}
@@ -18,7 +18,7 @@ use Rattle.jc_run.specs.Runs.{AreGuarded, answer_lines, anything}
 use Rattle.jc_script.specs.Script.{Apdu, Asks, Bad, Cells, Install, Load, Objects, Reset, ScriptCommand, ScriptLine}
 use Rattle.jc_script.specs.Script.{Skipped, Steps, lines_of, session_line}
 
--- which lines may be refused: one that is none, and a load, of which a file may not be read, or memory may be out
+-- which lines may be refused: one that is none; and a load, if a file can't be read, or memory runs out
 abbrev pub MayRefuse : ScriptLine → Type 0
 MayRefuse Skipped = ⊥
 MayRefuse Bad = ⊤
@@ -30,8 +30,7 @@ MayRefuse (Asks Cells) = ⊥
 MayRefuse (Asks Objects) = ⊥
 MayRefuse (Asks (Steps steps)) = ⊥
 
--- of lines these commands were answered, in their order, and these lines are left. The others say nothing, or were
--- refused
+-- these commands of lines were answered, in order, and these lines are left. The other lines were skipped or refused
 pub data AreAnswered : List (List ℕ) → List ScriptCommand → List (List ℕ) → Type 0 where
   none : (lines : List (List ℕ)) → AreAnswered lines [] lines
   answered : (first : List ℕ) (lines left : List (List ℕ)) (command : ScriptCommand) (commands : List ScriptCommand)
@@ -42,8 +41,8 @@ pub data AreAnswered : List (List ℕ) → List ScriptCommand → List (List ℕ
   refused : (first : List ℕ) (lines left : List (List ℕ)) (commands : List ScriptCommand)
       → MayRefuse (session_line first) → AreAnswered lines commands left → AreAnswered (first ∷ lines) commands left
 
--- how a session ends, on the card behind the commands that were answered: which lines are left, what is written behind
--- the answers, and the end. No line is left; or no line can be read; or of the next command's answer a part is written
+-- the end of a session, on the card after the commands that were answered: which lines are left, what is written after
+-- the answers, and the end. No line is left; or no line can be read; or a part of the next command's answer is written
 pub data SessionEndsWith (images certificates : List ℕ → List ℕ → Type 0) (c : CardState)
     : List (List ℕ) → List ℕ → ScriptEnd → Type 0 where
   over : SessionEndsWith images certificates c [] [] Over
@@ -53,8 +52,8 @@ pub data SessionEndsWith (images certificates : List ℕ → List ℕ → Type 0
       → IsAnswered images certificates c command answer after → IsPart part (answer_line answer)
       → SessionEndsWith images certificates c (next ∷ left) part NotWritten
 
--- lines on a card: the commands that were answered are a run of the card, up to an end. What they are answered is what
--- is written, each answer in a line of its own
+-- lines on a card: the commands that were answered are a run of the card, up to an end. Their answers are what is
+-- written, each answer in a line of its own
 pub record IsHeld (images certificates : List ℕ → List ℕ → Type 0) (lines : List (List ℕ)) (c : CardState)
     (written : List ℕ) (end : ScriptEnd) : Type 0 where
   pub done : List ScriptCommand
@@ -69,7 +68,7 @@ pub record IsHeld (images certificates : List ℕ → List ℕ → Type 0) (line
   pub written_is : written ≡ answer_lines answers ++ part
   pub ends : SessionEndsWith images certificates card left part end
 
--- a session on a new card, which is made first: its limits don't fit, or memory is out for it, and then nothing is read
+-- a session on a new card, which is made first: its limits are bad, or memory runs out for it, and then nothing is read
 pub data SessionRunsTo (images certificates : List ℕ → List ℕ → Type 0) (limits : Limits) (binding : Bound)
     (input : List ℕ) : List ℕ → ScriptEnd → Type 0 where
   unfit : are_limits limits ≡ false → SessionRunsTo images certificates limits binding input [] BadLimits
@@ -78,10 +77,10 @@ pub data SessionRunsTo (images certificates : List ℕ → List ℕ → Type 0) 
       → IsHeld images certificates (lines_of input) (new_card limits binding) written end
       → SessionRunsTo images certificates limits binding input written end
 
--- the theorem: the responses are those of the defensive machine on a new card, with the lines left out that were
--- refused; each access is one that the firewall allows, or is denied, throws and changes nothing; what a context keeps
--- is isolated; on that card the runtime's name is its own; and no list of commands is stuck there. Only the responses
--- hang on what the source holds
+-- the theorem: the responses are those of the defensive machine on a new card, without the refused lines; each access
+-- is one that the firewall allows, or is denied, throws and changes nothing; contexts are isolated; on that card only
+-- the runtime runs as the runtime; and no list of commands is stuck there. Only the responses depend on the source's
+-- contents
 pub record IsSessionSimulated (images certificates : List ℕ → List ℕ → Type 0) (limits : Limits) (binding : Bound)
     (input written : List ℕ) (end : ScriptEnd) : Type 0 where
   pub responses : SessionRunsTo images certificates limits binding input written end
@@ -90,15 +89,14 @@ pub record IsSessionSimulated (images certificates : List ℕ → List ℕ → T
   pub apart : IsApartCard (new_card limits binding)
   pub never_stuck : IsNeverStuck anything anything (new_card limits binding)
 
--- what was written behind what was there, and how it ended, is what the session comes to on a new card: the theorem
--- holds of it
+-- what was appended to the output, and the end, are those of the session on a new card: the theorem holds for it
 pub record HasHeld (images certificates : List ℕ → List ℕ → Type 0) (limits : Limits) (binding : Bound)
     (input before : List ℕ) (now : Option (List ℕ)) (end : ScriptEnd) : Type 0 where
   pub written : List ℕ
   pub simulated : IsSessionSimulated images certificates limits binding input written end
   pub now_is : now ≡ Some (before ++ written)
 
--- the same of a session on a card that is there
+-- the same for a session on an existing card
 pub record ConversesOn (images certificates : List ℕ → List ℕ → Type 0) (bytes : List ℕ) (c : CardState)
     (before : List ℕ) (now : Option (List ℕ)) (end : ScriptEnd) : Type 0 where
   pub written : List ℕ

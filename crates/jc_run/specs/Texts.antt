@@ -1,4 +1,4 @@
--- The words for the end of a script, but for those of the system and of the reader.
+-- The words of a script's faults, except for those of the system and of the reader.
 use Rattle.std.specs.Prelude.{ℕ, List, ◌++◌, codes, Option, Some, None}
 use Rattle.std.specs.Fmt.{decimal}
 use Rattle.jc_run.specs.declared.fault.ScriptFault.{ScriptFault}

@@ -1,9 +1,9 @@
-//! What is answered to the commands of a script.
+//! The answers to the commands of a script.
 
 use jc_base::LoadFault;
 use jc_card::{Answer, InstallFault};
 
-/// What is answered to a command.
+/// The answer to a command.
 #[derive(Debug, Drop)]
 pub enum CommandAnswer {
     /// A package is loaded, and has this number.
@@ -14,7 +14,7 @@ pub enum CommandAnswer {
     Installed(u8),
     /// The applet isn't installed.
     NotInstalled(InstallFault),
-    /// A command of a reader is answered so.
+    /// The answer to a command of a reader.
     Responds(Answer),
     /// The card is reset.
     Reset,
@@ -22,6 +22,6 @@ pub enum CommandAnswer {
     Cells { used: u16, most: u16 },
     /// How many objects there are, and how many there may be.
     Objects { used: u16, most: u16 },
-    /// A call may make so many steps from now on.
+    /// Sets how many steps a call may make from now on.
     Steps(u32),
 }

@@ -29,7 +29,7 @@ struct PackageFiles {
     certificate: Vec<u8>,
 }
 
-/// The image is asked for first.
+/// Reads the files of a package, the image first.
 fn files_of<S: PackageSource>(
     alloc: Global,
     source: &mut S,
@@ -76,7 +76,7 @@ fn install(card: &mut Card, applet: &Aid, instance: &Aid, incoming: &[u8]) -> Co
     }
 }
 
-/// Answers a command of a reader.
+/// Performs a command of a reader.
 fn respond(card: &mut Card, bytes: &[u8]) -> CommandAnswer
     ensures { Does card.old card.new (λ response. shown result ≡ Responds response) (λ c. apdu_command c bytes.now) }
 {
@@ -103,7 +103,7 @@ fn objects(card: &Card) -> CommandAnswer
     }
 }
 
-/// Says how many steps a call may make from now on.
+/// Sets how many steps a call may make from now on.
 fn set_steps(card: &mut Card, steps: u32) -> CommandAnswer
     ensures held { (c : CardState) → Holds card.old c → Holds card.new (with_steps c steps) }
     ensures answer { shown result ≡ answers.Steps steps }
@@ -112,8 +112,8 @@ fn set_steps(card: &mut Card, steps: u32) -> CommandAnswer
     CommandAnswer::Steps(steps)
 }
 
-/// Does a command on a card. Only a load can fail, and only for what the source says of one of its files. It asks for
-/// the image before the certificate, and for both before anything is loaded.
+/// Performs a command on a card. Only a load can fail, and only with a fault of the source for one of its files. It
+/// reads the image before the certificate, and both before anything is loaded.
 pub fn perform<S: PackageSource>(
     card: &mut Card,
     alloc: Global,

@@ -10,8 +10,8 @@ use std::{fmt, io};
 /// Why a script ends before its last line.
 #[derive(Debug, Drop)]
 pub enum ScriptFault {
-    /// The line with this number, from 1 on, is no command, for this reason: it says something else, is too long, or is
-    /// one too many.
+    /// The line with this number, from 1 on, is no command, for this reason: it means something else, is too long, or
+    /// its number is too great.
     BadLine { number: u32, fault: LineFault },
     /// A package or a certificate that the line with this number names can't be read.
     Source(u32),
@@ -21,7 +21,7 @@ pub enum ScriptFault {
     Write(io::Error),
     /// One of the card's limits is too small or too large.
     BadLimits,
-    /// No memory was left for the card, or for what a line names.
+    /// Memory ran out for the card, or for what a line names.
     Memory,
 }
 
@@ -49,7 +49,7 @@ impl fmt::Display for ScriptFault {
 
 impl Error for ScriptFault {}
 
-/// Why there is no card.
+/// Why no card is made.
 impl From<CardFault> for ScriptFault {
     ghost use Rattle.jc_run.specs.End.{card_fault};
 

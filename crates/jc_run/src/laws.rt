@@ -1,5 +1,5 @@
-//! What is known of all commands of the defensive machine's card (Java Card Runtime Environment Specification, Applet
-//! Isolation and Object Sharing).
+//! Laws of all commands of the defensive machine's card (Java Card Runtime Environment Specification, Applet Isolation
+//! and Object Sharing).
 
 ghost use Rattle.std.specs.Prelude.{◌<◌, ℕ, List, IsSome};
 ghost use Rattle.jc_api.specs.Bound.{Bound};
@@ -22,8 +22,8 @@ use jc_card::{
 };
 use jc_natives::members_keep_what_is_kept;
 
-/// Whatever is loaded, the accesses of each command on each card are guarded, what a context keeps is isolated, and
-/// each run leaves a card apart that was; a new card is one, and no list of commands is stuck there. It does nothing.
+/// Whatever is loaded, the accesses of each command on each card are guarded, contexts are isolated, and runs keep
+/// cards apart. A new card is apart, and no list of commands is stuck there. It does nothing.
 pub(crate) fn commands_are_lawful()
     ensures guarded { AreGuarded anything anything }
     ensures isolated { AreIsolated anything anything }
@@ -41,7 +41,7 @@ pub(crate) fn commands_are_lawful()
     accesses_add_up();
 }
 
-/// A session may refuse a line that is no command, and a load; no other line. It does nothing.
+/// A session may refuse only a line that is no command, and a load. It does nothing.
 pub fn sessions_refuse_no_other_line()
     ensures apdu { (bytes : List ℕ) → MayRefuse (Asks (Apdu bytes)) → ⊥ }
     ensures install { (applet instance incoming : List ℕ) → MayRefuse (Asks (Install applet instance incoming)) → ⊥ }

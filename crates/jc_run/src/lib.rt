@@ -1,4 +1,4 @@
-//! Scripts that are played on a card.
+//! Playing scripts on a card.
 #![tactic(auto)]
 
 mod answer;

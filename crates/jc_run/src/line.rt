@@ -1,4 +1,4 @@
-//! The lines of answers, as they are put together.
+//! The lines of answers.
 
 ghost use Rattle.std.specs.Prelude.{◌≡◌, ◌++◌, [], codes, OnOk};
 ghost use Rattle.hex.specs.Hex.{encode_upper};
@@ -11,13 +11,13 @@ use jc_card::InstallFault;
 use jc_script::put_digits;
 use std::io::{self, Write};
 
-/// The most bytes of an answer's line: two digits for each of 256 bytes, and what stands around them.
+/// The most bytes of an answer's line: two digits for each of 256 bytes, and the words around them.
 const MOST_IN_ANSWER: usize = 526;
 
-/// The line of an answer, as far as it is put together.
+/// The line of an answer, or its beginning.
 pub(crate) type AnswerLine = ArrayVec<u8, MOST_IN_ANSWER>;
 
-/// Puts bytes behind a line.
+/// Appends bytes to a line.
 fn put_bytes(line: &mut AnswerLine, bytes: &[u8]) -> io::Result<()>
     ensures { OnOk result (line.new.items ≡ line.old.items ++ bytes.now) }
 {
@@ -27,7 +27,7 @@ fn put_bytes(line: &mut AnswerLine, bytes: &[u8]) -> io::Result<()>
     }
 }
 
-/// Puts bytes behind a line, in hexadecimal.
+/// Appends bytes to a line, in hexadecimal.
 fn put_hexadecimal(line: &mut AnswerLine, bytes: &[u8]) -> io::Result<()>
     ensures { OnOk result (line.new.items ≡ line.old.items ++ encode_upper bytes.now) }
 {
@@ -37,7 +37,7 @@ fn put_hexadecimal(line: &mut AnswerLine, bytes: &[u8]) -> io::Result<()>
     }
 }
 
-/// Puts a status word behind a line, as four digits.
+/// Appends a status word to a line, as four digits.
 fn put_status(line: &mut AnswerLine, status: u16) -> io::Result<()>
     ensures { OnOk result (line.new.items ≡ line.old.items ++ status_text status) }
 {
@@ -45,7 +45,7 @@ fn put_status(line: &mut AnswerLine, status: u16) -> io::Result<()>
     put_hexadecimal(line, &bytes)
 }
 
-/// Puts the answer to a reader behind a line: the status, and data before it where any are sent.
+/// Appends the answer to a reader to a line: the status, and before it the data, if any were sent.
 fn put_response(line: &mut AnswerLine, sent: &[u8], status: u16) -> io::Result<()>
     ensures { OnOk result (line.new.items ≡ line.old.items ++ response_line sent.now status) }
 {
@@ -59,7 +59,7 @@ fn put_response(line: &mut AnswerLine, sent: &[u8], status: u16) -> io::Result<(
     put_status(line, status)
 }
 
-/// Puts a failed install behind a line, with its status.
+/// Appends a failed install to a line, with its status.
 fn put_failed_install(line: &mut AnswerLine, status: u16) -> io::Result<()>
     ensures { OnOk result (line.new.items ≡ line.old.items ++ (codes "24 InstallFailed " ++ status_text status)) }
 {
@@ -67,7 +67,7 @@ fn put_failed_install(line: &mut AnswerLine, status: u16) -> io::Result<()>
     put_status(line, status)
 }
 
-/// Puts the number and the name of a refusal behind a line, and the status of an install that failed.
+/// Appends the number and the name of a refusal to a line, and the status of an install that failed.
 fn put_refusal(line: &mut AnswerLine, fault: InstallFault) -> io::Result<()>
     ensures { OnOk result (line.new.items ≡ line.old.items ++ install_words fault) }
 {
@@ -80,7 +80,7 @@ fn put_refusal(line: &mut AnswerLine, fault: InstallFault) -> io::Result<()>
     }
 }
 
-/// Puts a refused install behind a line.
+/// Appends a refused install to a line.
 fn put_refused_install(line: &mut AnswerLine, fault: InstallFault) -> io::Result<()>
     ensures { OnOk result (line.new.items ≡ line.old.items ++ (codes "refused " ++ install_words fault)) }
 {
@@ -88,7 +88,7 @@ fn put_refused_install(line: &mut AnswerLine, fault: InstallFault) -> io::Result
     put_refusal(line, fault)
 }
 
-/// Puts an answer behind a line. Those to a reader are the frequent ones: nothing of them is formatted.
+/// Appends an answer to a line. Those to a reader are the most frequent, so they aren't formatted.
 fn put_answer(line: &mut AnswerLine, answer: &CommandAnswer) -> io::Result<()>
     ensures { OnOk result (line.new.items ≡ line.old.items ++ line_of (shown answer.now)) }
 {
@@ -107,7 +107,7 @@ fn put_answer(line: &mut AnswerLine, answer: &CommandAnswer) -> io::Result<()>
     }
 }
 
-/// Puts the line of an answer into an empty line, with its line feed.
+/// Writes the line of an answer to an empty line, with its line feed.
 pub(crate) fn put_line(line: &mut AnswerLine, answer: &CommandAnswer) -> io::Result<()>
     requires { line.old.items ≡ [] }
     ensures { OnOk result (line.new.items ≡ answer_line (shown answer.now)) }

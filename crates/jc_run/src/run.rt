@@ -1,4 +1,4 @@
-//! Scripts, line by line.
+//! Playing scripts line by line.
 
 ghost use Rattle.std.specs.Prelude.{false, ◌≡◌, ◌+◌, ◌<◌, ◌≤◌, ◌^◌, ℕ, List, Some, IfOk, IfErr, OnOk, length};
 ghost use Rattle.jc_machine.specs.Limits.{are_limits};
@@ -29,7 +29,7 @@ use jc_source::{PackageSource, SourceFault};
 use std::alloc::Global;
 use std::io::{Read, Write};
 
-/// Does the command of the line with a number, and writes its answer.
+/// Performs the command of the line with a number, and writes its answer.
 fn play_command<W: Write, S: PackageSource, T: Teller<S>>(
     alloc: Global,
     writer: &mut W,
@@ -66,7 +66,7 @@ fn play_command<W: Write, S: PackageSource, T: Teller<S>>(
     }
 }
 
-/// Does what the line with a number says.
+/// Plays the line with a number.
 fn play_line<W: Write, S: PackageSource, T: Teller<S>>(
     alloc: Global,
     writer: &mut W,
@@ -103,7 +103,7 @@ fn play_line<W: Write, S: PackageSource, T: Teller<S>>(
     }
 }
 
-/// What is wrong with a line that isn't read whole: it is one too many, or too long.
+/// The fault of a line that isn't read whole: its number is too great, or it is too long.
 fn unread_fault(number: u32) -> LineFault
     ensures { result ≡ unread_fault number }
 {
@@ -120,7 +120,7 @@ fn unread_fault(number: u32) -> LineFault
     }
 }
 
-/// Reads the line with a number, and says whether there is one.
+/// Reads the line with a number, and returns whether there is one.
 fn read_line<R: Read>(
     reader: &mut R,
     lines: &mut ScriptReader,
@@ -144,7 +144,7 @@ fn read_line<R: Read>(
     }
 }
 
-/// Reads the line with a number and does what it says. Says whether there is one.
+/// Reads and plays the line with a number, and returns whether there is one.
 fn play_next<R: Read, W: Write, S: PackageSource, T: Teller<S>>(
     alloc: Global,
     reader: &mut R,
@@ -177,7 +177,7 @@ fn play_next<R: Read, W: Write, S: PackageSource, T: Teller<S>>(
     Ok(true)
 }
 
-/// What comes behind the last line that a script may have: nothing, or a bad line.
+/// Reads past the last line that a script may have: nothing follows, or a bad line.
 fn play_end<R: Read>(
     reader: &mut R,
     lines: &mut ScriptReader,
@@ -198,9 +198,9 @@ fn play_end<R: Read>(
     }
 }
 
-/// Plays a script on a card. A line is read when the answer to the one before it is written and flushed. Each answer
-/// stands in a line of its own. A fault leaves the lines before it written, and a fault of the writer a part of the
-/// line that couldn't be written. Behind each answer the teller is told of it.
+/// Plays a script on a card. It reads a line after the answer to the one before it is written and flushed. Each answer
+/// has a line of its own. If it fails, the lines before are written, and if the writer fails, a part of the line that
+/// couldn't be written. After each answer it informs the teller.
 pub fn play<R: Read, W: Write, S: PackageSource, T: Teller<S>>(
     alloc: Global,
     reader: &mut R,
@@ -231,8 +231,8 @@ pub fn play<R: Read, W: Write, S: PackageSource, T: Teller<S>>(
     play_end(reader, &mut lines, number)
 }
 
-/// Plays a script on a new card, without packages beside the API's, whose AIDs and tokens a binding says, within
-/// limits. Nothing is read where the limits are too small or too large.
+/// Plays a script on a new card with only the API's packages, with the AIDs and tokens of a binding, and within limits.
+/// It reads nothing if the limits are too small or too large.
 pub fn run_script<R: Read, W: Write, S: PackageSource, T: Teller<S>>(
     alloc: Global,
     reader: &mut R,

@@ -1,4 +1,4 @@
-//! Sessions: lines that are answered one by one, on a card that stays behind a line that is refused.
+//! Sessions: lines that are answered one by one, on a card that stays after a refused line.
 
 ghost use Rattle.std.specs.Prelude.{false, ◌≡◌, ◌<◌, ◌≤◌, ◌^◌, ℕ, List, Some, IfOk, IfErr, OnOk, length};
 ghost use Rattle.jc_machine.specs.Limits.{are_limits};
@@ -29,7 +29,7 @@ use jc_source::{PackageSource, SourceFault};
 use std::alloc::Global;
 use std::io::{Read, Write};
 
-/// The most readings of a source that may fail.
+/// The most reads of a source that may fail.
 const MOST_FAILURES: u32 = 2_147_483_647;
 
 /// A line that is too long.
@@ -38,7 +38,7 @@ const TOO_LONG: LineRefusal = LineRefusal::Bad(LineFault {
     column: MOST_IN_LINE + 1,
 });
 
-/// Why a load is refused, by what the source says.
+/// The refusal of a load for a fault of the source.
 fn refusal_of(fault: SourceFault) -> LineRefusal {
     match fault {
         SourceFault::Failed => LineRefusal::Source,
@@ -46,7 +46,7 @@ fn refusal_of(fault: SourceFault) -> LineRefusal {
     }
 }
 
-/// Does a command and writes its answer, or tells that its files can't be read.
+/// Performs a command and writes its answer, or reports that its files can't be read.
 fn converse_command<W: Write, S: PackageSource, T: Teller<S>>(
     alloc: Global,
     writer: &mut W,
@@ -84,7 +84,7 @@ fn converse_command<W: Write, S: PackageSource, T: Teller<S>>(
     }
 }
 
-/// Does what a line says, or tells what is wrong with it.
+/// Plays a line, or reports its fault.
 fn converse_line<W: Write, S: PackageSource, T: Teller<S>>(
     alloc: Global,
     writer: &mut W,
@@ -121,7 +121,7 @@ fn converse_line<W: Write, S: PackageSource, T: Teller<S>>(
     }
 }
 
-/// Reads a line and does what it says. Says whether there is one.
+/// Reads and plays a line, and returns whether there is one.
 fn converse_next<R: Read, W: Write, S: PackageSource, T: Teller<S>>(
     alloc: Global,
     reader: &mut R,
@@ -157,9 +157,9 @@ fn converse_next<R: Read, W: Write, S: PackageSource, T: Teller<S>>(
     }
 }
 
-/// Answers lines on a card, one by one, to their end. A line is read when the answer to the one before it is written
-/// and flushed. A line that is no command, or whose files can't be read, is told to the teller, and then the next line
-/// is read.
+/// Answers lines on a card, one by one, to their end. It reads a line after the answer to the one before it is written
+/// and flushed. It reports a line that is no command, or whose files can't be read, to the teller, and then reads the
+/// next line.
 pub fn converse<R: Read, W: Write, S: PackageSource, T: Teller<S>>(
     alloc: Global,
     reader: &mut R,
@@ -189,8 +189,8 @@ pub fn converse<R: Read, W: Write, S: PackageSource, T: Teller<S>>(
     Err(ScriptFault::Read(ReadFault::TooManyReads))
 }
 
-/// Answers lines on a new card, without packages beside the API's, whose AIDs and tokens a binding says, within limits.
-/// Nothing is read where the limits are too small or too large.
+/// Answers lines on a new card with only the API's packages, with the AIDs and tokens of a binding, and within limits.
+/// It reads nothing if the limits are too small or too large.
 pub fn run_session<R: Read, W: Write, S: PackageSource, T: Teller<S>>(
     alloc: Global,
     reader: &mut R,

@@ -1,4 +1,4 @@
-//! What is told beside the answers of lines.
+//! Reports besides the answers of lines.
 
 use crate::answer::CommandAnswer;
 use jc_firewall::Denial;
@@ -10,17 +10,16 @@ use jc_script::LineFault;
 pub enum LineRefusal {
     /// It is no command.
     Bad(LineFault),
-    /// The package or the certificate that it names can't be read: the source says why.
+    /// The package or the certificate that it names can't be read, as the source reports.
     Source,
-    /// No memory was left for what it names.
+    /// Memory ran out for what it names.
     Memory,
 }
 
-/// Who is told of lines, beside the answers that are written. What comes of a line doesn't hang on it.
+/// The receiver of reports besides the answers that are written. No result of a line depends on it.
 pub trait Teller<S> {
     /// The line with a number, from 1 on, was answered. `stopped` is the frame in which the last call of an applet
-    /// stopped, if it did. Where that is by a SecurityException, `denial` says what the firewall denied, if that is
-    /// known.
+    /// stopped, if it did. If it stopped with a SecurityException, `denial` is the firewall's denial, if that is known.
     fn answered(
         &mut self,
         number: u64,
@@ -29,6 +28,6 @@ pub trait Teller<S> {
         stopped: Option<&ShownFrame>,
     );
 
-    /// A line of a session wasn't, and the session goes on.
+    /// A line of a session wasn't answered, and the session goes on.
     fn refused(&mut self, number: u64, refusal: &LineRefusal, source: &S);
 }

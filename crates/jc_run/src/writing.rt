@@ -1,4 +1,4 @@
-//! How lines of answers are written.
+//! Writing the lines of answers.
 
 ghost use Rattle.std.specs.Prelude.{◌≡◌, ◌≤◌, length, take, IfOk, OnOk, OnErr};
 ghost use Rattle.std.specs.Io.KnownBytes.{Appends, Keeps};
@@ -14,7 +14,7 @@ use std::io::{self, Write};
 /// The most calls of a writer for one line.
 const MOST_CALLS: u32 = 16_777_216;
 
-/// Writes the first of these bytes: how many. A call that was broken off wrote none.
+/// Writes the first of these bytes, and returns how many. A call that was interrupted wrote none.
 fn write_some<W: Write>(writer: &mut W, bytes: &[u8]) -> io::Result<usize>
     ensures few { IfOk result (λ count. count ≤ length bytes.now) }
     ensures written { IfOk result (λ count. Appends (W.contents writer.old) (W.contents writer.new)
@@ -29,7 +29,7 @@ fn write_some<W: Write>(writer: &mut W, bytes: &[u8]) -> io::Result<usize>
     }
 }
 
-/// Writes these bytes, or the first of them.
+/// Writes these bytes, or after a fault the first of them.
 fn write_whole<W: Write>(writer: &mut W, bytes: &[u8]) -> io::Result<()>
     ensures written { OnOk result (Appends (W.contents writer.old) (W.contents writer.new) bytes.now) }
     ensures part { OnErr result (AppendsPart (W.contents writer.old) (W.contents writer.new) bytes.now) }
@@ -44,7 +44,7 @@ fn write_whole<W: Write>(writer: &mut W, bytes: &[u8]) -> io::Result<()>
     Err(io::Error::from(io::ErrorKind::Interrupted))
 }
 
-/// Writes these bytes, or the first of them, and no byte waits behind them.
+/// Writes these bytes and flushes the writer, or after a fault writes the first of them.
 fn write_through<W: Write>(writer: &mut W, bytes: &[u8]) -> io::Result<()>
     ensures written { OnOk result (Appends (W.contents writer.old) (W.contents writer.new) bytes.now) }
     ensures part { OnErr result (AppendsPart (W.contents writer.old) (W.contents writer.new) bytes.now) }
@@ -53,7 +53,7 @@ fn write_through<W: Write>(writer: &mut W, bytes: &[u8]) -> io::Result<()>
     writer.flush()
 }
 
-/// Writes the line of an answer whole, with its line feed, and flushes the writer. Where that fails the first bytes of
+/// Writes the whole line of an answer, with its line feed, and flushes the writer. If that fails, the first bytes of
 /// the line may be written.
 pub(crate) fn write_answer<W: Write>(writer: &mut W, answer: &CommandAnswer) -> io::Result<()>
     ensures written { OnOk result (Appends (W.contents writer.old) (W.contents writer.new)

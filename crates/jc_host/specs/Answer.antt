@@ -1,4 +1,4 @@
--- The lines that answers are printed as.
+-- The printed lines of answers.
 use Rattle.std.specs.Prelude.{ℕ, List, ◌++◌, codes}
 use Rattle.std.specs.Fmt.{decimal, signed_decimal}
 use Rattle.jc_base.specs.Reason.{name_of}
@@ -6,7 +6,7 @@ use Rattle.jc_host.specs.declared.answer.EvalAnswer.{EvalAnswer}
 use Rattle.jc_host.specs.declared.answer.EvalAnswer.TheVariants.{Value, Throws, Refused, BadCertificate, StepsUsedUp}
 use Rattle.jc_host.specs.declared.answer.EvalAnswer.TheVariants.{Memory}
 
--- what is printed of `eval`, numbers in decimal
+-- the line of an answer of `eval`, numbers in decimal
 abbrev pub line_of : EvalAnswer → List ℕ
 line_of (Value n) = codes "value " ++ signed_decimal n
 line_of Throws = codes "throws ArithmeticException"

@@ -1,4 +1,4 @@
--- The binding of the API's packages in a file: what it says, and why it says none.
+-- The binding of the API's packages in a file, and why there is none.
 use Rattle.std.specs.Prelude.{◌≡◌, ℕ, List, Option, Some, None, Ok, Err}
 use Rattle.std.specs.Borrow.{Bor}
 use Rattle.std.specs.Str.{IsUtf8}
@@ -16,17 +16,17 @@ use Rattle.jc_host.specs.declared.files.FileFault.{FileFault}
 abbrev pub most_binding : ℕ
 most_binding = 1048576
 
--- bytes are a text, which says this binding
+-- bytes are a text that encodes this binding
 pub record SaysBinding (bytes : List ℕ) (binding : Bound) : Type 0 where
   pub text : IsUtf8 bytes
   pub says : binding_of bytes ≡ Ok binding
 
--- bytes are a text, which is no binding for this fault
+-- bytes are a text that is no binding, with this fault
 pub record SaysNoBinding (bytes : List ℕ) (fault : BindingFault) : Type 0 where
   pub text : IsUtf8 bytes
   pub says : binding_of bytes ≡ Err fault
 
--- why bytes say no binding
+-- why bytes encode no binding
 abbrev pub IsNoBinding : List ℕ → FileCause → Type 0
 IsNoBinding bytes (System error) = ⊥
 IsNoBinding bytes NoFolder = ⊥
@@ -37,19 +37,19 @@ IsNoBinding bytes (NoBinding fault) = SaysNoBinding bytes fault
 IsNoBinding bytes NoCertificate = ⊥
 IsNoBinding bytes (LongCertificate limit) = ⊥
 
--- the file under a path is the text of this binding
+-- the file at a path encodes this binding
 pub record HasBinding (holds : Entry → Type 0) (binding : Bound) : Type 0 where
   pub bytes : List ℕ
   pub content : IsContent holds most_binding bytes
   pub says : SaysBinding bytes binding
 
--- the file under a path is read, and says no binding
+-- the file at a path is read, and encodes no binding
 pub record HasNoBinding (holds : Entry → Type 0) (cause : FileCause) : Type 0 where
   pub bytes : List ℕ
   pub content : IsContent holds most_binding bytes
   pub says : IsNoBinding bytes cause
 
--- why no binding is read under a path
+-- why no binding is read at a path
 abbrev pub IsUnbound : (Entry → Type 0) → FileCause → Type 0
 IsUnbound holds (System error) = holds (failing error)
 IsUnbound holds NoFolder = ⊥

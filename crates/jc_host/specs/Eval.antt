@@ -1,5 +1,5 @@
--- What `eval` answers: the bad certificate first, then the first fault, then the end of the defensive machine's run
--- with the given steps.
+-- The answer of `eval`: first for a bad certificate, then for the first fault, then for the end of the defensive
+-- machine's run with the given steps.
 use Rattle.std.specs.Prelude.{⊤, ◌≡◌, ◌≢◌, ℕ, ℤ, List, Bool, true, false}
 use Rattle.jc_base.specs.declared.reason.Reason.{Reason}
 use Rattle.jc_cert.specs.Cert.{Row, IsCert}
@@ -16,23 +16,23 @@ use Rattle.jc_host.specs.declared.answer.EvalAnswer.TheVariants.{Memory}
 use Rattle.jc_words.specs.Shorts.{short}
 use Rattle.jc_machine.specs.Step.{CallEnd}
 
--- the bytes spell a certificate of these rows
+-- the bytes encode a certificate with these rows
 pub record SpellsCert (bytes : List ℕ) (rows : List Row) : Type 0 where
   pub cert : IsCert rows
   pub bytes_are : bytes ≡ spelling rows
 
--- the bytes spell no certificate
+-- the bytes encode no certificate
 abbrev pub SpellsNone : List ℕ → Type 0
 SpellsNone bytes = (rows : List Row) → SpellsCert bytes rows → ⊥
 
--- the first fault of the code, with the certificate that the bytes spell
+-- the first fault of the code, with the certificate that the bytes encode
 pub record HasFirstFault (code bytes : List ℕ) (pc : ℕ) (reason : Reason) : Type 0 where
   pub rows : List Row
   pub spelled : SpellsCert bytes rows
   pub first : IsFirstFaultOf code (states_of rows) (fault_at pc reason)
 
--- the certificate that the bytes spell carries the code, and the defensive machine's run of it with so many steps ends
--- so
+-- the certificate that the bytes encode carries the code, and the defensive machine's run of it with the given steps
+-- has this end
 pub record RunEnds (code bytes : List ℕ) (steps : ℕ) (IsEnd : CallEnd ⊤ → Type 0) : Type 0 where
   pub rows : List Row
   pub spelled : SpellsCert bytes rows
@@ -41,13 +41,13 @@ pub record RunEnds (code bytes : List ℕ) (steps : ℕ) (IsEnd : CallEnd ⊤ �
   pub whole : IsListing word_instr_at code listing
   pub run : IsEnd (alone_call listing steps).ends
 
--- the run gives a word, which is the short n
+-- the run returns a word, which is the short n
 pub record RunGives (code bytes : List ℕ) (steps : ℕ) (n : ℤ) : Type 0 where
   pub word : ℕ
   pub is : n ≡ short word
   pub ends : RunEnds code bytes steps (GivesWord word)
 
--- an answer tells a fault of the code
+-- an answer is a fault of the code
 abbrev pub tells_fault : EvalAnswer → Bool
 tells_fault (Value n) = false
 tells_fault Throws = false
@@ -56,7 +56,7 @@ tells_fault BadCertificate = false
 tells_fault StepsUsedUp = false
 tells_fault Memory = false
 
--- an answer tells the end of a run
+-- an answer is the end of a run
 abbrev pub tells_end : EvalAnswer → Bool
 tells_end (Value n) = true
 tells_end Throws = true
@@ -65,16 +65,16 @@ tells_end BadCertificate = false
 tells_end StepsUsedUp = true
 tells_end Memory = false
 
--- the answer to code and the bytes of a certificate, with so many steps
+-- the answer to code and the bytes of a certificate, with the given steps
 pub record IsAnswer (answer : EvalAnswer) (code bytes : List ℕ) (steps : ℕ) : Type 0 where
-  -- what each answer means
+  -- the meaning of each answer
   pub bad_certificate : answer ≡ BadCertificate → SpellsNone bytes
   pub refused : (pc : ℕ) (reason : Reason) → answer ≡ Refused pc reason → HasFirstFault code bytes pc reason
   pub value : (n : ℤ) → answer ≡ Value n → RunGives code bytes steps n
   pub throws : answer ≡ Throws → RunEnds code bytes steps ThrowsArithmetic
   pub steps_used_up : answer ≡ StepsUsedUp → RunEnds code bytes steps UsesUp
-  -- and when each comes, unless memory is out: bytes that spell none, a certificate that doesn't carry the code,
-  -- and one that does
+  -- and when each is given, unless memory runs out: for bytes that encode no certificate, for a certificate that
+  -- doesn't carry the code, and for one that does
   pub unspelled : SpellsNone bytes → answer ≢ Memory → answer ≡ BadCertificate
   pub uncarried : (rows : List Row) → SpellsCert bytes rows → (CertCarriesCode code rows → ⊥) → answer ≢ Memory
       → tells_fault answer ≡ true

@@ -1,4 +1,4 @@
--- Packages in folders: the image that a folder holds, and the first fault where it holds none.
+-- Packages in folders: the image in a folder, and the first fault if there is none.
 use Rattle.std.specs.Prelude.{◌≡◌, ◌++◌, ◌∷◌, [], ℕ, List, Option, Some, None, codes}
 use Rattle.std.specs.List.{AllZip}
 use Rattle.std.specs.IoError.{error_kind}
@@ -18,28 +18,28 @@ components =
     codes "Header.cap" ∷ codes "Applet.cap" ∷ codes "Import.cap" ∷ codes "ConstantPool.cap" ∷ codes "Class.cap"
     ∷ codes "Method.cap" ∷ codes "StaticField.cap" ∷ codes "Export.cap" ∷ codes "Descriptor.cap" ∷ []
 
--- the most bytes of a component's file: a tag, a size of two bytes, and as many as that can say
+-- the most bytes of a component's file: a tag, a size of two bytes, and the greatest such size
 abbrev pub most_component : ℕ
 most_component = 65538
 
--- the image that files make: the bytes of each that is there, one behind the other
+-- the image of files: the bytes of each existing one, one after the other
 abbrev pub image_of : List (Option (List ℕ)) → List ℕ
 image_of [] = []
 image_of (None ∷ more) = image_of more
 image_of (Some bytes ∷ more) = bytes ++ image_of more
 
--- nothing is under a path
+-- there is nothing at a path
 pub record IsAbsent (holds : Entry → Type 0) : Type 0 where
   pub error : Error
   pub told : holds (failing error)
   pub kind : error_kind error ≡ NotFound
 
--- the file of a component has these bytes, or isn't there
+-- the file of a component has these bytes, or doesn't exist
 abbrev pub IsComponent : (Entry → Type 0) → Option (List ℕ) → Type 0
 IsComponent holds None = IsAbsent holds
 IsComponent holds (Some bytes) = IsContent holds most_component bytes
 
--- why the file of a component isn't read, though something is there
+-- why the file of a component isn't read, although something is there
 abbrev pub IsNoComponent : (Entry → Type 0) → FileCause → Type 0
 IsNoComponent holds (System error) = holds (failing error) × (error_kind error ≡ NotFound → ⊥)
 IsNoComponent holds NoFolder = ⊥
@@ -50,7 +50,7 @@ IsNoComponent holds (NoBinding fault) = ⊥
 IsNoComponent holds NoCertificate = ⊥
 IsNoComponent holds (LongCertificate limit) = ⊥
 
--- why no folder is under a path
+-- why there is no folder at a path
 abbrev pub IsNoFolder : (Entry → Type 0) → FileCause → Type 0
 IsNoFolder holds (System error) = holds (failing error)
 IsNoFolder holds NoFolder = IsFile holds
@@ -61,7 +61,7 @@ IsNoFolder holds (NoBinding fault) = ⊥
 IsNoFolder holds NoCertificate = ⊥
 IsNoFolder holds (LongCertificate limit) = ⊥
 
--- the first fault of names that are read in their order: those before it are read
+-- the first fault of names that are read in order: those before it are read
 pub data FailsFirst {A : Type 0} (IsRead : List ℕ → A → Type 0) (Fails : List ℕ → FileFault → Type 0)
     : List (List ℕ) → FileFault → Type 0 where
   here : (name : List ℕ) (names : List (List ℕ)) (fault : FileFault) → Fails name fault
@@ -70,7 +70,7 @@ pub data FailsFirst {A : Type 0} (IsRead : List ℕ → A → Type 0) (Fails : L
       → FailsFirst IsRead Fails names fault
       → FailsFirst IsRead Fails (name ∷ names) fault
 
--- the file in a folder with a component's name has these bytes, or isn't there
+-- the file in a folder with a component's name has these bytes, or doesn't exist
 abbrev pub IsComponentIn : (List ℕ → Entry → Type 0) → List ℕ → List ℕ → Option (List ℕ) → Type 0
 IsComponentIn holds folder_path name = IsComponent (holds (path_join folder_path name))
 
@@ -91,7 +91,7 @@ pub record IsImage (holds : List ℕ → Entry → Type 0) (folder_path image : 
   pub there : holds folder_path folder
   pub joined : AreJoined holds folder_path components image
 
--- why a folder holds no image: there is none, or one of its files isn't read
+-- why a folder has no image: there is no folder, or one of its files isn't read
 pub data IsFolderFault (holds : List ℕ → Entry → Type 0) (folder_path : List ℕ) (fault : FileFault) : Type 0 where
   no_folder : IsFaultAt folder_path (IsNoFolder (holds folder_path)) fault → IsFolderFault holds folder_path fault
   component : holds folder_path folder

@@ -1,4 +1,4 @@
--- Private. The answer to how a run ends.
+-- Private. The answer for the end of a run.
 use Rattle.jc_host.specs.declared.answer.EvalAnswer.{EvalAnswer}
 use Rattle.jc_host.specs.declared.answer.EvalAnswer.TheVariants.{Value, Throws, StepsUsedUp}
 use Rattle.jc_eval.specs.declared.run.CodeEnd.{CodeEnd}

@@ -1,4 +1,4 @@
--- Private. What is said to the texts of code and a certificate.
+-- Private. The message for the texts of code and a certificate.
 use Rattle.std.specs.Prelude.{ℕ, List}
 use Rattle.jc_host.specs.Saying.{IsFailure, IsSuccess}
 use Rattle.jc_host.specs.Texts.{AnswersTexts, IsTextFault}

@@ -1,4 +1,4 @@
--- What the program says to a command line: a message, the stream that it is written to, and the exit status.
+-- The program's output for a command line: a message, its stream, and the exit status.
 use Rattle.std.specs.Prelude.{⊤, ◌≡◌, ◌⊎◌, ◌++◌, ℕ, Bool, true, false, List, [], Option, Some, None, option_map, codes}
 use Rattle.std.specs.Prelude.{bytes_eq, if◌then◌else◌}
 use Rattle.std.specs.String.{string_bytes}
@@ -47,7 +47,7 @@ status_number Uncertified = 3
 abbrev pub line_feed : List ℕ
 line_feed = codes "\n"
 
--- the bytes that are written, but for the words of clap, of the system, and of the reader of hexadecimal
+-- the text of a message, except the words of clap, of the system, and of the reader of hexadecimal
 abbrev pub text_of : Message → Option (List ℕ)
 text_of (Answer answer) = Some (line_of answer ++ line_feed)
 text_of (Fault fault) = option_map (λ line. (codes "error: " ++ line) ++ line_feed) (fault_line_of fault)
@@ -56,7 +56,7 @@ text_of (File fault) = option_map (λ line. (codes "error: " ++ line) ++ line_fe
 text_of (Line error) = None
 text_of NotText = Some (codes "error: an argument isn't UTF-8" ++ line_feed)
 
--- what was asked for is said on standard output
+-- what was asked for, on standard output
 abbrev pub IsSuccess : Said → Type 0
 IsSuccess said = (said.stream ≡ Output) × (said.status ≡ Success)
 
@@ -64,7 +64,7 @@ IsSuccess said = (said.stream ≡ Output) × (said.status ≡ Success)
 abbrev pub IsFailure : Said → Type 0
 IsFailure said = (said.stream ≡ Errors) × (said.status ≡ Failure)
 
--- what is wrong with the command line, on standard error too
+-- the fault of the command line, on standard error too
 abbrev pub IsMisuse : Said → Type 0
 IsMisuse said = (said.stream ≡ Errors) × (said.status ≡ Misuse)
 
@@ -75,42 +75,42 @@ AnswersJob (Verify job) answer = ⊥
 AnswersJob (Run job) answer = ⊥
 AnswersJob (Session job) answer = ⊥
 
--- what is wrong with the texts of a job of `eval`
+-- the fault of the texts of a job of `eval`
 abbrev pub IsJobFault : Job → TextFault → Type 0
 IsJobFault (Eval code cert steps) fault = IsTextFault code.now cert.now fault
 IsJobFault (Verify job) fault = ⊥
 IsJobFault (Run job) fault = ⊥
 IsJobFault (Session job) fault = ⊥
 
--- the words say a job, and this is its answer
+-- the words are a job, and this is its answer
 pub record AnswersLine (words : List Text) (answer : EvalAnswer) : Type 0 where
   pub job : Job
   pub said : IsJobFor words job
   pub answered : AnswersJob job answer
 
--- the words say a job, and this is wrong with its texts
+-- the words are a job, and this is a fault of its texts
 pub record HasTextFault (words : List Text) (fault : TextFault) : Type 0 where
   pub job : Job
   pub said : IsJobFor words job
   pub faulty : IsJobFault job fault
 
--- why the words have no answer; memory may be out at any
+-- why there is no answer to the words; memory may run out with any words
 abbrev pub IsFaultOfLine : List Text → TextFault → Type 0
 IsFaultOfLine words (BadCode error) = HasTextFault words (BadCode error)
 IsFaultOfLine words LongCode = HasTextFault words LongCode
 IsFaultOfLine words (BadCert error) = HasTextFault words (BadCert error)
 IsFaultOfLine words Memory = ⊤
 
--- clap's words are what was asked for: help, or the version
+-- clap's message is what was asked for: help, or the version
 abbrev pub IsHelp : Error → Type 0
 IsHelp error = (kind_of error ≡ DisplayHelp) ⊎ (kind_of error ≡ DisplayVersion)
 
--- clap's words to a line that says no job: help is given, anything else is a wrong command line
+-- clap's message for a line that is no job: help succeeds, anything else is a wrong command line
 pub record IsSaidOfLine (error : Error) (said : Said) : Type 0 where
   pub help : IsHelp error → IsSuccess said
   pub wrong : (IsHelp error → ⊥) → IsMisuse said
 
--- the message of what is said fits the words, and so do its stream and its status
+-- the message fits the words, and so do its stream and its status
 abbrev pub IsSaidAs : List Text → Said → Message → Type 0
 IsSaidAs words said (Answer answer) = AnswersLine words answer × IsSuccess said
 IsSaidAs words said (Fault fault) = IsFaultOfLine words fault × IsFailure said
@@ -119,26 +119,26 @@ IsSaidAs words said (File fault) = ⊥
 IsSaidAs words said (Line error) = IsLineError words error × IsSaidOfLine error said
 IsSaidAs words said NotText = ⊥
 
--- what is said to the words of a command line
+-- the message for the words of a command line
 abbrev pub IsSaid : List Text → Said → Type 0
 IsSaid words said = IsSaidAs words said said.message
 
--- the reply to the words of a command line: what is said, or the package to be verified or the script to be played that
--- they say
+-- the reply to the words of a command line: a message, or the job of verifying a package, playing a script or holding a
+-- session
 abbrev pub IsReply : List Text → Reply → Type 0
 IsReply words (replies.Said said) = IsSaid words said
 IsReply words (replies.Verify job) = IsJobFor words (Verify job)
 IsReply words (replies.Run job) = IsJobFor words (Run job)
 IsReply words (replies.Session job) = IsJobFor words (Session job)
 
--- there is an answer, and no certificate: the status says so only where that is asked for
+-- there is an answer, and no certificate: the status shows it only if that is asked for
 abbrev pub uncertified_status : Bool → Status
 uncertified_status strict = if strict then Uncertified else Success
 
 abbrev pub IsUncertified : Bool → Said → Type 0
 IsUncertified strict said = (said.stream ≡ Output) × (said.status ≡ uncertified_status strict)
 
--- what is said of the answer to a package: its line, or out of memory
+-- the message for the answer to a package: its line, or out of memory
 abbrev pub IsSaidOfVerified : Bool → VerifyAnswer → Said → Type 0
 IsSaidOfVerified strict (answers.Certificate bytes) said =
     (said.message ≡ Verified (answers.Certificate bytes)) × IsSuccess said
@@ -155,7 +155,7 @@ is_certified (answers.NoCertificate method fault) = false
 is_certified (answers.Refused fault) = false
 is_certified answers.Memory = false
 
--- the certificate's file, under this path, may have been written to: it was, or it is at fault, or memory ran out
+-- whether the certificate's file, at this path, may have been written to: it was, or it is at fault, or memory ran out
 abbrev pub may_be_written : List ℕ → Message → Bool
 may_be_written path (Answer answer) = false
 may_be_written path (Fault fault) = true
@@ -164,13 +164,13 @@ may_be_written path (File fault) = bytes_eq (string_bytes fault.name) path
 may_be_written path (Line error) = false
 may_be_written path NotText = false
 
--- what is said where files can't be read or written
+-- the message if files can't be read or written
 abbrev pub IsSaidOfFiles : ReadFault → Said → Type 0
 IsSaidOfFiles (reading.File fault) said = (said.message ≡ File fault) × IsFailure said
 IsSaidOfFiles reading.Memory said = (said.message ≡ Fault Memory) × IsFailure said
 
--- what is said of a package in a folder behind others: the answer to what the files hold, once it is written; or the
--- file at fault; or out of memory
+-- the message for a package in a folder after others: the answer for the contents of the files, once its certificate is
+-- written; or the file at fault; or out of memory
 pub data IsSaidOfWork (holds : List ℕ → Entry → Type 0) (wrote : List Written → Type 0) (job : VerifyJob) (said : Said)
     : Type 0 where
   done : (answer : VerifyAnswer) → IsDone holds wrote job answer → IsSaidOfVerified job.strict answer said
@@ -179,7 +179,7 @@ pub data IsSaidOfWork (holds : List ℕ → Entry → Type 0) (wrote : List Writ
       → IsSaidOfWork holds wrote job said
   memory : IsSaidOfFiles reading.Memory said → IsSaidOfWork holds wrote job said
 
--- nothing is done where something else than a certificate is under its name: that is said, and nothing is written
+-- nothing is done if something else than a certificate is at its path: that is reported, and nothing is written
 pub data IsSaidOfJob (holds : List ℕ → Entry → Type 0) (wrote : List Written → Type 0) (job : VerifyJob) (said : Said)
     : Type 0 where
   worked : IsReplaceable (holds job.cert.now) → IsSaidOfWork holds wrote job said → IsSaidOfJob holds wrote job said
@@ -187,14 +187,14 @@ pub data IsSaidOfJob (holds : List ℕ → Entry → Type 0) (wrote : List Writt
       → IsSaidOfFiles (reading.File fault) said → IsSaidOfJob holds wrote job said
   no_memory : wrote [] → IsSaidOfFiles reading.Memory said → IsSaidOfJob holds wrote job said
 
--- why there is no certificate, which is said beside the line of an answer
+-- why there is no certificate, as a remark besides the line of an answer
 abbrev pub verify_remark : VerifyAnswer → Option Remark
 verify_remark (answers.Certificate bytes) = None
 verify_remark (answers.NoCertificate method fault) = Some (record { method = method; fault = fault })
 verify_remark (answers.Refused fault) = None
 verify_remark answers.Memory = None
 
--- what is said beside a message, on standard error
+-- the remark of a message, on standard error
 abbrev pub remark_of : Message → Option Remark
 remark_of (Answer answer) = None
 remark_of (Fault fault) = None
@@ -209,7 +209,7 @@ remark_line r =
     ((((codes "no certificate: method " ++ decimal r.method) ++ codes ", pc ") ++ decimal r.fault.pc) ++ codes ": ")
     ++ name_of r.fault.reason
 
--- what is said where there are no words: memory is out, or else one of them isn't UTF-8
+-- the message if there are no words: out of memory, or one of them isn't UTF-8
 pub record IsSaidWithoutWords (kind : ErrorKind) (said : Said) : Type 0 where
   pub memory : kind ≡ io.OutOfMemory → (said.message ≡ Fault Memory) × IsFailure said
   pub not_text : (kind ≡ io.OutOfMemory → ⊥) → (said.message ≡ NotText) × IsMisuse said

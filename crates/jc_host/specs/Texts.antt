@@ -1,5 +1,4 @@
--- Code and certificates as hexadecimal text: what is answered to them, what may be wrong with them, and the line that
--- says so.
+-- Code and certificates as hexadecimal text: their answers, their faults, and the lines of these.
 use Rattle.std.specs.Prelude.{⊤, ◌≡◌, ◌≢◌, ◌<◌, ◌≤◌, ◌^◌, ◌++◌, ℕ, List, length, Option, Some, None, Ok, Err, codes}
 use Rattle.std.specs.Fmt.{decimal}
 use Rattle.hex.specs.Hex.{decode_of}
@@ -10,12 +9,12 @@ use Rattle.jc_host.specs.declared.answer.EvalAnswer.TheVariants as answers
 use Rattle.jc_host.specs.declared.texts.TextFault.{TextFault}
 use Rattle.jc_host.specs.declared.texts.TextFault.TheVariants.{BadCode, LongCode, BadCert, Memory}
 
--- a text is the hexadecimal of code, which has fewer than 2^16 bytes
+-- a text is the hexadecimal of code of fewer than 2^16 bytes
 pub record IsCodeText (text code : List ℕ) : Type 0 where
   pub decoded : decode_of text ≡ Ok code
   pub short : length code < 2 ^ 16
 
--- an answer to the bytes that two texts are the hexadecimal of
+-- an answer to the bytes whose hexadecimal two texts are
 pub record AnswersTexts (code cert : List ℕ) (steps : ℕ) (answer : EvalAnswer) : Type 0 where
   pub code_bytes : List ℕ
   pub cert_bytes : List ℕ
@@ -36,14 +35,14 @@ pub record IsBadCert (code cert : List ℕ) (error : FromHexError) : Type 0 wher
   pub code_is : IsCodeText code code_bytes
   pub refused : decode_of cert ≡ Err error
 
--- what is wrong with the texts of code and certificate
+-- the fault of the texts of code and certificate
 abbrev pub IsTextFault : List ℕ → List ℕ → TextFault → Type 0
 IsTextFault code cert (BadCode error) = decode_of code ≡ Err error
 IsTextFault code cert LongCode = IsLongCode code
 IsTextFault code cert (BadCert error) = IsBadCert code cert error
 IsTextFault code cert Memory = ⊤
 
--- what is said of it; the reader of hexadecimal has words of its own for what is wrong with it
+-- the words of a fault; the reader of hexadecimal has words of its own for its faults
 abbrev pub fault_line_of : TextFault → Option (List ℕ)
 fault_line_of (BadCode error) = None
 fault_line_of LongCode = Some ((codes "CODE has more than " ++ decimal 65535) ++ codes " bytes")

@@ -1,5 +1,5 @@
--- What is answered to a package in a folder behind others, what is written of it, and which file is at fault where
--- nothing is answered.
+-- The answer to a package in a folder after others, what is written of it, and which file is at fault if there is no
+-- answer.
 use Rattle.std.specs.Prelude.{⊤, ◌≡◌, ◌≢◌, ◌≤◌, ℕ, ◌∷◌, [], List, length, map}
 use Rattle.std.specs.IoError.{error_kind}
 use Rattle.std.specs.List.{AllZip}
@@ -23,11 +23,11 @@ use Rattle.jc_host.specs.Folders.{FailsFirst, IsFolderFault, IsImage}
 use Rattle.jc_host.specs.declared.files.FileFault.{FileFault}
 use Rattle.jc_host.specs.declared.job.VerifyJob.{VerifyJob}
 
--- the earlier folders of a job, in their order
+-- the earlier folders of a job, in order
 abbrev pub earlier_of : VerifyJob → List (List ℕ)
 earlier_of job = map (λ name. name.now) job.earlier.items
 
--- the answer to the package in the folder of a job: to the images that the folders hold, under the job's binding
+-- the answer to the package in the folder of a job: to the images in the folders, with the job's binding
 pub record IsAnswerOf (holds : List ℕ → Entry → Type 0) (job : VerifyJob) (answer : VerifyAnswer) : Type 0 where
   pub binding : Bound
   pub bound : IsBindingFor holds job.binding binding
@@ -42,7 +42,7 @@ pub data IsUnreadOf (holds : List ℕ → Entry → Type 0) (job : VerifyJob) (f
       → AllZip (IsImage holds) (earlier_of job) images
       → IsFolderFault holds job.folder.now fault → IsUnreadOf holds job fault
 
--- what is written of an answer: all bytes of the certificate to its file, and else nothing
+-- what is written of an answer: all bytes of the certificate to its file, and otherwise nothing
 abbrev pub written_of : List ℕ → VerifyAnswer → List Written
 written_of path (Certificate bytes) = (record { path = path; bytes = bytes.items }) ∷ []
 written_of path (NoCertificate method fault) = []
@@ -63,14 +63,14 @@ IsShort (NoCertificate method reason) = ⊤
 IsShort (Refused refusal) = ⊤
 IsShort Memory = ⊤
 
--- the answer to a job, of which all was written that is to be
+-- the answer to a job; everything that it has to write was written
 pub record IsDone (holds : List ℕ → Entry → Type 0) (wrote : List Written → Type 0) (job : VerifyJob)
     (answer : VerifyAnswer) : Type 0 where
   pub answered : IsAnswerOf holds job answer
   pub written : wrote (written_of job.cert.now answer)
   pub short : IsShort answer
 
--- what may be written over: nothing is there, or an empty file, or a certificate
+-- what may be overwritten: nothing is there, or an empty file, or a certificate
 pub data IsReplaceable (holds : Entry → Type 0) : Type 0 where
   absent : (error : Error) → holds (failing error) → error_kind error ≡ NotFound → IsReplaceable holds
   empty : holds (file []) → IsReplaceable holds
@@ -83,8 +83,8 @@ pub record IsOther (holds : Entry → Type 0) : Type 0 where
   pub some : bytes ≢ []
   pub none : SpellsNone bytes
 
--- why something may not be written over: it is no regular file, or has too many bytes for a certificate, or is none; or
--- the system tells an error
+-- why something may not be overwritten: it is no regular file, or has too many bytes for a certificate, or is none; or
+-- the system reports an error
 abbrev pub IsInTheWay : (Entry → Type 0) → FileCause → Type 0
 IsInTheWay holds (System error) = holds (failing error)
 IsInTheWay holds NoFolder = ⊥
@@ -95,8 +95,8 @@ IsInTheWay holds (NoBinding fault) = ⊥
 IsInTheWay holds causes.NoCertificate = IsOther holds
 IsInTheWay holds (LongCertificate limit) = ⊥
 
--- which file is at fault where nothing is answered: one isn't read, and nothing was written, or the certificate's
--- isn't written
+-- which file is at fault if there is no answer: one isn't read, and nothing was written, or the certificate's isn't
+-- written
 pub data IsUndone (holds : List ℕ → Entry → Type 0) (wrote : List Written → Type 0) (job : VerifyJob)
     (fault : FileFault) : Type 0 where
   unread : IsUnreadOf holds job fault → wrote [] → IsUndone holds wrote job fault

@@ -1,11 +1,11 @@
-//! What `eval` answers.
+//! The answers of `eval`.
 
 ghost use Rattle.std.specs.Prelude.{Some};
 
 use jc_base::Reason;
 use std::fmt;
 
-/// What comes of code with a certificate. Its text is the line that is printed.
+/// The answer to code with a certificate. Its text is the line that is printed.
 #[derive(Clone, Copy, Debug, PartialEq, Eq)]
 pub enum EvalAnswer {
     /// The short that the code returns.
@@ -14,9 +14,9 @@ pub enum EvalAnswer {
     Throws,
     /// The certificate doesn't carry the code: the first fault, at a pc.
     Refused { pc: u16, reason: Reason },
-    /// The certificate's bytes spell no certificate.
+    /// The bytes encode no certificate.
     BadCertificate,
-    /// The code hasn't ended after so many steps.
+    /// The code didn't end within the given steps.
     StepsUsedUp,
     /// No memory was left.
     Memory,

@@ -38,7 +38,7 @@ fn binding_in<F: Files>(files: &F, alloc: Global, path: &str) -> Result<Binding,
     binding_of(&bytes)
 }
 
-// The binding that bytes say.
+// The binding that bytes encode.
 fn binding_of(bytes: &[u8]) -> Result<Binding, FileCause>
     ensures says { IfOk result (SaysBinding bytes.now) }
     ensures faults { IfErr result (IsNoBinding bytes.now) }

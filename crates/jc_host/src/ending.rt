@@ -1,4 +1,4 @@
-//! The end of the program: what is said is written, and the exit status tells how it went.
+//! The end of the program: it writes its message, and its exit status shows the result.
 
 ghost use Rattle.std.specs.Prelude.{◌≡◌, None, OnOk};
 ghost use Rattle.jc_host.specs.Ending.{IsEnd, IsMessageTo};
@@ -8,8 +8,8 @@ ghost use Rattle.jc_host.specs.declared.saying.Status.TheVariants.{Failure};
 use crate::saying::{Said, Status, Stream, remark_of};
 use std::io::{self, Write};
 
-/// Writes what is said at the end, and gives the exit status. Where it can't be written, that is told on standard error,
-/// if it can be.
+/// Writes the final message, and returns the exit status. If the message can't be written, it reports that on standard
+/// error, if it can.
 pub fn end_with<W: Write, E: Write>(output: &mut W, errors: &mut E, said: &Said) -> u8
     ensures { IsEnd W.contents E.contents output.old output.new errors.old errors.new said.now result }
 {
@@ -19,7 +19,7 @@ pub fn end_with<W: Write, E: Write>(output: &mut W, errors: &mut E, said: &Said)
     }
 }
 
-// Writes what is said to its stream.
+// Writes a message to its stream.
 fn write_said<W: Write, E: Write>(output: &mut W, errors: &mut E, said: &Said) -> io::Result<()>
     ensures { OnOk result (IsMessageTo said.now.stream W.contents E.contents output.old output.new errors.old errors.new
         said.now.message) }
@@ -34,7 +34,7 @@ fn write_said<W: Write, E: Write>(output: &mut W, errors: &mut E, said: &Said) -
     }
 }
 
-// What is said beside a message is told, if it can be.
+// Writes the remark of a message, if it can.
 fn remark<E: Write>(errors: &mut E, said: &Said)
     ensures { remark_of said.now.message ≡ None → errors.new ≡ errors.old }
 {
@@ -43,7 +43,7 @@ fn remark<E: Write>(errors: &mut E, said: &Said)
     }
 }
 
-/// The exit status where what was to be said can't be written. That is told, if it can be.
+/// The exit status if the message can't be written. It reports that, if it can.
 pub fn unwritten<E: Write>(errors: &mut E, error: &io::Error) -> u8
     ensures { result ≡ status_number Failure }
 {

@@ -1,4 +1,4 @@
-//! The evaluation of code alone.
+//! Evaluation of code alone.
 
 ghost use Rattle.std.specs.Prelude.{◌≡◌, ◌<◌, ◌^◌, length};
 ghost use Rattle.jc_host.specs.Eval.{IsAnswer};
@@ -20,7 +20,7 @@ fn ending_answer(end: CodeEnd) -> EvalAnswer
     }
 }
 
-/// Reads a certificate, checks code with it, and runs the code for at most so many steps.
+/// Reads a certificate, checks code with it, and runs the code for at most `steps` steps.
 pub fn eval(alloc: Global, code: &[u8], cert: &[u8], steps: u32) -> EvalAnswer
     requires { length code.now < 2 ^ 16 }
     ensures { IsAnswer result code.now cert.now steps }

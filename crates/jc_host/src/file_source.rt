@@ -16,8 +16,7 @@ use std::marker::{Brand, Model, PhantomData};
 /// The most bytes of the file of a certificate.
 pub(crate) const MOST_CERTIFICATE: usize = 1048576;
 
-/// Which faults a source may tell, and of what was asked for: a name for proofs alone, which outlasts what is done with
-/// the source.
+/// The faults that a source may report, for each read: a name for proofs alone, which outlives the source.
 pub trait Faults {
     ghost use Rattle.jc_source.specs.Source.{Asked};
     ghost use Rattle.jc_host.specs.declared.files.FileFault.{FileFault};
@@ -29,8 +28,8 @@ impl Faults for Brand {
     ghost tells = { λ asked fault. ⊤ };
 }
 
-/// Packages in folders of component files, and certificates in files. It counts the readings that failed, and keeps the
-/// fault of the last of them.
+/// Packages in folders of component files, and certificates in files. It counts the reads that failed, and keeps the
+/// fault of the last one.
 #[derive(Drop)]
 pub struct FileSource<'a, F: Files, T: Faults> {
     files: &'a F,
@@ -50,7 +49,7 @@ impl<'a, F: Files, T: Faults> Model for FileSource<'a, F, T> {
 }
 
 impl<'a, F: Files, T: Faults> FileSource<'a, F, T> {
-    /// A source that reads these files. No reading failed yet.
+    /// A source that reads these files. No read failed yet.
     pub fn new(files: &'a F) -> FileSource<'a, F, T>
         requires { TellsAll (F.holds files.now) T.tells }
         ensures files { result.files ≡ files.now }
@@ -64,7 +63,7 @@ impl<'a, F: Files, T: Faults> FileSource<'a, F, T> {
         }
     }
 
-    /// The fault of the reading that failed last, if one did.
+    /// The fault of the last read that failed, if one did.
     pub fn into_fault(self) -> Option<FileFault>
         ensures kept { IsKept T.tells self.entry.failures result }
         ensures fault { result ≡ self.entry.fault }
@@ -72,12 +71,12 @@ impl<'a, F: Files, T: Faults> FileSource<'a, F, T> {
         self.fault
     }
 
-    /// The same, as long as the source is there.
+    /// The same, without ending the source.
     pub fn fault(&self) -> Option<&FileFault> {
         self.fault.as_ref()
     }
 
-    // Keeps the fault of a reading that failed, and says which kind it is of.
+    // Keeps the fault of a failed read, and returns its kind.
     fn fail(&mut self, fault: ReadFault) -> SourceFault
         requires few { self.old.failures < 2 ^ 31 }
         requires fault { OfFile (IsSourceFault (F.holds self.old.files)) fault }

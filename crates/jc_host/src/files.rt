@@ -1,4 +1,4 @@
-//! The files of a system as the program sees them, and why one can't be read or written.
+//! The files of a system for the program, and the faults of reading and writing them.
 
 ghost use Rattle.std.specs.Prelude.{◌≡◌, ◌↔◌, ℕ, true, false, [], ◌∷◌, List, IfOk, IfErr};
 ghost use Rattle.jc_host.specs.Files.{Entry, IsContent, IsFaultAt, IsFile, IsIrregular, IsOutOfMemory, IsUnread};
@@ -13,24 +13,24 @@ use std::alloc::{AllocError, AllocFailed, Global};
 use std::io::Read;
 use std::{fmt, io};
 
-/// What is wrong with a file.
+/// The cause of a file's fault.
 #[derive(Debug, Drop)]
 pub enum FileCause {
-    /// The system says what.
+    /// The system reports an error.
     System(io::Error),
-    /// It isn't a folder, and should be one.
+    /// It should be a folder, and isn't.
     NoFolder,
-    /// It isn't a regular file, and should be one.
+    /// It should be a regular file, and isn't.
     NotRegular,
-    /// It has more bytes than it may have.
+    /// It has more bytes than allowed.
     TooLong(usize),
-    /// It isn't UTF-8, and should be a text.
+    /// It should be text in UTF-8, and isn't.
     NotText,
     /// Its text is no binding.
     NoBinding(BindingFault),
     /// It is neither empty nor a certificate, and a certificate was to be written there.
     NoCertificate,
-    /// The certificate that was to be written there has more bytes than it may have.
+    /// The certificate that was to be written there has more bytes than allowed.
     LongCertificate(usize),
 }
 
@@ -58,7 +58,7 @@ impl fmt::Display for FileCause {
     }
 }
 
-/// A file or folder, by its path, and what is wrong with it.
+/// A file or folder, by its path, and the cause of its fault.
 #[derive(Debug, Drop)]
 pub struct FileFault {
     pub name: String,
@@ -113,30 +113,30 @@ impl<T: Drop> From<AllocFailed<T>> for ReadFault {
 
 /// The files of a system. Reading changes nothing.
 pub trait Files {
-    // What the system tells of a path: what is there, or an error where it is looked at, read or written.
+    // What the system reports for a path: what is there, or an error if it is looked up, read or written.
     ghost holds: { Self → List ℕ → Entry → Type 0 };
 
-    // Which files were written, in their order.
+    // The files that were written, in order.
     ghost has_written: { Self → List Written → Type 0 };
 
-    /// Whether a folder is under a path.
+    /// Whether there is a folder at a path.
     fn is_folder(&self, path: &str) -> io::Result<bool>
         ensures folder { result ≡ Ok true → holds self.now path.now folder }
         ensures file { result ≡ Ok false → IsFile (holds self.now path.now) }
         ensures failing { IfErr result (λ error. holds self.now path.now (failing error)) };
 
-    /// Whether a regular file is under a path. What isn't one may be read without end, or never be read.
+    /// Whether there is a regular file at a path. Reading anything else may never end.
     fn is_regular(&self, path: &str) -> io::Result<bool>
         ensures irregular { result ≡ Ok false → IsIrregular (holds self.now path.now) }
         ensures failing { IfErr result (λ error. holds self.now path.now (failing error)) };
 
-    /// All bytes of the file under a path, which has at most so many.
+    /// All bytes of the file at a path, at most `most`.
     fn read(&self, alloc: Global, path: &str, most: usize) -> Result<Vec<u8>, FileCause>
         ensures read { IfOk result (λ bytes. IsContent (holds self.now path.now) most bytes.items) }
         ensures unread { IfErr result (IsUnread (holds self.now path.now) most) };
 
-    /// Writes all of these bytes to the file under a path, and nothing else. Where it fails the first of them may stand
-    /// there, and no other file was written.
+    /// Writes all of these bytes to the file at a path, and nothing else. If it fails, it may have written the first of
+    /// them, and to no other file.
     fn write(&mut self, path: &str, bytes: &[u8]) -> io::Result<()>
         ensures written { IfOk result
             (λ u. IsWritten (has_written self.old) (has_written self.new)
@@ -145,18 +145,18 @@ pub trait Files {
         ensures failing { IfErr result (λ error. holds self.old path.now (failing error)) };
 }
 
-/// The files of scripts, which are opened to be played.
+/// The files of scripts, which are opened for playing.
 pub trait Scripts {
-    /// What a script is read by.
+    /// The reader of a script.
     type Reader: Read + Drop;
 
-    // What the system tells where the script under a path is opened: which bytes are to be read of it, or an error.
+    // What the system reports when the script at a path is opened: its bytes, or an error.
     ghost tells: { Self → List ℕ → Opening → Type 0 };
 
-    // Which scripts were to be opened, by their paths, in their order.
+    // The scripts that were to be opened, by their paths, in order.
     ghost has_asked: { Self → List (List ℕ) → Type 0 };
 
-    /// Opens the script under a path.
+    /// Opens the script at a path.
     fn open(&mut self, path: &str) -> io::Result<Self::Reader>
         ensures opened { IfOk result
             (λ reader. tells self.old path.now (readable (Self.Reader.remaining reader))) }
@@ -164,7 +164,7 @@ pub trait Scripts {
         ensures asked { AreAsked (has_asked self.old) (has_asked self.new) (path.now ∷ []) };
 }
 
-/// Whether the system tells that it is out of memory.
+/// Whether the system reports that it is out of memory.
 fn is_memory(cause: &FileCause) -> bool
     ensures { (result ≡ true) ↔ IsOutOfMemory cause.now }
 {
@@ -180,7 +180,7 @@ fn is_memory(cause: &FileCause) -> bool
     }
 }
 
-/// The fault of the file under a path, or out of memory where that is the cause.
+/// The fault of the file at a path, or out of memory if that is the cause.
 pub fn fault_of(alloc: Global, path: &str, cause: FileCause) -> ReadFault
     ensures { OfFile (IsFaultAt path.now (λ told. told ≡ cause)) result }
 {
@@ -193,7 +193,7 @@ pub fn fault_of(alloc: Global, path: &str, cause: FileCause) -> ReadFault
     }
 }
 
-/// Opens the script under a path.
+/// Opens the script at a path.
 pub fn open_script<S: Scripts>(
     scripts: &mut S,
     alloc: Global,

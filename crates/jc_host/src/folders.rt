@@ -14,7 +14,7 @@ use std::alloc::Global;
 use std::io;
 use std::path::Path;
 
-/// The most bytes of a component's file: a tag, a size, and as many as that says.
+/// The most bytes of a component's file: a tag, a size, and the greatest such size.
 const MOST_COMPONENT: usize = 65538;
 
 /// The component files of a package, in the order in which they make an image.
@@ -30,7 +30,7 @@ const COMPONENTS: [&str; 9] = [
     "Descriptor.cap",
 ];
 
-/// The images of the packages in folders, in their order.
+/// The images of the packages in folders, in order.
 pub fn images_in<F: Files>(
     files: &F,
     alloc: Global,
@@ -51,7 +51,7 @@ pub fn images_in<F: Files>(
     Ok(images)
 }
 
-/// The image of the package in a folder: its component files that are there, one behind the other.
+/// The image of the package in a folder: its existing component files, one after the other.
 pub fn image_in<F: Files>(files: &F, alloc: Global, folder: &str) -> Result<Vec<u8>, ReadFault>
     ensures image { IfOk result (λ image. IsImage (F.holds files.now) folder.now image.items) }
     ensures faults { IfErr result (OfFile (IsFolderFault (F.holds files.now) folder.now)) }
@@ -60,7 +60,7 @@ pub fn image_in<F: Files>(files: &F, alloc: Global, folder: &str) -> Result<Vec<
     joined(files, alloc, folder, &COMPONENTS)
 }
 
-// Whether there is a folder.
+// Tests that there is a folder.
 fn look_for_folder<F: Files>(files: &F, alloc: Global, folder: &str) -> Result<(), ReadFault>
     ensures there { IfOk result (λ u. F.holds files.now folder.now a_folder) }
     ensures faults { IfErr result (OfFile (IsFaultAt folder.now (IsNoFolder (F.holds files.now folder.now)))) }
@@ -72,7 +72,7 @@ fn look_for_folder<F: Files>(files: &F, alloc: Global, folder: &str) -> Result<(
     }
 }
 
-// The files in a folder with these names, one behind the other.
+// The files in a folder with these names, one after the other.
 fn joined<F: Files>(
     files: &F,
     alloc: Global,
@@ -92,7 +92,7 @@ fn joined<F: Files>(
     Ok(bytes)
 }
 
-// Puts the bytes of a component's file behind others, if the file is there.
+// Appends the bytes of a component's file, if it exists.
 fn put_component<F: Files>(
     files: &F,
     alloc: Global,
@@ -111,7 +111,7 @@ fn put_component<F: Files>(
     }
 }
 
-// The bytes of a component's file, if it is there.
+// The bytes of a component's file, if it exists.
 fn component_in<F: Files>(
     files: &F,
     alloc: Global,
@@ -129,7 +129,7 @@ fn component_in<F: Files>(
     }
 }
 
-// The bytes of a regular file, if it is still there.
+// The bytes of a regular file, if it still exists.
 fn read_component<F: Files>(
     files: &F,
     alloc: Global,

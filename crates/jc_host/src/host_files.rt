@@ -1,4 +1,4 @@
-//! The files of the system that the program runs on.
+//! The files of the system on which the program runs.
 
 ghost use Rattle.std.specs.Prelude.{⊤, ◌≡◌, ◌≤◌, length, IfOk, IfErr};
 
@@ -8,7 +8,7 @@ use std::fs::File;
 use std::io::{Read, Write};
 use std::{fs, io};
 
-/// The system's files. Nothing is known of what is under their paths, nor of what was written.
+/// The system's files. The contracts state nothing of what is at their paths, nor of what was written.
 #[derive(Drop)]
 pub struct HostFiles<'a> {
     rt: &'a HostRuntime,
@@ -46,7 +46,7 @@ impl<'a> Files for HostFiles<'a> {
     }
 }
 
-/// The system's files, opened as scripts. Nothing is known of them, nor of which were opened.
+/// The system's files, opened as scripts. The contracts state nothing of them, nor of which were opened.
 #[derive(Drop)]
 pub struct HostScripts<'a> {
     rt: &'a HostRuntime,
@@ -70,10 +70,10 @@ impl<'a> Scripts for HostScripts<'a> {
     }
 }
 
-/// The most times that an interrupted call is made again.
+/// The most times that an interrupted call is repeated.
 const MOST_TRIES: u32 = 16_777_216;
 
-/// Whether a call was interrupted by a signal, and is to be made again.
+/// Whether a call was interrupted by a signal, so it has to be repeated.
 fn is_interrupted<T>(called: &io::Result<T>) -> bool {
     match called {
         Ok(_) => false,
@@ -81,7 +81,7 @@ fn is_interrupted<T>(called: &io::Result<T>) -> bool {
     }
 }
 
-// Opens a file to be read.
+// Opens a file for reading.
 fn opened(rt: &HostRuntime, path: &str) -> io::Result<File> {
     for _ in 0..MOST_TRIES {
         let file = File::open(rt, path);
@@ -92,7 +92,7 @@ fn opened(rt: &HostRuntime, path: &str) -> io::Result<File> {
     Err(io::Error::from(io::ErrorKind::Interrupted))
 }
 
-// Makes a file, or empties one that is there.
+// Creates a file, or empties an existing one.
 fn created(rt: &HostRuntime, path: &str) -> io::Result<File> {
     for _ in 0..MOST_TRIES {
         let file = File::create(rt, path);
@@ -103,7 +103,7 @@ fn created(rt: &HostRuntime, path: &str) -> io::Result<File> {
     Err(io::Error::from(io::ErrorKind::Interrupted))
 }
 
-// The bytes of a file, but no more than one beyond a limit.
+// The bytes of a file, but at most one beyond a limit.
 fn read_within(rt: &HostRuntime, alloc: Global, path: &str, most: usize) -> io::Result<Vec<u8>> {
     let file = opened(rt, path)?;
     let mut bytes = Vec::new(alloc);

@@ -1,21 +1,21 @@
-//! What the program is asked for.
+//! The jobs of the program.
 
 use jc_machine::Limits;
 
-/// What a command line asks for. Hexadecimal is text here, as it was written, and so are the names of files.
+/// The job of a command line. Hexadecimal is text here, as it was written, and so are the names of files.
 #[derive(Debug, Drop)]
 pub enum Job<'a> {
-    /// Code with its certificate, to be run for at most so many steps.
+    /// Runs code with its certificate for at most `steps` steps.
     Eval {
         code: &'a str,
         cert: &'a str,
         steps: u32,
     },
-    /// A package, whose certificate is worked out.
+    /// Verifies a package, and infers its certificate.
     Verify(VerifyJob<'a>),
-    /// A script, which is played on a new card.
+    /// Plays a script on a new card.
     Run(RunJob<'a>),
-    /// A new card, which answers the lines of standard input.
+    /// Answers the lines of standard input with a new card.
     Session(CardJob<'a>),
 }
 
@@ -24,13 +24,13 @@ pub enum Job<'a> {
 pub struct VerifyJob<'a> {
     /// The folder of the package.
     pub folder: &'a str,
-    /// The file that the certificate is written to.
+    /// The file to which the certificate is written.
     pub cert: &'a str,
     /// The folders of the packages before it, in the order in which they are linked.
     pub earlier: Vec<&'a str>,
-    /// The file of the binding, where it isn't the default one.
+    /// The file of the binding, if it isn't the default one.
     pub binding: Option<&'a str>,
-    /// Whether the exit status says so where no certificate is written.
+    /// Whether the exit status shows that no certificate is written.
     pub strict: bool,
 }
 
@@ -39,17 +39,17 @@ pub struct VerifyJob<'a> {
 pub struct RunJob<'a> {
     /// The file of the script.
     pub script: &'a str,
-    /// The card that it is played on.
+    /// The card on which it is played.
     pub card: CardJob<'a>,
 }
 
-/// A new card, and what is told of it.
+/// A new card, and whether its answers are explained.
 #[derive(Debug, Drop)]
 pub struct CardJob<'a> {
-    /// How much there may be on the card, and in a call of an applet.
+    /// The limits of the card, and of a call of an applet.
     pub limits: Limits,
-    /// The file of the binding, where it isn't the default one.
+    /// The file of the binding, if it isn't the default one.
     pub binding: Option<&'a str>,
-    /// Whether it is told why an answer has no precise diagnosis.
+    /// Whether it explains an answer without a precise diagnosis.
     pub explains: bool,
 }

@@ -1,5 +1,5 @@
-//! What the program does without a card: it reads command lines, folders and files, evaluates code, verifies packages,
-//! and says what came of it.
+//! The parts of the program that need no card: it reads command lines, folders and files, evaluates code, verifies
+//! packages, and reports the results.
 #![tactic(auto)]
 
 mod answer;

@@ -1,6 +1,7 @@
 //! The command line: `jcard eval CODE [CERT] [--steps N]`, `jcard verify FOLDER CERT [EARLIER..] [--binding FILE]
 //! [--strict]`, and with the options of a card `jcard run SCRIPT` and `jcard session`: `[--steps N] [--objects N]
-//! [--cells N] [--frames N] [--words N] [--binding FILE] [--explain]`. `jcard --version` says which program it is.
+//! [--cells N] [--frames N] [--words N] [--binding FILE] [--explain]`. `jcard --version` prints the version of the
+//! program.
 
 ghost use Rattle.std.specs.Prelude.{◌≡◌, map, IfErr, IfOk};
 ghost use Rattle.clap.specs.Words.{app_of, found_of, rows_of, subcommand_rows_of};
@@ -21,16 +22,16 @@ use jc_machine::Limits;
 use std::alloc::{AllocError, Global};
 use std::convert::AsStr;
 
-// What `--version` says behind the program's name.
+// The output of `--version` after the program's name.
 const VERSION: &str = "1.0.0";
 
-// What the help of `verify` says of folders.
+// The help of `verify` about folders.
 const FOLDER_HELP: &str =
     "A folder holds the component files of a package: Header.cap, Applet.cap, Import.cap, ConstantPool.cap,
 Class.cap, Method.cap, StaticField.cap, Export.cap, Descriptor.cap. One that isn't there is left out; other
 files are ignored.";
 
-// What the help of `run` says of scripts.
+// The help of `run` about scripts.
 const SCRIPT_HELP: &str =
     "A line of the script is one of these, and each is answered before the next one is read:
 
@@ -45,7 +46,7 @@ AIDs, DATA and BYTES are in hexadecimal. An empty line, or one that begins with 
 
 answers `sw 6999`, since no applet has that AID yet, and `reset`.";
 
-// What the help of `session` says of lines.
+// The help of `session` about lines.
 const SESSION_HELP: &str =
     "A line of standard input is one of these, and each is answered before the next one is read:
 
@@ -68,7 +69,7 @@ answers `objects 45 of 32767`, since a new card has no objects but the runtime's
 /// Why there is no job.
 #[derive(Debug, Drop)]
 pub enum LineFault {
-    /// The words are no job, or ask for help: the text that says so, and where to print it.
+    /// The words are no job, or ask for help: the text of the answer, and where to print it.
     Line(Error),
     /// No memory was left.
     Memory,
@@ -94,7 +95,7 @@ impl From<AllocError> for LineFault {
     }
 }
 
-/// Reads the words of a command line, of which the first is the program's name.
+/// Parses the words of a command line, of which the first is the program's name.
 pub fn job<'a, S: AsStr>(alloc: Global, words: &'a [S]) -> Result<Job<'a>, LineFault>
     ensures said { IfOk result (IsJobFor (map S.text words.entry.now)) }
     ensures refused { IfErr result (IsLineFault (map S.text words.entry.now)) }
@@ -111,7 +112,7 @@ pub fn job<'a, S: AsStr>(alloc: Global, words: &'a [S]) -> Result<Job<'a>, LineF
     }
 }
 
-// The program, of which a subcommand has to be named.
+// The program, which needs a subcommand.
 fn card_command<'a>(alloc: Global) -> Result<Command<'a>, AllocError>
     ensures { IfOk result (λ c. app_of c ≡ card_app) }
 {
@@ -200,8 +201,8 @@ fn session_command<'a>(alloc: Global) -> Result<Command<'a>, AllocError>
     with_card(alloc, command)
 }
 
-// A command with the options of a card, `[--steps N] [--objects N] [--cells N] [--frames N] [--words N]
-// [--binding FILE] [--explain]`, behind what it has.
+// Adds the options of a card to a command: `[--steps N] [--objects N] [--cells N] [--frames N] [--words N] [--binding
+// FILE] [--explain]`.
 fn with_card<'a>(alloc: Global, command: Command<'a>) -> Result<Command<'a>, AllocError>
     ensures { IfOk result (AddsCard command.entry) }
 {
@@ -289,7 +290,7 @@ fn words_argument<'a>(alloc: Global) -> Arg<'a>
     )
 }
 
-// An option whose value is a number, with what that has to be, what it is where it is left out, and its help.
+// An option with a number as its value, with the parser of the number, its default, and its help.
 fn number_argument<'a>(
     alloc: Global,
     name: &'a str,
@@ -329,14 +330,14 @@ fn flag_argument<'a>(alloc: Global, name: &'a str, help: &'a str) -> Arg<'a>
         .help(help)
 }
 
-// A word that has to be there, with its help.
+// A required word, with its help.
 fn required_argument<'a>(alloc: Global, name: &'a str, help: &'a str) -> Arg<'a>
     ensures { IsArgument (required_rule name.now) result }
 {
     Arg::new(alloc, name).required(true).help(help)
 }
 
-// The job that the program's matches say.
+// The job in the program's matches.
 fn named_job<'a>(alloc: Global, matches: &ArgMatches<'a>) -> Result<Option<Job<'a>>, AllocError>
     ensures { IfOk result (λ found. Finds found (IsJobAmong (subcommand_rows_of matches.now))) }
 {
@@ -349,7 +350,7 @@ fn named_job<'a>(alloc: Global, matches: &ArgMatches<'a>) -> Result<Option<Job<'
     }
 }
 
-// The job that they say where a card is to be made: where `run` or `session` was named.
+// The job in the matches, if `run` or `session` was named.
 fn named_card<'a>(matches: &ArgMatches<'a>) -> Option<Job<'a>>
     ensures { Finds result (IsCardAmong (subcommand_rows_of matches.now)) }
 {
@@ -359,14 +360,14 @@ fn named_card<'a>(matches: &ArgMatches<'a>) -> Option<Job<'a>>
     }
 }
 
-// The job that they say where `eval` was named.
+// The job in the matches, if `eval` was named.
 fn named_eval<'a>(matches: &ArgMatches<'a>) -> Option<Job<'a>>
     ensures { Finds result (IsEvalAmong (subcommand_rows_of matches.now)) }
 {
     eval_job(matches.subcommand_matches("eval")?)
 }
 
-// The job that they say where `verify` was named.
+// The job in the matches, if `verify` was named.
 fn named_verify<'a>(alloc: Global, matches: &ArgMatches<'a>) -> Result<Option<Job<'a>>, AllocError>
     ensures { IfOk result (λ found. Finds found (IsVerifyAmong (subcommand_rows_of matches.now))) }
 {
@@ -376,21 +377,21 @@ fn named_verify<'a>(alloc: Global, matches: &ArgMatches<'a>) -> Result<Option<Jo
     }
 }
 
-// The job that they say where `run` was named.
+// The job in the matches, if `run` was named.
 fn named_run<'a>(matches: &ArgMatches<'a>) -> Option<Job<'a>>
     ensures { Finds result (IsRunAmong (subcommand_rows_of matches.now)) }
 {
     run_job(matches.subcommand_matches("run")?)
 }
 
-// The job that they say where `session` was named.
+// The job in the matches, if `session` was named.
 fn named_session<'a>(matches: &ArgMatches<'a>) -> Option<Job<'a>>
     ensures { Finds result (IsSessionAmong (subcommand_rows_of matches.now)) }
 {
     session_job(matches.subcommand_matches("session")?)
 }
 
-// The job that the matches of `eval` say.
+// The job in the matches of `eval`.
 fn eval_job<'a>(found: &ArgMatches<'a>) -> Option<Job<'a>>
     ensures { Finds result (IsEvalOf (rows_of (found_of found.now))) }
 {
@@ -400,7 +401,7 @@ fn eval_job<'a>(found: &ArgMatches<'a>) -> Option<Job<'a>>
     Some(Job::Eval { code, cert, steps })
 }
 
-// The job that the matches of `verify` say.
+// The job in the matches of `verify`.
 fn verify_job<'a>(alloc: Global, found: &ArgMatches<'a>) -> Result<Option<Job<'a>>, AllocError>
     ensures { IfOk result (λ job. Finds job (IsVerifyOf (rows_of (found_of found.now)))) }
 {
@@ -422,7 +423,7 @@ fn verify_job<'a>(alloc: Global, found: &ArgMatches<'a>) -> Result<Option<Job<'a
     })))
 }
 
-// The job that the matches of `run` say.
+// The job in the matches of `run`.
 fn run_job<'a>(found: &ArgMatches<'a>) -> Option<Job<'a>>
     ensures { Finds result (IsRunOf (rows_of (found_of found.now))) }
 {
@@ -431,7 +432,7 @@ fn run_job<'a>(found: &ArgMatches<'a>) -> Option<Job<'a>>
     Some(Job::Run(RunJob { script, card }))
 }
 
-// The job that the matches of `session` say.
+// The job in the matches of `session`.
 fn session_job<'a>(found: &ArgMatches<'a>) -> Option<Job<'a>>
     ensures { Finds result (IsSessionOf (rows_of (found_of found.now))) }
 {
@@ -439,7 +440,7 @@ fn session_job<'a>(found: &ArgMatches<'a>) -> Option<Job<'a>>
     Some(Job::Session(card))
 }
 
-// The card that the matches of `run` or `session` say.
+// The card in the matches of `run` or `session`.
 fn card_in<'a>(found: &ArgMatches<'a>) -> Option<CardJob<'a>>
     ensures { Finds result (IsCardOf (rows_of (found_of found.now))) }
 {
@@ -453,7 +454,7 @@ fn card_in<'a>(found: &ArgMatches<'a>) -> Option<CardJob<'a>>
     })
 }
 
-// The limits of a card that they say.
+// The limits of a card in the matches.
 fn limits_in(found: &ArgMatches) -> Option<Limits>
     ensures { Finds result (AreLimits (rows_of (found_of found.now))) }
 {
@@ -471,14 +472,14 @@ fn limits_in(found: &ArgMatches) -> Option<Limits>
     })
 }
 
-// The number of steps that the matches of `eval`, `run` or `session` say.
+// The number of steps in the matches of `eval`, `run` or `session`.
 fn steps_in(found: &ArgMatches) -> Option<u32>
     ensures { Finds result (AreSteps (rows_of (found_of found.now))) }
 {
     number_in(found, "steps", 1, 4_294_967_295)
 }
 
-// The number that matches say under a name, between two bounds.
+// The number in matches under a name, between two bounds.
 fn number_in(found: &ArgMatches, name: &str, least: u32, most: u32) -> Option<u32>
     ensures { Finds result (IsNumberUnder name.now least most (rows_of (found_of found.now))) }
 {
@@ -489,7 +490,7 @@ fn number_in(found: &ArgMatches, name: &str, least: u32, most: u32) -> Option<u3
     Some(number)
 }
 
-// Whether matches say that an option without a value was used.
+// Whether an option without a value was used.
 fn flag_in(found: &ArgMatches, name: &str) -> bool
     ensures { IsFlag name.now (rows_of (found_of found.now)) result }
 {

@@ -1,4 +1,4 @@
-//! What the program says to a command line.
+//! The program's messages for a command line.
 
 ghost use Rattle.std.specs.Prelude.{◌≡◌, map};
 ghost use Rattle.std.specs.IoError.{error_kind};
@@ -19,7 +19,7 @@ use std::alloc::Global;
 use std::convert::AsStr;
 use std::{fmt, io};
 
-/// Where a message is written.
+/// The stream of a message.
 #[derive(Clone, Copy, Debug, PartialEq, Eq)]
 pub enum Stream {
     /// Standard output.
@@ -28,16 +28,16 @@ pub enum Stream {
     Errors,
 }
 
-/// How the program ends.
+/// The status with which the program ends.
 #[derive(Clone, Copy, Debug, PartialEq, Eq)]
 pub enum Status {
-    /// What was asked for is said.
+    /// The message is what was asked for.
     Success,
     /// There is no answer.
     Failure,
     /// The command line is wrong.
     Misuse,
-    /// No certificate was written, and it was asked to be told so.
+    /// No certificate was written, and the status was to show that.
     Uncertified,
 }
 
@@ -55,7 +55,7 @@ impl Status {
     }
 }
 
-/// What is written. Its `Display` is whole lines.
+/// A message. Its `Display` prints whole lines.
 #[derive(Debug, Drop)]
 pub enum Message {
     /// The line of an answer.
@@ -66,7 +66,7 @@ pub enum Message {
     Verified(VerifyAnswer),
     /// A file can't be read or written.
     File(FileFault),
-    /// Clap's words on a line that says no job, or that asks for help.
+    /// Clap's message for a line that is no job, or that asks for help.
     Line(Error),
     /// One of the words isn't UTF-8.
     NotText,
@@ -89,7 +89,7 @@ impl fmt::Display for Message {
     }
 }
 
-/// What is said, and how the program ends then.
+/// A message, its stream, and the status with which the program ends.
 #[derive(Debug, Drop)]
 pub struct Said {
     pub stream: Stream,
@@ -100,18 +100,18 @@ pub struct Said {
 /// The reply to a command line.
 #[derive(Debug, Drop)]
 pub enum Reply<'a> {
-    /// This is said.
+    /// Writes a message.
     Said(Said),
-    /// A package is to be verified, and then it is said what comes of it.
+    /// Verifies a package, and then writes a message.
     Verify(VerifyJob<'a>),
-    /// A script is to be played, and then it is said why, if it ends early.
+    /// Plays a script, and writes a message if it ends early.
     Run(RunJob<'a>),
-    /// A session is to be held, and then the same.
+    /// Holds a session, and writes a message if it ends early.
     Session(CardJob<'a>),
 }
 
-/// What is said beside a message, on standard error: for which method there is no certificate, and where its inference
-/// ends. Its `Display` is a whole line.
+/// A remark besides a message, on standard error: the method without a certificate, and where its inference ends. Its
+/// `Display` prints a whole line.
 #[derive(Clone, Copy, Debug, PartialEq, Eq)]
 pub struct Remark {
     pub method: u16,
@@ -131,7 +131,7 @@ impl fmt::Display for Remark {
     }
 }
 
-/// What is said beside a message.
+/// The remark of a message, if it has one.
 pub fn remark_of(message: &Message) -> Option<Remark>
     ensures { result ≡ remark_of message.now }
 {
@@ -144,7 +144,7 @@ pub fn remark_of(message: &Message) -> Option<Remark>
     }
 }
 
-/// What comes of the words of a command line, of which the first is the program's name.
+/// The reply to the words of a command line, of which the first is the program's name.
 pub fn said_to<'a, S: AsStr>(alloc: Global, words: &'a [S]) -> Reply<'a>
     ensures { IsReply (map S.text words.entry.now) result }
 {
@@ -158,7 +158,7 @@ pub fn said_to<'a, S: AsStr>(alloc: Global, words: &'a [S]) -> Reply<'a>
     }
 }
 
-/// What is said where the words can't be had.
+/// The message if the words can't be read.
 pub fn said_without_words(error: &io::Error) -> Said
     ensures { IsSaidWithoutWords (error_kind error.now) result }
 {
@@ -169,7 +169,7 @@ pub fn said_without_words(error: &io::Error) -> Said
     }
 }
 
-/// The status of an answer to a package that has no certificate.
+/// The status of the answer to a package without a certificate.
 fn uncertified(strict: bool) -> Status
     ensures { result ≡ uncertified_status strict }
 {
@@ -180,8 +180,7 @@ fn uncertified(strict: bool) -> Status
     }
 }
 
-/// What is said of the answer to a package. Whether a certificate was written is part of the status only where that is
-/// asked for.
+/// The message for the answer to a package. The status shows that no certificate was written only if `strict` holds.
 pub fn said_of_verified(strict: bool, answer: VerifyAnswer) -> Said
     ensures { IsSaidOfVerified strict answer result }
 {
@@ -226,7 +225,7 @@ fn is_certified(answer: &VerifyAnswer) -> bool
     }
 }
 
-/// What is said where files can't be read or written.
+/// The message if files can't be read or written.
 pub fn said_of_files(fault: ReadFault) -> Said
     ensures { IsSaidOfFiles fault result }
 {
@@ -236,7 +235,7 @@ pub fn said_of_files(fault: ReadFault) -> Said
     }
 }
 
-// What is said to code and a certificate.
+// The message for code and a certificate.
 fn said_of_code(alloc: Global, code: &str, cert: &str, steps: u32) -> Said
     ensures { IsSaidOfCode code.now cert.now steps result }
 {
@@ -286,7 +285,7 @@ fn misused(message: Message) -> Said
     }
 }
 
-// Clap's words: help is what was asked for.
+// Clap's message; help is what was asked for.
 fn said_of_line(error: Error) -> Said
     ensures message { result.message ≡ Message.Line error }
     ensures said { IsSaidOfLine error result }

@@ -1,4 +1,4 @@
-//! Names of files as they are shown to people.
+//! Names of files for output.
 
 ghost use Rattle.std.specs.Prelude.{◌≡◌};
 ghost use Rattle.jc_host.specs.Files.{is_plain_byte, may_hide, odd_byte};
@@ -12,15 +12,15 @@ fn may_hide(byte: u8) -> bool
     byte == 194 || byte == 216 || byte == 226 || byte == 239
 }
 
-/// Whether a byte of a name is written as it is.
+/// Whether a byte of a name is written unchanged.
 fn is_plain(byte: u8) -> bool
     ensures { result ≡ is_plain_byte byte }
 {
     !byte.is_ascii_control() && !may_hide(byte)
 }
 
-/// Whether a character is a control character, is invisible, or changes the direction of a text: those that Unicode
-/// calls Cc, and of those that it calls Cf, Zl and Zp the ones that a terminal obeys.
+/// Whether a character is a control character, is invisible, or changes the direction of a text: those of Unicode's
+/// category Cc, and of its categories Cf, Zl and Zp those that a terminal obeys.
 fn is_hidden(character: char) -> bool {
     match u32::from(character) {
         0x0..=0x1F | 0x7F..=0x9F | 0xAD => true,
@@ -29,14 +29,14 @@ fn is_hidden(character: char) -> bool {
     }
 }
 
-/// Where the first byte of a name stands that isn't.
+/// The index of the first byte of a name that isn't written unchanged.
 fn odd_byte(name: &str) -> Option<usize>
     ensures { result ≡ odd_byte name.now }
 {
     name.as_bytes().iter().position(|byte| !is_plain(*byte))
 }
 
-/// A name. Characters that do something else to a terminal than being shown are written in hexadecimal.
+/// A name for output. Characters that a terminal obeys instead of showing are written in hexadecimal.
 #[derive(Drop)]
 pub struct ShownName<'a> {
     pub name: &'a str,
@@ -55,7 +55,7 @@ impl<'a> fmt::Display for ShownName<'a> {
     }
 }
 
-// A name, character by character.
+// Writes a name, character by character.
 fn write_escaped<W: fmt::Write>(f: &mut fmt::Formatter<W>, name: &str) -> fmt::Result {
     for character in name.chars() {
         let number = u32::from(character);

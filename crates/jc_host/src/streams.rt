@@ -1,4 +1,4 @@
-//! The streams that the program writes to: a writer that waits, and one that hands lines on whole.
+//! The streams of the program's output: a writer that waits, and one that writes whole lines.
 
 ghost use Rattle.std.specs.Prelude.{◌≡◌};
 
@@ -7,11 +7,11 @@ use std::io::{self, Write};
 use std::thread;
 use std::time::{Clock, Duration};
 
-/// How many milliseconds a writer waits before it asks the system again.
+/// How many milliseconds a writer waits before it calls the system again.
 const PAUSE: u64 = 1;
 
-/// A writer that waits where the system has no room for what is written: its call says then that it was interrupted, so
-/// that it is made again.
+/// A writer that waits if the system has no room for the bytes: then its call reports an interruption, so it is
+/// repeated.
 #[derive(Drop)]
 pub struct Patient<'a, W: Write, C: Clock> {
     writer: W,
@@ -44,8 +44,8 @@ impl<'a, W: Write, C: Clock> Write for Patient<'a, W, C> {
 /// The most bytes of a line that is written at once.
 const MOST_IN_LINE: usize = 8192;
 
-/// A writer that hands each line on by one write, so that no other program's words come between. A longer line is
-/// handed on in parts.
+/// A writer that passes on each line in one write, so no other program's output comes between. It passes on a longer
+/// line in parts.
 #[derive(Drop)]
 pub struct WholeLines<W: Write> {
     writer: W,

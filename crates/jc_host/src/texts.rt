@@ -12,10 +12,10 @@ use std::fmt;
 /// The most bytes of code.
 pub const MOST_CODE: usize = 65535;
 
-/// What is said of an odd number of characters.
+/// The words for an odd number of characters.
 const ODD_LENGTH: &str = "an odd number of characters, blanks and signs among them";
 
-/// Why texts have no answer.
+/// Why there is no answer to texts.
 #[derive(Clone, Copy, Debug, PartialEq, Eq)]
 pub enum TextFault {
     /// CODE isn't hexadecimal.
@@ -49,7 +49,7 @@ impl fmt::Display for TextFault {
     }
 }
 
-/// What `eval` answers to code and a certificate in hexadecimal, which is never `EvalAnswer::Memory`. CODE is read
+/// The answer of `eval` to code and a certificate in hexadecimal, which is never `EvalAnswer::Memory`. It reads CODE
 /// first.
 pub fn answer_of(alloc: Global, code: &str, cert: &str, steps: u32) -> Result<EvalAnswer, TextFault>
     ensures answered { IfOk result (AnswersTexts code.now cert.now steps) }
@@ -95,7 +95,7 @@ impl From<LongCode> for TextFault {
     }
 }
 
-// Whether code isn't too long.
+// Tests that code isn't too long.
 fn within_limit(code: &[u8]) -> Result<(), LongCode>
     ensures within { IfOk result (λ _. length code.now < 2 ^ 16) }
     ensures beyond { IfErr result (λ _. 2 ^ 16 ≤ length code.now) }

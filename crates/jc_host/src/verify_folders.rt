@@ -1,4 +1,4 @@
-//! The verification of packages in folders.
+//! Verification of packages in folders.
 
 ghost use Rattle.std.specs.Prelude.{◌≡◌, ◌≤◌, ◌∷◌, [], length, true, false, IfOk, IfErr};
 ghost use Rattle.jc_host.specs.Files.{IsFaultAt, IsFile, IsUnwritten, IsWritten, OfFile, WritesAlone, most_certificate};
@@ -24,8 +24,8 @@ use std::alloc::{AllocError, Global};
 use std::fmt;
 use std::io::ErrorKind;
 
-/// What is said of a package. Its certificate is written first, if it gets one, and only where nothing is under its
-/// name, or an empty file, or a certificate. Whatever comes of it, no other file than the certificate's is written.
+/// The message for a package. If the package gets a certificate, it is written first, and only if its path has nothing,
+/// an empty file, or a certificate. In any case no other file is written.
 pub fn said_of_job<F: Files>(files: &mut F, alloc: Global, job: &VerifyJob) -> Said
     ensures said { IsSaidOfJob (F.holds files.old) (IsWritten (F.has_written files.old) (F.has_written files.new))
         job.now result }
@@ -37,8 +37,8 @@ pub fn said_of_job<F: Files>(files: &mut F, alloc: Global, job: &VerifyJob) -> S
     }
 }
 
-/// The folder whose package is refused, of several, and the package's AID, if that can be read. Its `Display` is a line
-/// of standard error.
+/// The folder whose package is refused, of several, and the package's AID, if it can be read. Its `Display` prints a
+/// line of standard error.
 #[derive(Drop)]
 pub struct RefusedFolder<'a> {
     folder: &'a str,
@@ -67,7 +67,7 @@ fn aid_in(image: &[u8]) -> Option<Aid> {
     Some(read_header(&parts).ok()?.package().aid)
 }
 
-// Whether a package is refused behind others.
+// Whether a package is refused after others.
 fn is_refused(alloc: Global, image: &[u8], earlier: &[Vec<u8>], binding: &Binding) -> bool {
     match verify(alloc, image, earlier, binding) {
         VerifyAnswer::Refused(_) => true,
@@ -76,7 +76,7 @@ fn is_refused(alloc: Global, image: &[u8], earlier: &[Vec<u8>], binding: &Bindin
     }
 }
 
-// The first of the earlier folders of a job whose package is refused, or the package's own.
+// The first of a job's earlier folders whose package is refused, or the package's own.
 fn first_refused<'a, F: Files>(
     files: &F,
     alloc: Global,
@@ -99,8 +99,8 @@ fn first_refused<'a, F: Files>(
     })
 }
 
-/// Which folder's package is refused, where it is said that one is, and the job names several. The files are read again
-/// for it.
+/// The folder whose package is refused, if the message reports a refusal and the job names several folders. It reads
+/// the files again.
 pub fn refused_folder<'a, F: Files>(
     files: &F,
     alloc: Global,
@@ -115,7 +115,7 @@ pub fn refused_folder<'a, F: Files>(
     }
 }
 
-// Whether bytes are none, or a certificate.
+// Whether there are no bytes, or they are a certificate.
 fn may_be_lost(alloc: Global, bytes: &[u8]) -> Result<bool, AllocError>
     ensures { IfOk result (λ lost. MayBeLost bytes.now lost) }
 {
@@ -129,7 +129,7 @@ fn may_be_lost(alloc: Global, bytes: &[u8]) -> Result<bool, AllocError>
     }
 }
 
-// Whether the regular file under a path may be written over.
+// Tests that the regular file at a path may be overwritten.
 fn look_at_content<F: Files>(files: &F, alloc: Global, path: &str) -> Result<(), ReadFault>
     ensures place { IfOk result (λ u. IsReplaceable (F.holds files.now path.now)) }
     ensures faults { IfErr result (OfFile (IsFaultAt path.now (IsInTheWay (F.holds files.now path.now)))) }
@@ -145,7 +145,7 @@ fn look_at_content<F: Files>(files: &F, alloc: Global, path: &str) -> Result<(),
     }
 }
 
-// Whether a certificate may be written under a path.
+// Tests that a certificate may be written to a path.
 fn look_for_place<F: Files>(files: &F, alloc: Global, path: &str) -> Result<(), ReadFault>
     ensures place { IfOk result (λ u. IsReplaceable (F.holds files.now path.now)) }
     ensures faults { IfErr result (OfFile (IsFaultAt path.now (IsInTheWay (F.holds files.now path.now)))) }
@@ -158,7 +158,7 @@ fn look_for_place<F: Files>(files: &F, alloc: Global, path: &str) -> Result<(), 
     }
 }
 
-// What is said of a package, where its certificate may be written.
+// The message for a package, if its certificate may be written.
 fn said_of_work<F: Files>(files: &mut F, alloc: Global, job: &VerifyJob) -> Said
     ensures said { IsSaidOfWork (F.holds files.old) (IsWritten (F.has_written files.old) (F.has_written files.new))
         job.now result }
@@ -170,7 +170,7 @@ fn said_of_work<F: Files>(files: &mut F, alloc: Global, job: &VerifyJob) -> Said
     }
 }
 
-/// Whether a file stays under the certificate's name that was there before: nothing can have been written to it.
+/// Whether a file that existed before stays at the certificate's path: nothing can have been written to it.
 pub fn older_stays<F: Files>(files: &F, job: &VerifyJob, said: &Said) -> bool
     ensures unwritten { result ≡ true → may_be_written job.now.cert.now said.now.message ≡ false }
     ensures there { result ≡ true → IsFile (F.holds files.now job.now.cert.now) }
@@ -184,7 +184,7 @@ pub fn older_stays<F: Files>(files: &F, job: &VerifyJob, said: &Said) -> bool
     }
 }
 
-// The answer to a package, whose certificate is written.
+// The answer to a package; its certificate is written.
 fn answer_to<F: Files>(
     files: &mut F,
     alloc: Global,
@@ -202,8 +202,8 @@ fn answer_to<F: Files>(
     Ok(answer)
 }
 
-// The answer to a package. All files are read before any package is linked: the binding, the earlier folders in their
-// order, the package's.
+// The answer to a package. All files are read before any package is linked: the binding, the earlier folders in order,
+// the package's folder.
 fn worked_out<F: Files>(
     files: &F,
     alloc: Global,
@@ -218,7 +218,7 @@ fn worked_out<F: Files>(
     Ok(verify(alloc, &image, &earlier, &binding))
 }
 
-// Writes the bytes of a certificate, if they are no more than can be read again.
+// Writes the bytes of a certificate, unless they are more than can be read again.
 fn write_certificate<F: Files>(
     files: &mut F,
     alloc: Global,

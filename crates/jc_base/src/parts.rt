@@ -5,7 +5,7 @@ ghost use Rattle.std.specs.Option.{option_copied};
 
 use std::marker::Model;
 
-/// The infos of an image's components, LENT the image.
+/// The infos of an image's components, borrowed from the image.
 #[derive(Drop)]
 pub struct Parts<'a> {
     pub(crate) header: &'a [u8],

@@ -1,5 +1,5 @@
--- Code alone: the code of one method, of no package, as the defensive machine runs it. There are no objects, no static
--- fields and no frame that waits, and no instruction but those on words.
+-- Code alone: the code of one method without a package, run on the defensive machine. There are no objects, no static
+-- fields and no waiting frame, and only instructions on words.
 use Rattle.std.specs.Prelude.{⊤, ◌≡◌, ℕ, zero, suc, ◌+◌, List, [], replicate, None, Some, true, false}
 use Rattle.jc_api.specs.declared.class.ApiClass.TheVariants.{Object}
 use Rattle.jc_base.specs.declared.declared_type.DeclaredType.TheVariants.{Short}
@@ -25,13 +25,13 @@ use Rattle.jc_machine.specs.Words.{act_word}
 use Rattle.jc_eval.specs.declared.run.CodeEnd.{CodeEnd}
 use Rattle.jc_eval.specs.declared.run.CodeEnd.TheVariants as ends
 
--- ---- what surrounds it
+-- ---- its surroundings
 
 -- a world without packages
 abbrev pub empty_world : World
 empty_world = record { shapes = []; bodies = [] }
 
--- room for its one frame, and for no objects; no instruction on words asks for any
+-- room for its one frame, and for no objects; no instruction on words needs any
 abbrev pub one_frame : Limits
 one_frame = record { objects = 0; cells = 0; frames = 1; frame_words = word_locals + word_max_stack }
 
@@ -39,11 +39,11 @@ one_frame = record { objects = 0; cells = 0; frames = 1; frame_words = word_loca
 abbrev pub nothing_around : Surroundings ⊤
 nothing_around = record { world = empty_world; natives = idle; limits = one_frame; selected = None }
 
--- what its method's header would say
+-- the header of its method
 abbrev pub alone_header : MethodHeader
 alone_header = record { is_abstract = false; max_stack = word_max_stack; nargs = 0; max_locals = word_locals }
 
--- its method as it is declared: static, without arguments, and it gives a short
+-- the declaration of its method: static, without arguments, and with a short as its result
 abbrev pub alone_method : DeclaredMethod
 alone_method = record {
   class = Api Object;
@@ -58,7 +58,7 @@ alone_method = record {
 
 -- ---- a step
 
--- where a machine stands with an instruction of the code
+-- the context of an instruction of the code on a machine
 abbrev pub here_alone : Machine ⊤ → Instr → StepContext ⊤
 here_alone m instr = record {
   around = nothing_around;
@@ -73,20 +73,20 @@ abbrev pub act_alone : StepContext ⊤ → Operation → Stepped ⊤
 act_alone h (operations.Word operation) = act_word h operation
 act_alone h (operations.Object operation) = stuck
 
--- where an instruction of the listing begins at the frame's pc, one step; elsewhere the machine is stuck
+-- one step, if an instruction of the listing begins at the frame's pc; otherwise the machine is stuck
 unfoldable pub alone_step : List PlacedInstr → Machine ⊤ → Stepped ⊤
 alone_step listing m =
     on_some (placed_at listing m.top.pc) (λ x. act_alone (here_alone m x.instr) x.instr.operation)
 
 -- ---- a run
 
--- at most so many steps; where a further one would begin the budget is used up. Code alone calls nothing: no frame is
--- ever lacking, and no package's place is told
+-- at most n steps; if a further one would begin, the budget is used up. Code alone calls nothing: it never lacks a
+-- frame, and no package's place is reported
 unfoldable pub alone_steps : List PlacedInstr → ℕ → Machine ⊤ → Called ⊤
 alone_steps listing zero m = ended_by (RanOut m Steps None)
 alone_steps listing (suc n) m = onward FrameWords None (alone_steps listing n) (alone_step listing m)
 
--- the machine at first: at the first byte of the code, with locals that were never written, and no operands
+-- the first machine: at the first byte of the code, with locals that were never written, and no operands
 abbrev pub first_machine : Machine ⊤
 first_machine = record {
   heap = [];
@@ -96,34 +96,34 @@ first_machine = record {
   waiting = [];
 }
 
--- a run of the code from there on, of so many steps at most
+-- a run of the code from there on, of at most the given number of steps
 abbrev pub alone_call : List PlacedInstr → ℕ → Called ⊤
 alone_call listing steps = alone_steps listing steps first_machine
 
--- ---- how a run ends
+-- ---- ends of a run
 
--- with this word
+-- it returns this word
 abbrev pub GivesWord : ℕ → CallEnd ⊤ → Type 0
 GivesWord word (Gave m value) = value ≡ Some (Word word)
 GivesWord word (Threw m object at) = ⊥
 GivesWord word (RanOut m spent at) = ⊥
 GivesWord word WasStuck = ⊥
 
--- with the exception of a division by zero
+-- it throws the exception of a division by zero
 abbrev pub ThrowsArithmetic : CallEnd ⊤ → Type 0
 ThrowsArithmetic (Gave m value) = ⊥
 ThrowsArithmetic (Threw m object at) = object ≡ arithmetic_exception
 ThrowsArithmetic (RanOut m spent at) = ⊥
 ThrowsArithmetic WasStuck = ⊥
 
--- with no step left
+-- it has no step left
 abbrev pub UsesUp : CallEnd ⊤ → Type 0
 UsesUp (Gave m value) = ⊥
 UsesUp (Threw m object at) = ⊥
 UsesUp (RanOut m spent at) = ⊤
 UsesUp WasStuck = ⊥
 
--- a run on words ends so
+-- a run on words has the same end
 abbrev pub EndsAs : CodeEnd → CallEnd ⊤ → Type 0
 EndsAs (ends.Gave word) end = GivesWord word end
 EndsAs ends.Divided end = ThrowsArithmetic end

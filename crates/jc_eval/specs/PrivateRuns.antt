@@ -1,4 +1,4 @@
--- Private. How code alone ends where the loop over words has stopped.
+-- Private. The end of code alone if the loop over words has stopped.
 use Rattle.std.specs.Prelude.{ℕ, Result, Ok, Err, if◌then◌else◌}
 use Rattle.jc_code.specs.Targets.{is_end_of}
 use Rattle.jc_code.specs.declared.fault.CodeFault.{CodeFault}
@@ -6,7 +6,7 @@ use Rattle.jc_code.specs.declared.instr.Instr.{Instr}
 use Rattle.jc_eval.specs.declared.run.CodeEnd.{CodeEnd}
 use Rattle.jc_eval.specs.declared.run.CodeEnd.TheVariants as ends
 
--- a return gives the top operand, and nothing else but a division stops the loop
+-- a return returns the top operand, and only a division stops the loop otherwise
 abbrev pub end_of : Result Instr CodeFault → ℕ → CodeEnd
 end_of (Ok instr) top = if is_end_of instr.operation then ends.Gave top else ends.Divided
 end_of (Err fault) top = ends.Divided

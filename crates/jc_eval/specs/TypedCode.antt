@@ -1,4 +1,4 @@
--- When a machine that runs code alone is well typed, and what a step of it comes to then.
+-- When a machine that runs code alone is well typed, and the results of its steps then.
 use Rattle.std.specs.Prelude.{⊤, ◌≡◌, ℕ, ◌<◌, List, [], length, Option, Some, Ok}
 use Rattle.jc_check.specs.Typing.{Typing}
 use Rattle.jc_code.specs.Instructions.{word_instr_at}
@@ -11,8 +11,8 @@ use Rattle.jc_machine.specs.Runtime.{arithmetic_exception}
 use Rattle.jc_machine.specs.Step.{CallEnd, Gave, RanOut, Threw, WasStuck}
 use Rattle.jc_machine.specs.Typed.{HaveTypes, HoldTypes}
 
--- there are no objects, no static fields and no frame that waits; the typing has a state at the frame's pc, and the
--- locals and operands have its types
+-- there are no objects, no static fields and no waiting frame; the typing has a state at the frame's pc, and the locals
+-- and operands have its types
 pub record IsTypedAlone (typing : Typing) (m : Machine ⊤) : Type 0 where
   pub heap : m.heap ≡ []
   pub statics : m.statics ≡ []
@@ -22,7 +22,7 @@ pub record IsTypedAlone (typing : Typing) (m : Machine ⊤) : Type 0 where
   pub locals : HaveTypes [] [] m.top.locals state.locals
   pub operands : HoldTypes [] [] m.top.operands state.operands
 
--- an instruction of the listing begins at the frame's pc, within the code, and is the one that is spelled there
+-- an instruction of the listing begins at the frame's pc, within the code, and is the one that decoding gives there
 pub record StandsAt (code : List ℕ) (listing : List PlacedInstr) (m : Machine ⊤) : Type 0 where
   pub instr : PlacedInstr
   pub placed : placed_at listing m.top.pc ≡ Some instr
@@ -30,26 +30,26 @@ pub record StandsAt (code : List ℕ) (listing : List PlacedInstr) (m : Machine 
   pub within : m.top.pc < length code
   pub spelled : word_instr_at code m.top.pc ≡ Ok instr.instr
 
--- ---- what a step comes to
+-- ---- results of a step
 
--- a machine after another one is well typed, and is that one but for pc, locals and operands
+-- the next machine is well typed, and differs only in pc, locals and operands
 pub record GoesOnTyped (typing : Typing) (m after : Machine ⊤) : Type 0 where
   pub typed : IsTypedAlone typing after
   pub frame_alone : after ≡ with_top m (moved m.top after.top.pc after.top.locals after.top.operands)
 
--- the exception of a division by zero is thrown, and the machine is as it was
+-- the exception of a division by zero is thrown, and the machine is unchanged
 pub record ThrowsArithmetic (m after : Machine ⊤) (object : ℕ) : Type 0 where
   pub same : after ≡ m
   pub arithmetic : object ≡ arithmetic_exception
 
--- a word of 16 bits is given, and the machine is as it was
+-- a word of 16 bits is returned, and the machine is unchanged
 pub record GivesWord (m after : Machine ⊤) (value : Option TaggedValue) : Type 0 where
   pub same : after ≡ m
   pub word : ℕ
   pub small : word < 65536
   pub is : value ≡ Some (Word word)
 
--- never stuck: it goes on, throws that exception, or ends with a word; no frame is entered that could lack room
+-- never stuck: it goes on, throws that exception, or ends with a word; it enters no frame that could lack room
 abbrev pub StepsTyped : Typing → Machine ⊤ → Outcome ⊤ → Type 0
 StepsTyped typing m (Next after) = GoesOnTyped typing m after
 StepsTyped typing m (Throws after object) = ThrowsArithmetic m after object
@@ -57,21 +57,21 @@ StepsTyped typing m (Ends after value) = GivesWord m after value
 StepsTyped typing m (UsedUp after) = ⊥
 StepsTyped typing m Stuck = ⊥
 
--- ---- what a run comes to
+-- ---- results of a run
 
--- a word of 16 bits is given by a machine that is well typed
+-- a machine that is well typed returns a word of 16 bits
 pub record GaveWord (typing : Typing) (m : Machine ⊤) (value : Option TaggedValue) : Type 0 where
   pub typed : IsTypedAlone typing m
   pub word : ℕ
   pub small : word < 65536
   pub is : value ≡ Some (Word word)
 
--- the exception of a division by zero is thrown by a machine that is well typed
+-- a machine that is well typed throws the exception of a division by zero
 pub record ThrewArithmetic (typing : Typing) (m : Machine ⊤) (object : ℕ) : Type 0 where
   pub typed : IsTypedAlone typing m
   pub arithmetic : object ≡ arithmetic_exception
 
--- never stuck: it gives a word, throws that exception, or uses up its steps
+-- never stuck: it returns a word, throws that exception, or uses up its steps
 abbrev pub EndsTypedAlone : Typing → CallEnd ⊤ → Type 0
 EndsTypedAlone typing (Gave m value) = GaveWord typing m value
 EndsTypedAlone typing (Threw m object at) = ThrewArithmetic typing m object

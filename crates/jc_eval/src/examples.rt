@@ -1,4 +1,4 @@
-//! Examples of code alone: what the prover computes of it.
+//! Examples of code alone, which the prover computes.
 
 ghost use Rattle.std.specs.Prelude.{◌≡◌, ◌++◌, [], ◌∷◌, None, Some, negsuc, pos, replicate};
 ghost use Rattle.jc_eval.specs.Examples.{run_of};
@@ -11,8 +11,8 @@ ghost use Rattle.jc_code.specs.declared.object.ObjectOperation.TheVariants.{Push
 ghost use Rattle.jc_machine.specs.Examples.{a_value, an_object, stuck, used_up};
 ghost use Rattle.jc_words.specs.Values as values;
 
-/// Code alone that runs to an end: it gives a sum, and one that wraps; a local that was written is loaded; there is
-/// room for eight operands; a division by zero throws; a loop uses up its steps. They do nothing.
+/// Code alone that runs to an end. It returns a sum, and a sum that wraps; a local that was written is loaded; there is
+/// room for eight operands; a division by zero throws; a loop uses up its steps. It does nothing.
 pub fn code_runs()
     ensures a_sum { run_of (Word (Push (pos 2)) ∷ Word (Push (pos 3)) ∷ Word (Binary Add) ∷ Word ReturnWord ∷ []) 4
         ≡ a_value (Some (values.Word 5)) }
@@ -29,7 +29,7 @@ pub fn code_runs()
     ensures a_step_too_few { run_of (Word (Push (pos 2)) ∷ Word ReturnWord ∷ []) 1 ≡ used_up }
 {}
 
-/// Code alone that the check refuses is stuck. They do nothing.
+/// Code alone that the check refuses is stuck. It does nothing.
 pub fn stuck_code_runs()
     ensures an_operand_is_missing { run_of (Word ReturnWord ∷ []) 9 ≡ stuck }
     ensures an_operand_too_many { run_of (replicate 9 (Word (Push (pos 2)))) 9 ≡ stuck }

@@ -1,4 +1,4 @@
-//! Code alone: the code of one method, of no package, as the defensive machine runs it, and its type safety.
+//! Code alone: the code of one method without a package, its run on the defensive machine, and its type safety.
 #![tactic(auto)]
 
 ghost use Rattle.std.specs.Prelude.{⊤, ℕ, List};
@@ -17,10 +17,10 @@ use jc_code::listing_laws;
 use jc_machine::{IdleNatives, operations_on_words_keep_types};
 pub use run::{CodeEnd, run_code};
 
-/// Code alone that is well typed is type-safe. The machine is well typed where it begins. Where it is well typed, an
-/// instruction of the code stands at its pc, and a step isn't stuck: it goes on well typed, with nothing changed but
-/// its frame, throws the exception of a division by zero, or ends with a word. So it is in any number of steps, and in
-/// a run of the code from its start. It does nothing.
+/// Code alone that is well typed is type-safe. The machine is well typed at its start. If it is well typed, an
+/// instruction of the code begins at its pc, and a step isn't stuck. The step goes on well typed, with only its frame
+/// changed, or throws the exception of a division by zero, or ends with a word. The same holds for any number of steps,
+/// and for a run of the code from its start. It does nothing.
 pub fn carried_code_is_safe()
     ensures first { (code : List ℕ) (typing : Typing) → IsTyping word_rules (word_method code) typing
         → IsTypedAlone typing first_machine }

@@ -15,18 +15,18 @@ use jc_follow::words_follow;
 use jc_loop::{FramePosition, run_words, words_are_decoded};
 use jc_machine::IdleNatives;
 
-/// How a run of code alone ends.
+/// The end of a run of code alone.
 #[derive(Clone, Copy, Debug, PartialEq, Eq)]
 pub enum CodeEnd {
     /// The code returned a word.
     Gave(u16),
     /// The code threw the exception of a division by 0.
     Divided,
-    /// The code hadn't ended after so many steps.
+    /// The code didn't end within the given steps.
     UsedUp,
 }
 
-/// The top operand; 0 where there is none.
+/// The top operand, or 0 if there is none.
 fn top_of(slots: &[u16], depth: u8) -> u16
     requires held { depth ≤ length slots.now }
     ensures { result ≡ slice_index (reverse (take depth slots.now)) 0 }
@@ -37,7 +37,7 @@ fn top_of(slots: &[u16], depth: u8) -> u16
     slots[usize::from(depth) - 1]
 }
 
-/// How code ends where the loop over words has stopped with steps left: it returns, or divides by 0.
+/// The end of code if the loop over words has stopped with steps left: it returns, or divides by 0.
 fn end_at(code: &[u8], slots: &[u16], place: FramePosition) -> CodeEnd
     requires held { place.depth ≤ length slots.now }
     ensures { result ≡ end_of (word_instr_at code.now place.pc) (slice_index (reverse (take place.depth slots.now)) 0) }
@@ -53,8 +53,8 @@ fn end_at(code: &[u8], slots: &[u16], place: FramePosition) -> CodeEnd
     }
 }
 
-/// Runs code that a certificate carries for at most so many steps. It ends as the defensive machine's run of the code
-/// ends, which is never stuck.
+/// Runs code that a certificate carries for at most `steps` steps. It ends as the defensive machine's run of the code
+/// does, which is never stuck.
 pub fn run_code(checked: &CheckedWords<'_>, steps: u32) -> CodeEnd
     ensures { (typing : Typing) → (t : IsTyping word_rules (word_method checked.now) typing)
         → EndsAs result (alone_call t.listing steps).ends }

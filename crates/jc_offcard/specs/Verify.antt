@@ -1,4 +1,4 @@
--- What `verify` answers to a package behind others, under a binding: a certificate that carries it, or that none does,
+-- The answer of `verify` to a package after others, with a binding: a certificate that carries it, or that none does,
 -- or the first refusal.
 use Rattle.std.specs.Prelude.{◌≡◌, ℕ, ◌<◌, ◌≤◌, List, [], ◌∷◌, ◌++◌, length, Some, Result, Ok}
 use Rattle.jc_api.specs.Bound.{Bound}
@@ -21,7 +21,7 @@ use Rattle.jc_offcard.specs.declared.verify_answer.VerifyAnswer.{VerifyAnswer}
 use Rattle.jc_offcard.specs.declared.verify_answer.VerifyAnswer.TheVariants.{Certificate, NoCertificate, Refused}
 use Rattle.jc_offcard.specs.declared.verify_answer.VerifyAnswer.TheVariants.{Memory}
 
--- what is read of an image: it is cut into components, which are a package, or it is refused
+-- the result of reading an image: it splits into components, which are a package or are refused, or it is refused
 pub record IsReadAs (image : List ℕ) (read : Result Package LoadFault) : Type 0 where
   pub pieces : List Piece
   pub rest : List ℕ
@@ -33,13 +33,13 @@ pub record IsFine (before : List Shape) (image : List ℕ) (p : Package) : Type 
   pub read : IsReadAs image (Ok p)
   pub fine : IsWellFormed before p
 
--- the image is refused behind these packages
+-- the image is refused after these packages
 pub record IsRefused (before : List Shape) (image : List ℕ) (fault : LoadFault) : Type 0 where
   pub read : Result Package LoadFault
   pub is : IsReadAs image read
   pub refused : refusal_of before read ≡ Some fault
 
--- the images are packages, each well-formed in the world of those before it and put behind them, from a first world to
+-- the images are packages, each well-formed in the world of those before it and appended to them, from a first world to
 -- a last one
 pub data AreLoaded : List Shape → List (List ℕ) → List Shape → Type 0 where
   none : (world : List Shape) → AreLoaded world [] world
@@ -47,8 +47,8 @@ pub data AreLoaded : List Shape → List (List ℕ) → List Shape → Type 0 wh
       → length before < most_in_world
       → AreLoaded (grown before p.shape) images after → AreLoaded before (image ∷ images) after
 
--- the first refusal of images that are linked one behind the other; a world that others are linked in needs room for
--- each before them
+-- the first refusal of images that are linked one after the other; each image before another one needs room in the
+-- world
 pub data IsFirstRefusal : List Shape → List (List ℕ) → LoadFault → Type 0 where
   here : (before : List Shape) (image : List ℕ) (images : List (List ℕ)) (fault : LoadFault)
       → IsRefused before image fault → IsFirstRefusal before (image ∷ images) fault
@@ -64,52 +64,52 @@ pub record IsPackage (image : List ℕ) : Type 0 where
   pub «package» : Package
   pub read : IsReadAs image (Ok «package»)
 
--- where memory may be out: at an image that is a package, behind images that are put behind one another
+-- where memory may run out: at an image that is a package, after images that are appended one after the other
 pub data MayBeShort : List Shape → List (List ℕ) → Type 0 where
   here : (before : List Shape) (image : List ℕ) (images : List (List ℕ)) → IsPackage image
       → MayBeShort before (image ∷ images)
   later : (before : List Shape) (image : List ℕ) (images : List (List ℕ)) (p : Package) → IsFine before image p
       → length before < most_in_world → MayBeShort (grown before p.shape) images → MayBeShort before (image ∷ images)
 
--- the image is a package, and this is what it is, linked behind those before it
+-- the image is a package, and this is it, linked to those before it
 pub record IsLinkedBehind (before : List Shape) (image : List ℕ) (l : Linked) : Type 0 where
   pub «package» : Package
   pub read : IsReadAs image (Ok «package»)
   pub linked : IsLinked before «package» l
 
--- the earlier images are loaded behind the API's packages, and the image is linked behind them
+-- the earlier images are appended to the API's packages, and the image is linked to them
 pub record IsLinkedAfter (binding : Bound) (earlier : List (List ℕ)) (image : List ℕ) (l : Linked) : Type 0 where
   pub world : List Shape
   pub loaded : AreLoaded (api_world binding) earlier world
   pub behind : IsLinkedBehind world image l
 
--- bytes that spell a certificate which carries a linked package
+-- bytes are the encoding of a certificate that carries a linked package
 pub record SpellCarrying (l : Linked) (bytes : List ℕ) : Type 0 where
   pub rows : List Row
   pub cert : IsCert rows
   pub carried : CarriesPackage l rows
   pub bytes_are : bytes ≡ spelling rows
 
--- the package is linked behind the earlier ones, and the bytes spell a certificate that carries it
+-- the package is linked to the earlier ones, and the bytes are the encoding of a certificate that carries it
 pub record IsCertified (binding : Bound) (earlier : List (List ℕ)) (image bytes : List ℕ) : Type 0 where
   pub linked : Linked
   pub after : IsLinkedAfter binding earlier image linked
   pub spelled : SpellCarrying linked bytes
 
--- no certificate carries a linked package: no states carry the method at an offset, of which the fault is told, and
--- those before it can be carried
+-- no certificate carries a linked package: no states carry the method at an offset, with this fault, and those before
+-- it can be carried
 pub record IsCarriedByNone (l : Linked) (offset : ℕ) (fault : Fault) : Type 0 where
   pub uncarried : IsUncarried l offset fault
   pub none : IsPackageCarried l → ⊥
 
--- the package is linked behind the earlier ones, and no certificate carries it
+-- the package is linked to the earlier ones, and no certificate carries it
 pub record IsUncertified (binding : Bound) (earlier : List (List ℕ)) (image : List ℕ) (offset : ℕ)
     (fault : Fault) : Type 0 where
   pub linked : Linked
   pub after : IsLinkedAfter binding earlier image linked
   pub uncarried : IsCarriedByNone linked offset fault
 
--- the answer to a package behind earlier ones, under a binding
+-- the answer to a package after earlier ones, with a binding
 abbrev pub IsVerified : Bound → List (List ℕ) → List ℕ → VerifyAnswer → Type 0
 IsVerified binding earlier image (Certificate bytes) = IsCertified binding earlier image bytes.items
 IsVerified binding earlier image (NoCertificate method fault) = IsUncertified binding earlier image method fault

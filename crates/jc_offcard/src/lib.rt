@@ -1,4 +1,4 @@
-//! The verification of packages behind others.
+//! Verification of packages after others.
 #![tactic(auto)]
 
 mod unlinked;

@@ -4,7 +4,7 @@ ghost use Rattle.jc_offcard.specs.PrivateVerify.{Tells};
 
 use jc_base::LoadFault;
 
-/// Why a package isn't linked, or not put behind others.
+/// Why a package isn't linked, or not appended to a world.
 #[derive(Clone, Copy, Drop)]
 pub(crate) enum Unlinked {
     /// It is refused.

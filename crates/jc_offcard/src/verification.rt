@@ -1,4 +1,4 @@
-//! The verification of a package: its certificate is worked out.
+//! Verification of a package: its certificate is inferred.
 
 ghost use Rattle.std.specs.Prelude.{◌≡◌, ◌⊎◌, ◌<◌, ◌≤◌, [], ◌∷◌, ◌++◌, List, Some, map, length, slice_get, IfOk, IfErr};
 ghost use Rattle.jc_base.specs.declared.fault.LoadFault.TheVariants.{Full, Memory};
@@ -19,8 +19,8 @@ use jc_link::{Linked, World, link_package};
 use jc_verify::{VerifyFault, infer};
 use std::alloc::Global;
 
-/// Puts a linked package behind the others of the world that it was bound to, if there is room. Else the world is as it
-/// was: `Full`, or `Memory` where no memory is left.
+/// Appends a linked package to the world to which it was linked, if there is room. Otherwise the world is unchanged:
+/// `Full`, or `Memory` if memory runs out.
 pub fn put(world: &mut World, linked: Linked) -> Result<(), LoadFault>
     requires { IsBoundTo world.old linked }
     ensures put { IfOk result (λ u. world.new ≡ with_linked world.old linked) }
@@ -47,7 +47,7 @@ fn read_image<'a>(image: &'a [u8]) -> Result<Package<'a>, LoadFault>
     read_package(&parts)
 }
 
-// The package in an image, linked behind those of a world.
+// The package in an image, linked to those of a world.
 fn link_image(alloc: Global, image: &[u8], world: &World) -> Result<Linked, Unlinked>
     ensures bound { IfOk result (IsBoundTo world.now) }
     ensures linked { IfOk result (IsLinkedBehind world.now.shapes image.now) }
@@ -59,7 +59,7 @@ fn link_image(alloc: Global, image: &[u8], world: &World) -> Result<Linked, Unli
     }
 }
 
-// Why an image isn't linked where no memory is left: what is wrong with it by itself, or that.
+// Why an image isn't linked if memory runs out: its own fault, or out of memory.
 fn unlinked(image: &[u8]) -> Unlinked
     ensures { (before : List Shape) → IsUnlinked before image.now result }
 {
@@ -69,7 +69,7 @@ fn unlinked(image: &[u8]) -> Unlinked
     }
 }
 
-// The first of images.
+// The first of the images.
 fn first_of<'a>(earlier: &'a [Vec<u8>], image: &'a [u8]) -> &'a [u8]
     ensures { slice_get (map (λ image. image.items) earlier.now ++ image.now ∷ []) 0 ≡ Some result.now }
 {
@@ -79,7 +79,7 @@ fn first_of<'a>(earlier: &'a [Vec<u8>], image: &'a [u8]) -> &'a [u8]
     }
 }
 
-// Puts the package in an image behind the others.
+// Appends the package in an image to a world.
 fn load(alloc: Global, world: &mut World, image: &[u8]) -> Result<(), Unlinked>
     ensures loaded { IfOk result (λ u. IsPut world.old.shapes image.now world.new.shapes) }
     ensures unput { IfErr result (IsUnput world.old.shapes image.now) }
@@ -88,7 +88,7 @@ fn load(alloc: Global, world: &mut World, image: &[u8]) -> Result<(), Unlinked>
     Ok(put(world, linked)?)
 }
 
-// A world with the packages in images behind one another.
+// A world with the packages in images appended, one after the other.
 fn load_all(alloc: Global, first: World, earlier: &[Vec<u8>]) -> Result<World, Unlinked>
     ensures loaded { IfOk result
         (λ w. AreLoaded first.shapes (map (λ image. image.items) earlier.now) w.shapes) }
@@ -101,7 +101,7 @@ fn load_all(alloc: Global, first: World, earlier: &[Vec<u8>]) -> Result<World, U
     Ok(world)
 }
 
-// The world of the API's packages. Where no memory is left for it the first of the images tells why it isn't linked.
+// The world of the API's packages. If memory runs out for it, the first of the images decides why it isn't linked.
 fn first_world(
     alloc: Global,
     image: &[u8],
@@ -118,7 +118,7 @@ fn first_world(
     }
 }
 
-// The package in an image, linked behind those before it.
+// The package in an image, linked to those before it.
 fn link_last(
     alloc: Global,
     image: &[u8],
@@ -145,7 +145,7 @@ fn written(alloc: Global, cert: &Cert) -> VerifyAnswer
     }
 }
 
-// What is answered to a linked package.
+// The answer to a linked package.
 fn inferred(alloc: Global, linked: &Linked) -> VerifyAnswer
     ensures { IsInferred linked.now result }
 {
@@ -158,7 +158,7 @@ fn inferred(alloc: Global, linked: &Linked) -> VerifyAnswer
     }
 }
 
-/// Links packages one behind the other and the one in an image last, and works out its certificate, under a binding.
+/// Links packages one after the other and the one in an image last, and infers its certificate, with a binding.
 pub fn verify(alloc: Global, image: &[u8], earlier: &[Vec<u8>], binding: &Binding) -> VerifyAnswer
     ensures { IsVerified binding.now (map (λ image. image.items) earlier.now) image.now result }
 {

@@ -1,16 +1,16 @@
-//! What `verify` answers.
+//! The answers of `verify`.
 
 use jc_base::LoadFault;
 use jc_check::Fault;
 use std::fmt;
 
-/// What comes of a package. Its text is the line that is printed.
+/// The answer to a package. Its text is the line that is printed.
 #[derive(Debug, Drop)]
 pub enum VerifyAnswer {
     /// The bytes of a certificate that carries the package.
     Certificate(Vec<u8>),
-    /// No certificate carries the package. The method whose header stands at an offset of the Method component is the
-    /// first that no states carry, and the fault says where its inference ends.
+    /// No certificate carries the package. The method with its header at an offset of the Method component is the first
+    /// that no states carry, and the fault is where its inference ends.
     NoCertificate { method: u16, fault: Fault },
     /// The package, or the first of those before it, isn't linked.
     Refused(LoadFault),

@@ -1,9 +1,9 @@
--- Private. What is known of a script's source at its end, by what is told.
+-- Private. What is known of a script's source at its end, from the reported fault.
 use Rattle.std.specs.Prelude.{⊤}
 use Rattle.jc_source.specs.Source.{Asked}
 use Rattle.jc_run.specs.Play.{BadLimits, BadLine, NoMemory, NotRead, NotWritten, Over, ScriptEnd, SourceFailed}
 
--- where the source ended the script, what is said of its last failing reading is told
+-- if the source ended the script, what is known of its last failed read is reported
 abbrev pub IsToldAt : ScriptEnd → (failed_at told_at : Asked → Type 0) → Type 0
 IsToldAt Over failed_at told_at = ⊤
 IsToldAt (BadLine number) failed_at told_at = ⊤

@@ -1,4 +1,4 @@
--- What `run` and `session` come to: which binding, which limits and which script, what is written, and how it ends.
+-- The results of `run` and `session`: the binding, the limits and the script, what is written, and the end.
 use Rattle.std.specs.Prelude.{◌≡◌, ◌⊎◌, ◌∷◌, [], ℕ, List, Option, Some, Result, Err, IfErr}
 use Rattle.jc_api.specs.Bound.{Bound}
 use Rattle.jc_machine.specs.declared.limits.Limits.{Limits}
@@ -17,22 +17,21 @@ use Rattle.jc_host.specs.declared.job.RunJob.{RunJob}
 use Rattle.jcard.specs.declared.play.PlayFault.{PlayFault}
 use Rattle.jcard.specs.declared.play.PlayFault.TheVariants.{File, Memory}
 
--- how a play ends: to its end, or for this fault
+-- the end of a play: normal, or this fault
 abbrev pub Played : Type 0
 Played = Result (Unit {0}) PlayFault
 
 -- ---- a script
 
--- what is written behind what stood there, and how it ends, is what a script comes to on a new card with these limits,
--- under this binding
+-- what was appended to the output, and the end, are those of a script on a new card with these limits and this binding
 abbrev pub ScriptComesTo : (List ℕ → Entry → Type 0) → Limits → Bound → (bytes before : List ℕ) → Option (List ℕ)
     → Played → Type 0
 ScriptComesTo holds limits binding bytes before now result =
     HasRun (IsImage holds) (HoldsCertificate holds) (fault_of_end (IsFaultOf holds) result) limits binding bytes before
     now (end_of_play result)
 
--- the binding that the job names was read, the script that it names was opened, and it was played with its limits. What
--- it comes to is known where its bytes are, and what stood before
+-- the binding that the job names was read, the script that it names was opened, and it was played with its limits. Its
+-- result is known if its bytes, and the output before, are
 pub record PlaysJob (holds : List ℕ → Entry → Type 0) (tells : List ℕ → Opening → Type 0) (job : RunJob)
     (before now : Option (List ℕ)) (result : Played) : Type 0 where
   pub binding : Bound
@@ -50,7 +49,8 @@ pub record FailsToOpen (holds : List ℕ → Entry → Type 0) (tells : List ℕ
   pub bound : IsBindingFor holds job.card.binding binding
   pub faulty : IsFaultAt job.script.now (IsUnopened (tells job.script.now)) fault
 
--- what comes of a job of `run`, over a writer with these contents. Which scripts were asked for is said by their paths
+-- the result of a job of `run`, for a writer with these contents. The scripts that were to be opened are listed by
+-- their paths
 pub data ComesOfRun {W : Type 0} (holds : List ℕ → Entry → Type 0) (tells : List ℕ → Opening → Type 0)
     (asked : List (List ℕ) → Type 0) (contents : W → Option (List ℕ)) (old new : W) (job : RunJob) : Played → Type 0
   where
@@ -60,7 +60,7 @@ pub data ComesOfRun {W : Type 0} (holds : List ℕ → Entry → Type 0) (tells 
     -- the file of the script is at fault: nothing is written
     unopened : (fault : FileFault) → FailsToOpen holds tells job fault → asked (job.script.now ∷ []) → new ≡ old
         → ComesOfRun holds tells asked contents old new job (Err (File fault))
-    -- memory is out before the script is played: nothing is written
+    -- memory runs out before the script is played: nothing is written
     memory : asked [] ⊎ asked (job.script.now ∷ []) → new ≡ old
         → ComesOfRun holds tells asked contents old new job (Err Memory)
     -- the script is played
@@ -69,15 +69,15 @@ pub data ComesOfRun {W : Type 0} (holds : List ℕ → Entry → Type 0) (tells 
 
 -- ---- a session
 
--- what is written behind what stood there, and how it ends, is what the lines of a session come to on a new card with
--- these limits, under this binding
+-- what was appended to the output, and the end, are those of the lines of a session on a new card with these limits and
+-- this binding
 abbrev pub SessionComesTo : (List ℕ → Entry → Type 0) → Limits → Bound → (bytes before : List ℕ) → Option (List ℕ)
     → Played → Type 0
 SessionComesTo holds limits binding bytes before now result =
     HasHeld (IsImage holds) (HoldsCertificate holds) limits binding bytes before now (end_of_play result)
 
--- the binding that the job names was read, and the lines of a reader were answered with its limits. What they come to
--- is known where their bytes are, and what stood before
+-- the binding that the job names was read, and the lines of a reader were answered with its limits. Their result is
+-- known if their bytes, and the output before, are
 pub record HoldsSession (holds : List ℕ → Entry → Type 0) (job : CardJob) (lines before now : Option (List ℕ))
     (result : Played) : Type 0 where
   pub binding : Bound
@@ -86,13 +86,13 @@ pub record HoldsSession (holds : List ℕ → Entry → Type 0) (job : CardJob) 
       → SessionComesTo holds job.limits binding bytes earlier now result
   pub told : IfErr result IsToldOfSession
 
--- what comes of a job of `session`, over a reader with these bytes left and a writer with these contents
+-- the result of a job of `session`, for a reader with these bytes left and a writer with these contents
 pub data ComesOfSession {R W : Type 0} (holds : List ℕ → Entry → Type 0) (remaining : R → Option (List ℕ))
     (from to : R) (contents : W → Option (List ℕ)) (old new : W) (job : CardJob) : Played → Type 0 where
   -- the file of the binding is at fault: nothing is read, and nothing is written
   unbound : (fault : FileFault) → IsBindingFault holds job.binding fault → to ≡ from → new ≡ old
       → ComesOfSession holds remaining from to contents old new job (Err (File fault))
-  -- memory is out before a line is read: nothing is read, and nothing is written
+  -- memory runs out before a line is read: nothing is read, and nothing is written
   memory : to ≡ from → new ≡ old → ComesOfSession holds remaining from to contents old new job (Err Memory)
   -- the session is held
   held : (result : Played) → HoldsSession holds job (remaining from) (contents old) (contents new) result

@@ -1,4 +1,4 @@
-//! The end of the program behind a script or a session: why that ended early is written, and the exit status tells it.
+//! The end of the program after a script or a session: it writes why that ended early, and the exit status shows it.
 
 ghost use Rattle.std.specs.Prelude.{OnOk};
 ghost use Rattle.jcard.specs.Ending.{IsPlayEnd, IsToldTo};
@@ -7,8 +7,8 @@ use crate::play::PlayFault;
 use jc_host::{Status, unwritten};
 use std::io::{self, Write};
 
-/// Writes on standard error why a play ended early, if it did, and gives the exit status. Where it can't be written,
-/// that is told, if it can be.
+/// Writes on standard error why a play ended early, if it did, and returns the exit status. If that can't be written,
+/// it reports so, if it can.
 pub fn end_play<E: Write>(errors: &mut E, played: &Result<(), PlayFault>) -> u8
     ensures { IsPlayEnd E.contents errors.old errors.new played.now result }
 {

@@ -29,7 +29,7 @@ fn words_given(rt: &HostRuntime) -> io::Result<Vec<String>> {
     Ok(env::args(rt)?.collect(rt.alloc())?)
 }
 
-// Does what the words of a command line ask for, and says what comes of it.
+// Performs the job of a command line, and writes its message.
 fn reply_to(rt: &HostRuntime, words: &[String]) -> ExitCode {
     match said_to(rt.alloc(), words) {
         Reply::Said(said) => end(rt, &said),
@@ -39,8 +39,8 @@ fn reply_to(rt: &HostRuntime, words: &[String]) -> ExitCode {
     }
 }
 
-// Verifies a package, and says what comes of it. Where no certificate is written, and there is one from before, that is
-// told.
+// Verifies a package, and writes its message. If no certificate is written, and an older file stays in its place, it
+// reports that.
 fn verify_job(rt: &HostRuntime, job: &VerifyJob) -> ExitCode {
     let mut files = HostFiles::new(rt);
     let said = said_of_job(&mut files, rt.alloc(), job);
@@ -58,7 +58,7 @@ fn verify_job(rt: &HostRuntime, job: &VerifyJob) -> ExitCode {
     code
 }
 
-// Hands over what a script is played with: the system's files, standard output for its answers, and standard error.
+// Plays a script with the system's files, standard output for its answers, and standard error.
 fn run_job(rt: &HostRuntime, job: &RunJob) -> Result<(), PlayFault> {
     run(
         &HostFiles::new(rt),
@@ -82,7 +82,7 @@ fn session_job(rt: &HostRuntime, job: &CardJob) -> Result<(), PlayFault> {
     )
 }
 
-// Hands over the streams that what is said is written to.
+// Writes a message to the program's streams.
 fn end(rt: &HostRuntime, said: &Said) -> ExitCode {
     ExitCode::from(end_with(
         &mut Patient::new(io::writer(rt), rt),
@@ -91,7 +91,7 @@ fn end(rt: &HostRuntime, said: &Said) -> ExitCode {
     ))
 }
 
-// Hands over standard error, which it is written to why a play ended early.
+// Writes on standard error why a play ended early.
 fn end_of_play(rt: &HostRuntime, played: &Result<(), PlayFault>) -> ExitCode {
     ExitCode::from(end_play(&mut WholeLines::new(rt.stderr()), played))
 }

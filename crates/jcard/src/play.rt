@@ -1,4 +1,4 @@
-//! Scripts on a new card, whose packages lie in folders and whose certificates lie in files.
+//! Scripts on a new card, with packages in folders and certificates in files.
 
 ghost use Rattle.std.specs.Prelude.{◌≡◌, ℕ, List, Some, IfErr};
 ghost use Rattle.jc_run.specs.End.{end_of_fault};
@@ -21,16 +21,16 @@ use std::fmt;
 use std::io::{Read, Write};
 use std::marker::Brand;
 
-/// Why a script isn't played to its end. Its `Display` is a whole line.
+/// Why a script isn't played to its end. Its `Display` prints a whole line.
 #[derive(Debug, Drop)]
 pub enum PlayFault {
     /// The file of the binding or of the script is at fault.
     File(FileFault),
-    /// A folder or file is at fault that the line with this number, from 1 on, names.
+    /// A folder or file that the line with this number, from 1 on, names is at fault.
     Load { number: u32, fault: FileFault },
     /// The script ends early for another reason.
     Script(ScriptFault),
-    /// No memory was left.
+    /// Memory ran out.
     Memory,
 }
 
@@ -82,7 +82,7 @@ pub fn play_script<F: Files, R: Read, W: Write, E: Write>(
     play_telling::<F, R, W, E, Brand>(files, alloc, reader, writer, teller, limits, binding)
 }
 
-// Plays a script, of which faults of these kinds are told.
+// Plays a script, with faults of these kinds reported.
 fn play_telling<F: Files, R: Read, W: Write, E: Write, T: Faults>(
     files: &F,
     alloc: Global,
@@ -129,7 +129,7 @@ pub fn hold_session<F: Files, R: Read, W: Write, E: Write>(
     }
 }
 
-// What is told of the fault of a script, whose source keeps the fault of the reading that failed.
+// The reported fault of a script, whose source keeps the fault of the failed read.
 fn told_of<'a, F: Files, T: Faults>(source: FileSource<'a, F, T>, fault: ScriptFault) -> PlayFault
     requires { source.failures ≡ failures_at (end_of_fault fault) }
     ensures end { end_of_told result ≡ end_of_fault fault }
@@ -140,7 +140,7 @@ fn told_of<'a, F: Files, T: Faults>(source: FileSource<'a, F, T>, fault: ScriptF
     match fault {
         ScriptFault::Source(number) => match source.into_fault() {
             Some(fault) => PlayFault::Load { number, fault },
-            // A source keeps the fault of a reading that failed.
+            // A source keeps the fault of a failed read.
             None => unreachable!(),
         },
         ScriptFault::Memory => PlayFault::Memory,

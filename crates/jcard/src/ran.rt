@@ -1,4 +1,4 @@
-//! Scripts and sessions, as the command line asks for them.
+//! The jobs `run` and `session`.
 
 ghost use Rattle.jc_host.specs.Scripts.{AreAsked};
 ghost use Rattle.jcard.specs.Ran.{ComesOfRun, ComesOfSession};
@@ -9,7 +9,7 @@ use jc_host::{CardJob, Files, RunJob, Scripts, binding_for, open_script};
 use std::alloc::Global;
 use std::io::{Read, Write};
 
-/// Plays a script on a new card. The binding is read first, and then the script is opened.
+/// Plays a script on a new card. It reads the binding first, and then opens the script.
 pub fn run<F: Files, S: Scripts, W: Write, E: Write + Drop>(
     files: &F,
     scripts: &mut S,
@@ -37,7 +37,7 @@ pub fn run<F: Files, S: Scripts, W: Write, E: Write + Drop>(
     )
 }
 
-/// Answers the lines of a reader on a new card. The binding is read first.
+/// Answers the lines of a reader on a new card. It reads the binding first.
 pub fn session<F: Files, R: Read, W: Write, E: Write + Drop>(
     files: &F,
     alloc: Global,

@@ -1,4 +1,4 @@
-//! What is told on standard error of the lines of a script or a session.
+//! Reports on standard error about the lines of a script or a session.
 
 use jc_api::ApiClass;
 use jc_card::{Cause, InstallFault};
@@ -12,8 +12,8 @@ use jc_script::LineFault;
 use jc_store::ObjectType;
 use std::io::{self, Write};
 
-/// Tells which lines of a session were refused, and why; and, where that is asked for, why a call of an applet didn't
-/// end by itself, and in which frame. What can't be told is left out.
+/// Reports which lines of a session were refused, and why; and, if `explains` holds, why a call of an applet didn't end
+/// normally, and in which frame. What can't be written is left out.
 #[derive(Drop)]
 pub struct LineTeller<E: Write> {
     errors: E,
@@ -22,7 +22,7 @@ pub struct LineTeller<E: Write> {
 }
 
 impl<E: Write> LineTeller<E> {
-    /// Tells of lines on a card with these limits.
+    /// A teller for a card with these limits.
     pub fn new(errors: E, limits: Limits, explains: bool) -> LineTeller<E> {
         LineTeller {
             errors,
@@ -31,12 +31,12 @@ impl<E: Write> LineTeller<E> {
         }
     }
 
-    // Why a line is refused.
+    // Reports why a line is refused.
     fn tell_fault(&mut self, number: u64, fault: LineFault) -> io::Result<()> {
         writeln!(self.errors, "error: line {number}, {fault}")
     }
 
-    // Which file of a line can't be read, and why.
+    // Reports which file of a line can't be read, and why.
     fn tell_source<F: Files, T: Faults>(
         &mut self,
         number: u64,
@@ -52,7 +52,7 @@ impl<E: Write> LineTeller<E> {
         writeln!(self.errors, "error: line {number}: out of memory")
     }
 
-    // Why a call behind a line didn't end by itself, and the frame in which it stopped.
+    // Reports why a call of a line didn't end normally, and the frame in which it stopped.
     fn explain(
         &mut self,
         number: u64,
@@ -78,7 +78,7 @@ impl<E: Write> LineTeller<E> {
         writeln!(self.errors)
     }
 
-    // The index that is outside of an array.
+    // Writes the index that is outside of an array.
     fn write_index(&mut self, stopped: Option<&ShownFrame>) -> io::Result<()> {
         let Some(fault) = index_of(stopped) else {
             return Ok(());
@@ -91,7 +91,7 @@ impl<E: Write> LineTeller<E> {
         )
     }
 
-    // Whose code ran in a frame, its locals and its operands, as shorts.
+    // Writes the context of a frame, its locals and its operands, as shorts.
     fn write_frame(&mut self, stopped: Option<&ShownFrame>) -> io::Result<()> {
         let Some(frame) = stopped else {
             return Ok(());
@@ -101,7 +101,7 @@ impl<E: Write> LineTeller<E> {
         self.write_words("operands", frame.operands.as_slice())
     }
 
-    // Words as shorts.
+    // Writes words as shorts.
     fn write_words(&mut self, name: &str, words: &[u16]) -> io::Result<()> {
         if words.is_empty() {
             return write!(self.errors, ", no {name}");
@@ -113,7 +113,7 @@ impl<E: Write> LineTeller<E> {
         Ok(())
     }
 
-    // What nothing caught.
+    // Writes the object that nothing caught.
     fn write_object(&mut self, object: ObjectType, reason: u16) -> io::Result<()> {
         match object {
             ObjectType::Instance(class) => self.write_class(class, reason),
@@ -124,7 +124,7 @@ impl<E: Write> LineTeller<E> {
         }
     }
 
-    // Its class, and its reason where the class has one.
+    // Writes its class, and its reason if the class has one.
     fn write_class(&mut self, class: ClassName, reason: u16) -> io::Result<()> {
         match class {
             ClassName::Api(class) => self.write_api_class(class, reason),
@@ -135,7 +135,7 @@ impl<E: Write> LineTeller<E> {
         }
     }
 
-    // A reason is told as its class's users write it: a status in hexadecimal, or a constant by its name.
+    // Writes a reason as users of its class write it: a status in hexadecimal, or a constant by its name.
     fn write_api_class(&mut self, class: ApiClass, reason: u16) -> io::Result<()> {
         let name = name_of(class);
         if class == ApiClass::IsoException {
@@ -148,7 +148,7 @@ impl<E: Write> LineTeller<E> {
         }
     }
 
-    // Where it was thrown, and what the firewall denied there, if it did.
+    // Writes where it was thrown, and the firewall's denial there, if there was one.
     fn write_throw(&mut self, denial: Option<Denial>, at: Option<CodePoint>) -> io::Result<()> {
         match denial {
             Some(denial) => {
@@ -159,7 +159,7 @@ impl<E: Write> LineTeller<E> {
         }
     }
 
-    // The rule, the access, and whose object it is.
+    // Writes the rule, the access, and the object's owner.
     fn write_denial(&mut self, denial: Denial) -> io::Result<()> {
         let rule = number_of(denial.rule);
         let access = access_name(denial.access);
@@ -171,7 +171,7 @@ impl<E: Write> LineTeller<E> {
         }
     }
 
-    // What was spent, and how much of it there was.
+    // Writes what was spent, and its limit.
     fn write_budget(&mut self, spent: Budget) -> io::Result<()> {
         match spent {
             Budget::Steps => write!(self.errors, "steps used up ({})", self.limits.steps),
@@ -184,7 +184,7 @@ impl<E: Write> LineTeller<E> {
         }
     }
 
-    // Where a frame stood, if one did.
+    // Writes where a frame stood, if one did.
     fn write_point(&mut self, before: &str, at: Option<CodePoint>) -> io::Result<()> {
         match at {
             Some(point) => write!(
@@ -197,7 +197,7 @@ impl<E: Write> LineTeller<E> {
     }
 }
 
-/// Why a call of an applet didn't end by itself, if one didn't.
+/// Why a call of an applet didn't end normally, if one didn't.
 fn cause_in(answer: &CommandAnswer) -> Option<Cause> {
     match answer {
         CommandAnswer::Responds(answer) => answer.cause,
@@ -218,12 +218,12 @@ fn as_short(word: u16) -> i16 {
     word.cast_signed()
 }
 
-/// The index that is outside of an array, where a frame stopped by that.
+/// The index that is outside of an array, if a frame stopped because of it.
 fn index_of(stopped: Option<&ShownFrame>) -> Option<IndexFault> {
     stopped?.index
 }
 
-/// The name of a reason of the API's (Java Card API Specification, SystemException, APDUException).
+/// The name of a reason of the API (Java Card API Specification, SystemException, APDUException).
 fn constant_of(class: ApiClass, reason: u16) -> Option<&'static str> {
     match class {
         ApiClass::SystemException => system_constant(reason),
@@ -254,7 +254,7 @@ fn apdu_constant(reason: u16) -> Option<&'static str> {
     }
 }
 
-/// What the firewall denied, where a SecurityException is thrown.
+/// The firewall's denial, if a SecurityException is thrown.
 fn denied(object: ObjectType, denial: Option<Denial>) -> Option<Denial> {
     if object == ObjectType::Instance(ClassName::Api(ApiClass::SecurityException)) {
         denial
@@ -278,7 +278,7 @@ fn number_of(rule: Rule) -> u8 {
     }
 }
 
-/// What is done to an object: an instruction, or what members of the API do to components too.
+/// The words for an access: an instruction, or a read or write of a component, as members of the API do too.
 fn access_name(access: Access) -> &'static str {
     match access {
         Access::PutStaticReference => "putstatic of",

@@ -1,4 +1,4 @@
-//! Examples of the defensive machine: what the prover computes of it.
+//! Examples of the defensive machine, which the prover computes.
 
 ghost use Rattle.std.specs.Prelude.{◌≡◌, [], ◌∷◌, ◌++◌, List, None, Some, false, true};
 ghost use Rattle.jc_names.specs.declared.name.ClassName.TheVariants as classes;
@@ -38,13 +38,13 @@ ghost use Rattle.jc_link.specs.Linked.{IsResolved};
 use jc_effects::api_classes_have_objects;
 use jc_link::{an_applet_is_well_formed, built_worlds_have_the_api};
 
-/// An applet is installed: its object is made, and registers itself. It does nothing.
+/// An install makes an applet object, which registers itself. It does nothing.
 pub fn install_runs()
     ensures { run (applet ∷ []) 10 (start_of exceptions (owner 1 1) (Loaded 1 1) (Null ∷ Word 0 ∷ Word 0 ∷ []))
         ≡ shown (touch 1 InvokeVirtual 11 Allowed ∷ []) (a_value None) }
 {}
 
-/// Calls. They do nothing.
+/// Calls of methods. It does nothing.
 pub fn calls_run()
     ensures an_override_answers { served_run 10 30 (owner 1 1) (Loaded 1 80)
         ≡ shown (touch 1 InvokeVirtual 11 Allowed ∷ []) (a_value (Some (Word 2))) }
@@ -74,13 +74,13 @@ pub fn calls_run()
         ≡ untouched used_up }
 {}
 
-/// A native member has a method called, with the owner of the object active. It does nothing.
+/// A native member calls back a member of an object, with the object's owner active. It does nothing.
 pub fn callback_runs()
     ensures { run_with asking (applet ∷ server ∷ asker ∷ []) 20 (start_of (with_served 0) (owner 3 1) (Loaded 3 1) [])
         ≡ shown (touch 1 InvokeVirtual 11 Allowed ∷ []) (a_value (Some (Word 1))) }
 {}
 
-/// A call of the runtime's may begin with a native member. They do nothing.
+/// A runtime call may begin with a native member. It does nothing.
 pub fn natives_run()
     ensures deselect_gives_nothing { run (applet ∷ []) 10 (start_of (with_served 0) (owner 1 1) (Api 37) (Ref 11 ∷ []))
         ≡ untouched (a_value None) }
@@ -96,12 +96,13 @@ pub fn natives_run()
         (start_of (with_served 10) (owner 3 1) (Loaded 3 1) []) ≡ untouched stuck }
 {}
 
-/// Each of the runtime's own objects has as many components as its class says. It does nothing.
+/// Each instance among the runtime's own objects has as many components as its class has cells. It does nothing.
 pub fn runtime_objects_fit()
     ensures { have_their_sizes ≡ true }
 {}
 
-/// Operands are written: what was never written is of no type as an operand, and leaves a step stuck. They do nothing.
+/// Operands were written: an unset value has no type as an operand, and a step that drops one gets stuck. It does
+/// nothing.
 pub fn operands_are_written()
     ensures a_word_is_dropped { is_stuck_with (Word 0) ≡ false }
     ensures an_unset_operand_is_stuck { is_stuck_with Unset ≡ true }
@@ -109,7 +110,7 @@ pub fn operands_are_written()
         → IsOperand world heap Unset type → ⊥ }
 {}
 
-/// What would leave the machine stuck does so. They do nothing.
+/// Each of these faults makes the machine stuck. It does nothing.
 pub fn stuck_runs()
     ensures an_operand_too_many { probed 1 ≡ untouched stuck }
     ensures an_operand_is_missing { probed 10 ≡ untouched stuck }
@@ -134,7 +135,7 @@ pub fn stuck_runs()
     ensures an_abstract_method { probed_on 30 240 ≡ shown (touch 1 InvokeVirtual 11 Allowed ∷ []) stuck }
 {}
 
-/// Throws. They do nothing.
+/// Instructions that throw, and a store, a shift and a cast that don't. It does nothing.
 pub fn throws_run()
     ensures a_negative_length { probed 60 ≡ untouched (an_object 5) }
     ensures an_index_past_the_end { probed 70 ≡ shown (touch 1 LoadComponent 11 Allowed ∷ []) (an_object 4) }
@@ -147,9 +148,9 @@ pub fn throws_run()
     ensures a_cast_fails { probed_on 30 250 ≡ shown (touch 1 CheckCast 11 Allowed ∷ []) (an_object 3) }
 {}
 
-/// A machine that was just made, with the runtime's own objects alone: these are there, and are typed in each world
-/// that is built; and in the world of the API alone the machine is well typed beside whatever frame it has, and may run
-/// with native members that do nothing. It does nothing.
+/// A new machine has the runtime's own objects alone: all of them are there, and they are typed in each built world. If
+/// a binding has no clash, the machine is well typed in the world of the API alone, beside any frame, and it may run
+/// there with native members that do nothing. It does nothing.
 pub fn new_machines_are_typed()
     ensures there { HasRuntimeObjects new_heap }
     ensures objects { (world : List Shape) → IsBuilt world → HeapTyped world new_heap }
@@ -161,8 +162,8 @@ pub fn new_machines_are_typed()
     api_classes_have_objects();
 }
 
-/// A machine that was just made and begins an applet's install is well typed, in a world with the applet's package,
-/// whose pool is resolved. It does nothing.
+/// A new machine that begins an applet's install is well typed, in a world with the applet's package, whose pool is
+/// resolved. It may run there with native members that do nothing. It does nothing.
 pub fn first_frames_are_typed()
     ensures resolved { IsResolved applet_world.shapes 2 applet_body }
     ensures typed { IsTyped (idle_in applet_world) (new_machine ([] ∷ []) install_frame) }
@@ -171,7 +172,8 @@ pub fn first_frames_are_typed()
     an_applet_is_well_formed();
 }
 
-/// Of a word a component or a field of bytes keeps the low byte, and a load gives that with its sign. They do nothing.
+/// A component or field of bytes keeps the low byte of a word, and a load extends its sign; one of shorts keeps the
+/// word. It does nothing.
 pub fn bytes_are_kept()
     ensures the_low_byte { stored_as forms.Byte (Word 0x1FF) ≡ Word 0xFF }
     ensures the_least { loaded_as forms.Byte (Word 0x80) ≡ Some (Word 0xFF80) }
@@ -180,8 +182,8 @@ pub fn bytes_are_kept()
     ensures a_short { stored_as forms.Short (Word 0x1FF) ≡ Word 0x1FF }
 {}
 
-/// An exception handler covers the bytes of its range: where code begins at byte 20 of the Method component, a range of
-/// three bytes from byte 22 on covers the pcs 2 to 4. They do nothing.
+/// An exception handler covers the bytes of its range: if code begins at byte 20 of the Method component, a range of
+/// three bytes from byte 22 on covers the pcs 2 and 4, but neither 1 nor 5. It does nothing.
 pub fn handlers_cover_their_ranges()
     ensures in_front { (body : MethodBody) → body.code_offset ≡ 20 → is_covered body 1 (handler_from 22 3) ≡ false }
     ensures the_first { (body : MethodBody) → body.code_offset ≡ 20 → is_covered body 2 (handler_from 22 3) ≡ true }

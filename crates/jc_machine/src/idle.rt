@@ -11,12 +11,12 @@ use jc_firewall::Denial;
 use jc_link::World;
 use jc_store::Store;
 
-/// Native members that do nothing: they access no object, keep nothing, and give 0, which is null too, where they are
-/// declared to give something.
+/// Native members that do nothing: they access no object, keep nothing, and return 0, which is null too, if they are
+/// declared to return something.
 #[derive(Clone, Copy, Debug)]
 pub struct IdleNatives;
 
-// 0, where something is declared to be given.
+// 0, if something is declared to be returned.
 fn idle_word(declared: ReturnType<ApiClass>) -> Option<u16>
     ensures { ReadsResult result (idle_value declared) }
 {
@@ -26,7 +26,7 @@ fn idle_word(declared: ReturnType<ApiClass>) -> Option<u16>
     }
 }
 
-// What a member gives, by its number.
+// The result of the member with a number.
 fn idle_result(member: u16) -> Option<u16>
     ensures { ReadsResult result (idle_result member) }
 {

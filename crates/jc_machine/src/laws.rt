@@ -1,4 +1,4 @@
-//! What holds of accepted worlds.
+//! Laws of accepted worlds, and of the machine's steps.
 
 ghost use Rattle.std.specs.Prelude.{◌≡◌, ◌≢◌, ◌↔◌, Bool, List, Some, true, false, option_map, ℕ};
 ghost use Rattle.jc_api.specs.Bound.{Bound};
@@ -39,7 +39,7 @@ use jc_code::listing_laws;
 use jc_link::{built_worlds_are_sound, built_worlds_have_the_api, growing_keeps_linking};
 use jc_words::word_laws;
 
-/// In a world each method of a loaded package's classes that isn't abstract has code. It does nothing.
+/// In each world, each method of a loaded package's classes that isn't abstract has code. It does nothing.
 #[tactic(auto, using(crate::proofs::HavingCode::have_code))]
 pub fn methods_have_code()
     ensures { (w : World) → IsWorld w → HaveCode w }
@@ -53,9 +53,10 @@ pub fn accepted_methods_are_typed()
         → IsMethodTyped (linked_as w place.number body) code }
 {}
 
-/// The world of the API alone is accepted. So is an accepted world with a linked package behind it that was bound to it
-/// as it stands, within the limits of a world, whose pool's tokens are bytes, that some certificate carries, and whose
-/// methods are well typed. It does nothing.
+/// The world of the API alone is accepted, if its binding has no clash. An accepted world grows by a linked package to
+/// an accepted world, if the package was bound to it as it stands, the new world is within the limits of a world, the
+/// tokens of virtual methods in the package's pool are bytes, some certificate carries the package, and its methods are
+/// well typed. It does nothing.
 pub fn accepted_worlds_grow()
     ensures api { (bound : Bound) → HasNoClash bound → IsAccepted (api_alone bound) }
     ensures grown { (w : World) (l : Linked) → IsAccepted w → IsBoundTo w l → IsLast l → IsSmall l.world
@@ -65,22 +66,22 @@ pub fn accepted_worlds_grow()
     growing_keeps_linking();
 }
 
-/// Where each object stays, as it does behind a native member, the runtime's own objects stay. It does nothing.
+/// If each object stays, as it does after a native member, the runtime's own objects stay. It does nothing.
 pub fn runtime_objects_stay()
     ensures { (before after : Heap TaggedValue) → KeepsObjects before after → HasRuntimeObjects before
         → HasRuntimeObjects after }
 {}
 
-/// The law of accesses, of each step of each machine, well typed or not, whose native members keep theirs. Each
-/// access is made in the context of the frame that runs, or by the runtime to one of its named objects; behind a native
-/// member that has a member of another object called, also to that very object, by that call, in its owner's context.
-/// The firewall judges each, by what the access stores and what it wants. It is allowed, or it is the last, and then
-/// the security exception is thrown from the machine as it was. Components change only of objects of which an allowed
-/// access is listed by which they may change; those of a plain object in its own context alone, or by the runtime. Each
-/// object stays, of the same kind, owner and size; one that is new is plain, of the owner that is active, and its
-/// components are zero or null. Static fields stay too, but for the one that a putstatic names by its package's
-/// constant pool: its own, or one that another package exports. What the runtime keeps may be of any type. It does
-/// nothing.
+/// The law of accesses, of each step of each machine, well typed or not, if its native members keep theirs. Each access
+/// is made in the context of the running frame, or by the runtime to one of its named objects. If a native member calls
+/// a member of another object, that call may also access that very object, in its owner's context. The firewall judges
+/// each access, by the value that it stores and the class that it wants. Each access is allowed; or only the last is
+/// denied, and then the security exception is thrown from the machine as it was. Components change only in objects with
+/// a listed and allowed access by which they may change; in a plain object only if the frame runs in its owner's
+/// context, or the runtime makes the access. Each object stays, with its kind, owner and size. A new object is plain
+/// and belongs to the active owner, and its components are zero or null. Static fields stay too, except the one that a
+/// putstatic names by its package's constant pool: its own, or one that another package exports. What the runtime keeps
+/// may be of any type. It does nothing.
 pub fn accesses_are_guarded<N: Natives>(_natives: &N)
     ensures guarded { (s : Surroundings N.Kept) → AreNativesGuarded s.natives → (m : Machine N.Kept) → IsGuarded s m }
     ensures denied { (s : Surroundings N.Kept) → AreNativesGuarded s.natives → (m : Machine N.Kept)
@@ -89,13 +90,13 @@ pub fn accesses_are_guarded<N: Natives>(_natives: &N)
         → machine_of (defensive_step s m).outcome ≡ Some after → KeepsObjects m.heap after.heap }
 {}
 
-/// The runtime's name is its own. Where no frame is active as the runtime, its objects have no code of packages, and
-/// each object that isn't plain is its own, this is so behind each step, and the step's accesses in the runtime's name
-/// spare plain objects: so the components of a plain object change only where its owner's context is that of the frame
-/// that runs. No field or component holds a reference to a temporary entry point or a global array, and no static field
-/// does but to an array of a library. Objects are set apart still where each stays, others are added that are plain,
-/// for an owner in the context of a package, and components hold nothing else. What the runtime keeps may be of any
-/// type, with any test that the native members keep. It does nothing.
+/// Only the runtime acts in its own name. If no frame is active as the runtime, no object in its context has code of a
+/// package, and each object that isn't plain belongs to it, then this also holds after each step, and the step's
+/// accesses in the runtime's name spare plain objects. So the components of a plain object change only if its owner's
+/// context is that of the running frame. No field or component holds a reference to a temporary entry point or a global
+/// array, except that a static field may hold one to an array of a library. Objects are still set apart if each stays,
+/// new ones are plain and belong to an owner in the context of a package, and components hold no other references. What
+/// the runtime keeps may be of any type, with any test that the native members keep. It does nothing.
 pub fn steps_stay_apart<N: Natives>(_natives: &N)
     ensures steps { (keeps : N.Kept → Bool) (s : Surroundings N.Kept) → AreNativesGuarded s.natives
         → AreNativesApart keeps s.natives → HaveApiMembers s.world.shapes → (m : Machine N.Kept) → IsApart keeps m
@@ -104,36 +105,36 @@ pub fn steps_stay_apart<N: Natives>(_natives: &N)
         → is_applets owner ≡ true → AddsFor owner before after → HoldStorable after → IsSetApart after }
 {}
 
-/// As whom frames run: behind each step the frame that runs goes on with its owners, and those that wait are what they
-/// were; or it waits, and one more is called, with its owners, with the owner active to which the verdict on the call's
-/// access switches, or with that of an object that is asked for a shareable object; or those within one that waited are
-/// gone. It does nothing.
+/// The owners of frames. After each step, the running frame goes on with its owners, and the waiting ones are as they
+/// were; or it waits, and one more frame is called; or a waiting frame goes on, and those within it are gone. The
+/// called frame has its caller's owners, or the active owner is the one to which the verdict on the call's access
+/// switches, or the owner of an object that is asked for a shareable object. It does nothing.
 pub fn owners_go_by_calls<N: Natives>(_natives: &N)
     ensures { (s : Surroundings N.Kept) → AreNativesGuarded s.natives → (m : Machine N.Kept) → StepsOwned s m }
 {}
 
 /// The accesses of each step are its instruction's. A table gives an instruction an access, and the place of the
-/// reference to the object that it accesses: the step's first access is this one, to that object, and stores and names
-/// what the table says. It is missing where the instruction has no row, where the reference is null, and where the
-/// machine gets stuck. Further ones are those of a native member that a call has called, and of the one that this
-/// calls back, or the runtime's own where an object can't be made. It does nothing.
+/// reference to the object that it accesses. The step's first access is this one, to that object, and it stores and
+/// names what the table says. It is missing only if the instruction has no row, the reference is null, or the machine
+/// gets stuck. Further accesses of an invoke instruction are those of a native member, and of the one that this calls
+/// back. A further access of an instruction that creates an object is the runtime's own. It does nothing.
 pub fn accesses_are_the_instructions<N: Natives>(_natives: &N)
     ensures { (s : Surroundings N.Kept) → AreNativesGuarded s.natives → (m : Machine N.Kept) → AccessesAreOwn s m }
 {}
 
-/// An object that is thrown is caught in the innermost frame with a handler that covers where the frame stands and
-/// catches objects of its class, by the first such handler: there the frame goes on, with the object as its one
-/// operand. The frames within it are dropped, and nothing else changes. Where no frame has one the object is thrown out
-/// of the call. A machine that isn't well typed may be stuck instead. It does nothing.
+/// A thrown object is caught in the innermost frame with a handler that covers the frame's pc and catches objects of
+/// its class, by the first such handler. The frame goes on there, with the object as its only operand. The frames
+/// within it are dropped, and nothing else changes. If no frame has such a handler, the object is thrown out of the
+/// call. A machine that isn't well typed may be stuck instead. It does nothing.
 pub fn throws_are_caught<N: Natives>(_natives: &N)
     ensures { (s : Surroundings N.Kept) → (m : Machine N.Kept) → (object : ℕ) → (o : Object TaggedValue)
         → object_at m.heap object ≡ Some o
         → UnwindsTo s m object (class_of o.kind.object_type) (settled s (Throws m object)) }
 {}
 
-/// No step of a frame in another context, and no call of the runtime's of whose steps none runs in that context, sees
-/// the components of a context's plain objects. On objects that differ there alone it makes the same accesses, and
-/// comes to the same but for these. It does nothing.
+/// No step of a frame in another package's context sees the components of a context's plain objects. Nor does a runtime
+/// call, if none of its steps runs in that context. On objects that differ only there, it makes the same accesses, and
+/// has the same result except for these components. It does nothing.
 pub fn contents_are_unseen<N: Natives>(_natives: &N)
     ensures steps { (context : ℕ) (s : Surroundings N.Kept) → AreNativesGuarded s.natives → AreNativesBlind s.natives
         → (m : Machine N.Kept) → HasRuntimeObjects m.heap → is_applets m.top.active ≡ true
@@ -147,15 +148,15 @@ pub fn contents_are_unseen<N: Natives>(_natives: &N)
         → CallsAlike context (runtime_call s steps start) (runtime_call s steps (from_objects start heap)) }
 {}
 
-/// A test that native members keep, and that holds of what the runtime keeps, holds of it behind each call of the
-/// runtime's: nothing else changes what it keeps. It does nothing.
+/// If a test is kept by the native members, and what the runtime keeps passes it, then what each runtime call leaves
+/// passes it too: nothing else changes what the runtime keeps. It does nothing.
 pub fn calls_keep_what_members_keep<N: Natives>(_natives: &N)
     ensures { (keeps : N.Kept → Bool) (s : Surroundings N.Kept) → AreNativesGuarded s.natives
         → MembersKeep keeps s.natives → (steps : ℕ) (start : Start N.Kept) → keeps start.runtime ≡ true
         → LeavesKept keeps (runtime_call s steps start).ends }
 {}
 
-/// What a component or a static field may hold it may hold as long as objects stay. It does nothing.
+/// A value that a component or a static field may hold, it may hold as long as objects stay. It does nothing.
 pub fn held_values_stay()
     ensures held { (before after : Heap TaggedValue) → KeepsObjects before after → (v : TaggedValue)
         → may_be_held before v ≡ true → may_be_held after v ≡ true }
@@ -163,8 +164,8 @@ pub fn held_values_stay()
         → FieldsHoldStorable before statics → FieldsHoldStorable after statics }
 {}
 
-/// An instruction is found at a pc of code where it begins there behind others that stand one behind the other from the
-/// first byte on, and only there. Of code that is a list of instructions it is what the list has at that pc. It does
+/// An instruction is found at a pc of code if and only if it begins there, after instructions that follow one another
+/// from the first byte on. If the code is a list of instructions, the one found is the listed one at that pc. It does
 /// nothing.
 pub fn instructions_begin_in_turn()
     ensures begin { (code : List ℕ) (pc : ℕ) (instr : Instr)
@@ -175,9 +176,8 @@ pub fn instructions_begin_in_turn()
     listing_laws();
 }
 
-/// In a world that is built of well-formed packages the cells of a class follow those of its superclass, are as many as
-/// its chain declares, and each field of objects that an entry of a pool leads to stands at its cell, with its type. It
-/// does nothing.
+/// In a small built world, the cells of a class follow those of its superclass, and are as many as its chain declares.
+/// Each instance field that an entry of a pool leads to is at its cell, with its type. It does nothing.
 pub fn cells_follow_superclasses()
     ensures { (world : List Shape) → IsSmall world → IsBuilt world → HaveCells world }
 {
@@ -185,9 +185,9 @@ pub fn cells_follow_superclasses()
     built_worlds_have_the_api();
 }
 
-/// Where an operation on words has an effect on the types of a frame's values, the frame goes on with values of the
-/// types behind it, at the next instruction or where one of the operation's offsets leads, throws the arithmetic
-/// exception, or returns a word. So it is in any world, with any objects, and beside any order of classes. What the
+/// If an operation on words has an effect on the types of a frame's values, the frame goes on with values of the types
+/// after it, at the next instruction or where one of the operation's offsets leads; or it throws the arithmetic
+/// exception; or it returns a word. This holds in any world, with any objects, and for any order of classes. What the
 /// runtime keeps may be of any type. It does nothing.
 pub fn operations_on_words_keep_types<N: Natives>(_natives: &N)
     ensures { KeepWordsTyped N.Kept }

@@ -1,4 +1,4 @@
-//! The defensive machine, by which an interpreter is judged, and the contract of the native members that both call.
+//! The defensive machine, which specifies an interpreter, and the contract of the native members that both call.
 #![tactic(auto)]
 
 mod examples;

@@ -1,9 +1,9 @@
-//! How much there may be on a card.
+//! The limits of a card.
 
 ghost use Rattle.std.specs.Prelude.{◌≡◌, true};
 ghost use Rattle.jc_machine.specs.Limits.{are_limits};
 
-/// How much there may be on a card, and in one call of the runtime's.
+/// The limits of a card, and of one runtime call.
 #[derive(Clone, Copy, Debug, PartialEq, Eq)]
 pub struct Limits {
     /// The most objects: 45, which are the runtime's own, to 32,767.
@@ -13,25 +13,25 @@ pub struct Limits {
     pub cells: u16,
     /// The most frames of a call: 1 to 255.
     pub frames: u8,
-    /// The most words of all frames of a call: 1 to 65,535. A frame takes its arguments, its other locals and its
-    /// stack.
+    /// The most words of all frames of a call: 1 to 65,535. A frame takes words for its arguments, its other locals and
+    /// its stack.
     pub frame_words: u16,
     /// The most steps of a call: 1 to 4,294,967,295.
     pub steps: u32,
 }
 
-/// How many objects are the runtime's own.
+/// The number of the runtime's own objects.
 const OWN_OBJECTS: u16 = 45;
 
-/// How many cells these take.
+/// The number of their cells.
 const OWN_CELLS: u16 = 980;
 
 /// The most objects that a card may have.
 const MOST_OBJECTS: u16 = 32_767;
 
 impl Limits {
-    /// Those of a card of which nothing else is said: as many objects and cells as there may be, 64 frames of 1,024
-    /// words in all, and 100,000 steps.
+    /// The default limits: as many objects and cells as there may be, 64 frames of 1,024 words in all, and 100,000
+    /// steps.
     pub const DEFAULT: Limits = Limits {
         objects: MOST_OBJECTS,
         cells: u16::MAX,

@@ -1,4 +1,4 @@
-//! Members of the API by their numbers, as names of methods have them.
+//! Members of the API, by their numbers in names of methods.
 
 ghost use Rattle.std.specs.Prelude.{◌≡◌, option_map};
 ghost use Rattle.jc_api.specs.Member.{member_of, shown};

@@ -1,4 +1,4 @@
-//! Where a call stands that doesn't end by itself, and what it lacks.
+//! Where a call that doesn't end normally stopped, and which budget it used up.
 
 /// A place in the code of a loaded package.
 #[derive(Clone, Copy, Debug, PartialEq, Eq)]
@@ -11,7 +11,7 @@ pub struct CodePoint {
     pub pc: u16,
 }
 
-/// What there may be of in one call of the runtime's.
+/// What is limited in one runtime call.
 #[derive(Clone, Copy, Debug, PartialEq, Eq)]
 pub enum Budget {
     /// Steps.

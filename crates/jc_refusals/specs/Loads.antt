@@ -1,4 +1,4 @@
--- Which refusals apply to a load, of whatever stage. That memory is out isn't told by what is loaded, so it is none of
+-- Which refusals apply to a load, of whatever stage. Out of memory doesn't depend on what is loaded, so it is none of
 -- these.
 use Rattle.std.specs.Prelude.{◌≡◌, ℕ, ◌≤◌, false, List, Some, Ok, Err}
 use Rattle.jc_base.specs.Fault.{number_of}
@@ -15,15 +15,15 @@ use Rattle.jc_card.specs.Card.{CardState}
 use Rattle.jc_card.specs.Load.{AreSpelled, IsCut, IsLinkedBehind, has_room}
 
 pub data Applies (c : CardState) (image certificate : List ℕ) : LoadFault → Type 0 where
-  -- the image is no list of components, or one is missing or came twice
+  -- the image is no list of components, or one is missing or repeated
   uncut : (fault : LoadFault) → IsCut image (Err fault) → Applies c image certificate fault
   -- its components are no package
   unread : (parts : Infos) (fault : LoadFault) → IsCut image (Ok parts) → package_of parts ≡ Err fault
       → Applies c image certificate fault
-  -- the package can't be linked behind those of the card
+  -- the package can't be linked after those of the card
   unlinked : (parts : Infos) (p : Package) (fault : LoadFault) → IsCut image (Ok parts) → package_of parts ≡ Ok p
       → fault_behind c.world.shapes p ≡ Some fault → Applies c image certificate fault
-  -- no certificate is spelled so
+  -- no rows are encoded by the certificate
   unspelled : ((rows : List Row) → AreSpelled certificate rows → ⊥) → Applies c image certificate BadCertificate
   -- a method of the linked package isn't carried by the certificate
   uncarried : (l : Linked) (rows : List Row) (fault : LoadFault) → IsLinkedBehind c.world.shapes image l

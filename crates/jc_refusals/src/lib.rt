@@ -1,4 +1,4 @@
-//! The refusals of a load are told in the order of their numbers.
+//! A load reports its refusals in the order of their numbers.
 #![tactic(auto)]
 
 ghost use Rattle.jc_base.specs.Cutting.{Piece, Splits, answer};
@@ -22,11 +22,10 @@ use jc_cert::one_spelling;
 use jc_check::first_fault_laws;
 use jc_code::listing_laws;
 
-/// The stages of a load tell refusals of their own numbers, and a later stage those of greater ones. Where an image
-/// isn't cut into its components, the number is one of 1 to 4; where a component isn't read, or components don't fit
-/// each other, one of 5 to 9; where the package isn't well-formed in its world, one of 10 to 15; and where a
-/// certificate doesn't carry it, the number is 17. An image is cut in one way only, so it has one answer. It does
-/// nothing.
+/// Each stage of a load reports refusals of its own numbers, and a later stage those of greater ones. If an image isn't
+/// cut into its components, the number is 1 to 4; if a component isn't read, or components don't fit each other, 5 to
+/// 9; if the package isn't well-formed in its world, 10 to 15; and if a certificate doesn't carry it, 17. An image is
+/// split into components in one way only, so it has one answer. It does nothing.
 pub fn refusals_are_in_order()
     ensures cut { (pieces : List Piece) (rest : List ℕ) (fault : LoadFault) → answer pieces rest ≡ Err fault
         → IsBetween 1 4 fault }
@@ -39,9 +38,9 @@ pub fn refusals_are_in_order()
         → Splits image qs others → answer ps rest ≡ answer qs others }
 {}
 
-/// A refusal that a load is told applies to it, if it isn't want of memory, and no other that applies has a smaller
-/// number. Where want of memory is told, those that apply have numbers from 10 to 18. A package to which a refusal
-/// applies isn't loaded. It does nothing.
+/// If a load reports a refusal other than out of memory, that refusal applies to it, and no other that applies has a
+/// smaller number. If it reports out of memory, those that apply have numbers from 10 to 18. A package to which a
+/// refusal applies isn't loaded. It does nothing.
 pub fn the_least_refusal_is_told()
     ensures told { (c after : CardState) (image certificate : List ℕ) (fault : LoadFault)
         → IsLoad c image certificate (Err fault) after → fault ≢ Memory → IsLeast c image certificate fault }

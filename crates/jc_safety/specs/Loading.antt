@@ -1,5 +1,5 @@
--- What a package brings with it when it is loaded: the first values of its static fields, and its initialised arrays
--- (Java Card Virtual Machine Specification, CAP file format: StaticField component).
+-- What a package adds when it is loaded: the first values of its static fields, and its initialised arrays (Java Card
+-- Virtual Machine Specification, CAP file format: StaticField component).
 use Rattle.std.specs.Prelude.{◌≡◌, ℤ, ℕ, suc, ◌+◌, ◌-◌, ◌*◌, ◌/◌, ◌<◌, Bool, true, ◌&&◌, if◌then◌else◌, List, [], ◌∷◌}
 use Rattle.std.specs.Prelude.{◌++◌, length, map, replicate, get_or, slice_get, Option, Some, None, nat_le, nat_lt}
 use Rattle.std.specs.Option.{option_map_or}
@@ -34,7 +34,7 @@ type_of_array (Of.Boolean values) = BooleanArray
 type_of_array (Of.Byte values) = ByteArray
 type_of_array (Of.Short values) = ShortArray
 
--- its components as words: of booleans and bytes the low byte alone is kept
+-- its components as words: of booleans and bytes only the low byte is kept
 abbrev pub byte_word : ℤ → ℕ
 byte_word value = low_byte (word_of value)
 
@@ -46,8 +46,8 @@ words_of_array (Of.Boolean values) = map byte_word values
 words_of_array (Of.Byte values) = map byte_word values
 words_of_array (Of.Short values) = map short_word values
 
--- the arrays of a package with applets are its context's, with instance number 0; those of a library are the
--- runtime's, and for all contexts
+-- the arrays of a package with applets belong to its context, with instance number 0; those of a library belong to the
+-- runtime, and are for all contexts
 abbrev pub owner_of_arrays : ℕ → Option (List Applet) → Owner
 owner_of_arrays number None = runtime
 owner_of_arrays number (Some applets) = record { context = number; instance = 0 }
@@ -73,7 +73,7 @@ loaded_arrays number body = map (loaded_array number body) body.kept.statics.arr
 
 -- ---- static fields
 
--- the bytes of the image: behind the references those that are 0 at first, and then those with values
+-- the bytes of the image: the references, then the bytes that are 0 at first, then those with values
 abbrev pub image_bytes : StaticImage → List ℕ
 image_bytes image = replicate (2 * image.references + image.defaults) 0 ++ image.values
 
@@ -84,11 +84,11 @@ byte_at image offset = low_byte (get_or (image_bytes image) offset 0)
 abbrev pub short_at : StaticImage → ℕ → ℕ
 short_at image offset = 256 * byte_at image offset + byte_at image (offset + 1)
 
--- the first references lead to the initialised arrays, of which the first has a number; the others are null
+-- the first references lead to the initialised arrays, of which the first has this number; the others are null
 abbrev pub reference_at : ℕ → StaticImage → ℕ → TaggedValue
 reference_at first image offset = if nat_lt (offset / 2) (length image.arrays) then Ref (first + offset / 2) else Null
 
--- what a field of a type holds at an offset of the image
+-- the value of a field of a type at an offset of the image
 abbrev pub value_at : ℕ → StaticImage → ℕ → DeclaredType ClassRef → TaggedValue
 value_at first image offset Declared.Boolean = Word (byte_at image offset)
 value_at first image offset Declared.Byte = Word (byte_at image offset)
@@ -106,7 +106,7 @@ static_value first image f = record { offset = f.offset; value = value_at first 
 abbrev pub static_values : ℕ → StaticImage → Shape → List StaticValue
 static_values first image shape = map (static_value first image) (static_fields shape)
 
--- static fields stand within their image, each at an offset of its own
+-- static fields lie within their image, each at an offset of its own
 pub record HaveOwnOffsets (image : StaticImage) (fields : List StaticField) : Type 0 where
   pub within : (i : ℕ) (f : StaticField) → slice_get fields i ≡ Some f → f.offset < image.size
   pub own : (i j : ℕ) (f g : StaticField) → slice_get fields i ≡ Some f → slice_get fields j ≡ Some g
@@ -114,11 +114,11 @@ pub record HaveOwnOffsets (image : StaticImage) (fields : List StaticField) : Ty
 
 -- ---- a package is loaded
 
--- it is the last of the world that it was bound to
+-- the package's shape: it is the last of the world that it was bound to
 abbrev pub own_shape : Linked → Option Shape
 own_shape l = slice_get l.world (length l.world - 1)
 
--- its static fields, where its first array gets a number
+-- its static fields, if its first array gets this number
 abbrev pub loaded_statics : ℕ → Linked → List StaticValue
 loaded_statics first l = option_map_or (static_values first l.body.kept.statics) (own_shape l) []
 
@@ -126,7 +126,7 @@ loaded_statics first l = option_map_or (static_values first l.body.kept.statics)
 abbrev pub next_package : World → ℕ
 next_package w = suc (length w.bodies)
 
--- the objects behind the load, and the static fields
+-- the objects after the load, and the static fields
 abbrev pub heap_behind : World → Heap TaggedValue → Linked → Heap TaggedValue
 heap_behind w heap l = heap ++ loaded_arrays (next_package w) l.body
 
@@ -137,7 +137,7 @@ statics_behind heap statics l = statics ++ loaded_statics (next_number heap) l �
 abbrev pub has_room_for : {V : Type 0} → Limits → Heap V → Bool
 has_room_for limits behind = nat_le (length behind) limits.objects && nat_le (cells_in behind) limits.cells
 
--- what is around the machine and what it keeps beside its frames, behind the load
+-- the surroundings of the machine, and what it keeps beside its frames, after the load
 abbrev pub around_behind : {C : Type 0} → Surroundings C → Linked → Surroundings C
 around_behind s l = record s { world = with_linked s.world l }
 
@@ -147,8 +147,8 @@ machine_behind s m l = record m {
   statics = statics_behind m.heap m.statics l;
 }
 
--- a linked package may be loaded: its world and that with it are accepted, what is kept beside frames is typed, the
--- objects behind the load take no more cells than there are words, and what the runtime keeps fits them
+-- a linked package may be loaded: its world is accepted without it and with it, what is kept beside frames is typed,
+-- the objects after the load take fewer than 65536 cells, and what the runtime keeps fits them
 pub record MayLoad {C : Type 0} (s : Surroundings C) (m : Machine C) (l : Linked) : Type 0 where
   pub before : IsAccepted s.world
   pub bound : IsBoundTo s.world l

@@ -1,4 +1,4 @@
--- A small static image, by which examples are computed of what a load brings.
+-- A small static image, for examples of loads.
 use Rattle.std.specs.Prelude.{pos, negsuc, [], ◌∷◌}
 use Rattle.jc_cap.specs.Statics.{StaticImage}
 use Rattle.jc_cap.specs.declared.arrays.StaticArray.{StaticArray}

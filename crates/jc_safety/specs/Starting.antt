@@ -1,5 +1,5 @@
--- When a call of the runtime's may begin (Java Card Runtime Environment Specification, Applet lifetime): what is kept
--- beside frames is typed, and the method that is called is there and may begin with the arguments.
+-- When a runtime call may begin (Java Card Runtime Environment Specification, Applet lifetime): what is kept beside
+-- frames is typed, and the called method exists and may begin with the arguments.
 use Rattle.std.specs.Prelude.{◌≡◌, ℕ, true, false, List, ◌∷◌, Option, Some, None}
 use Rattle.std.specs.Option.{option_and_then}
 use Rattle.jc_api.specs.Member.{ApiMember, member_of}
@@ -50,13 +50,13 @@ pub record IsTypedStart {C : Type 0} (s : Surroundings C) (start : Start C) : Ty
 
 -- ---- virtual members of the API, called on an object
 
--- the method that an object's class has in place of a member, if it has one
+-- the method of an object's class in the place of a member, if it has one
 abbrev pub method_for : List Shape → Object TaggedValue → ℕ → Option MethodName
 method_for world object member =
     option_and_then (λ (m : VirtualMember). virtual_method_of world (class_of object.kind.object_type) m.token 0)
     (virtual_member world member)
 
--- a virtual member and an object of its class, with arguments of the member's types behind it
+-- a virtual member and an object of its class, followed by arguments of the member's types
 pub record IsMemberCall {C : Type 0} (s : Surroundings C) (start : Start C) (member : ℕ) (object : Object TaggedValue)
     : Type 0 where
   pub of : ApiMember

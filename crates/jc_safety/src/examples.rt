@@ -9,8 +9,8 @@ ghost use Rattle.jc_safety.specs.Loading.{value_at, words_of_array};
 ghost use Rattle.jc_safety.specs.LoadingExamples.{one_short, small_image, two_bytes};
 ghost use Rattle.jc_words.specs.Values.{Null, Ref, Word};
 
-/// What static fields hold at the offsets of a small image, whose array gets the number 46, and what its arrays hold.
-/// A byte is kept without its sign, and loaded with it. It does nothing.
+/// The values of static fields at the offsets of a small image, whose array gets the number 46, and the components of
+/// its arrays. A byte is kept without its sign, and loaded with it. It does nothing.
 pub fn images_are_read()
     ensures array { value_at 46 small_image 0 ByteArray ≡ Ref 46 }
     ensures no_array { value_at 46 small_image 2 ShortArray ≡ Null }

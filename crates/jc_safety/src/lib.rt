@@ -1,4 +1,4 @@
-//! Type safety: in a world of accepted packages a well-typed machine is never stuck.
+//! Type safety: in a world of accepted packages, a well-typed machine is never stuck.
 #![tactic(auto)]
 
 ghost use Rattle.std.specs.Prelude.{◌≡◌, ◌<◌, ℕ, Bool, List, Some, slice_get};
@@ -36,7 +36,7 @@ use jc_machine::{
     methods_have_code, operations_on_words_keep_types, runtime_objects_stay,
 };
 
-// What the crates below say that type safety rests on. It does nothing.
+// The laws of the crates below that type safety rests on. It does nothing.
 #[inline(always)]
 fn laws_below()
     ensures { Laws }
@@ -57,12 +57,12 @@ fn laws_below()
     runtime_objects_stay();
 }
 
-/// Accepted packages are type-safe. Where each package of a world was linked and checked, and the native members keep
-/// their law, a machine that is well typed is never stuck. In each step it goes on and is well typed, or its call ends:
-/// with a value, with an object that nothing caught, or used up; and then what it keeps beside its frames is typed. So
-/// it is in any number of steps, and in a whole call of the runtime's that can begin. A virtual member of the API that
-/// is called on an object of its class can begin: that class has a method in its place. What the runtime keeps may be
-/// of any type. It does nothing.
+/// Accepted packages are type-safe. If each package of a world was linked and checked, and the native members keep
+/// their law, a well-typed machine is never stuck. In each step it goes on and is well typed, or its call ends: with a
+/// value, with an object that nothing caught, or used up. After the end, what it keeps beside its frames is typed. The
+/// same holds for any number of steps, and for a whole runtime call that can begin. A virtual member of the API that is
+/// called on an object of its class can begin: that class has a method in its place. What the runtime keeps may be of
+/// any type. It does nothing.
 pub fn accepted_packages_are_type_safe<N: Natives>(natives: &N)
     ensures steps { (s : Surroundings N.Kept) → MayRun s → (m : Machine N.Kept) → IsTyped s m
         → StaysTyped s (defensive_step s m).outcome }
@@ -81,8 +81,8 @@ pub fn accepted_packages_are_type_safe<N: Natives>(natives: &N)
     operations_on_words_keep_types(natives);
 }
 
-/// What the runtime itself does to objects leaves them typed: any of them may be zeroed, and a byte be written to an
-/// array of bytes. It does nothing.
+/// What the runtime itself does to objects leaves them typed: it may zero any of them, and write a byte to an array of
+/// bytes. It does nothing.
 pub fn objects_stay_typed<N: Natives>(natives: &N)
     ensures zeroed { (s : Surroundings N.Kept) → MayRun s → (m : Machine N.Kept) → IsTypedBeside s m
         → (test : Object TaggedValue → Bool) → IsTypedBeside s (with_heap m (zeroed_where test m.heap)) }
@@ -95,8 +95,8 @@ pub fn objects_stay_typed<N: Natives>(natives: &N)
     operations_on_words_keep_types(natives);
 }
 
-/// A package that is loaded leaves what is kept beside frames typed, in the world with that package: the objects that
-/// were there, its initialised arrays, and all static fields, each of which has a value. It does nothing.
+/// Loading a package leaves what is kept beside frames typed, in the world with that package: the objects that were
+/// there, its initialised arrays, and all static fields, each of which has a value. It does nothing.
 pub fn loads_stay_typed<N: Natives>(_natives: &N)
     ensures { (s : Surroundings N.Kept) (m : Machine N.Kept) (l : Linked) → MayLoad s m l
         → IsTypedBeside (around_behind s l) (machine_behind s m l) }
@@ -104,15 +104,15 @@ pub fn loads_stay_typed<N: Natives>(_natives: &N)
     laws_below();
 }
 
-/// In a world that is built of well-formed packages classes of the API have methods of the API alone, and none but
-/// Applet is below Applet. It does nothing.
+/// In a built world, classes of the API have only methods of the API, and only Applet is below Applet among them. It
+/// does nothing.
 pub fn api_runs_its_own_code()
     ensures { (world : List Shape) → IsBuilt world → HaveApiMembers world }
 {
     laws_below();
 }
 
-/// The static fields of a loaded package stand within its image, each at an offset of its own. It does nothing.
+/// The static fields of a loaded package lie within its image, each at an offset of its own. It does nothing.
 pub fn static_fields_have_own_offsets()
     ensures { (world : List Shape) (home : ℕ) (kept : Kept) (shape : Shape) → IsLoadedAt world home kept
         → slice_get world home ≡ Some shape → HaveOwnOffsets kept.statics (static_fields shape) }

@@ -1,4 +1,4 @@
--- Private. The headers of methods, where they are read.
+-- Private. The headers of methods, if they are read.
 use Rattle.std.specs.Prelude.{ℕ, Bool, Option, None, if◌then◌else◌}
 use Rattle.jc_cap.specs.MethodComponent.{Methods, header_at}
 use Rattle.jc_cap.specs.declared.method_header.MethodHeader.{MethodHeader}

@@ -1,4 +1,4 @@
--- Why a call of an applet didn't end as it should: a cause that the status doesn't tell.
+-- Why a call of an applet didn't end as it should: a cause that the status doesn't show.
 use Rattle.std.specs.Prelude.{ℕ, Option, Some, None, get_or, option_map}
 use Rattle.jc_machine.specs.declared.stop.CodePoint.{CodePoint}
 use Rattle.jc_natives.specs.Cells.{bits}

@@ -1,4 +1,4 @@
-//! Why a call of an applet didn't end normally: a cause that its status doesn't tell.
+//! Why a call of an applet didn't end normally: a cause that its status doesn't show.
 
 ghost use Rattle.std.specs.Prelude.{◌≡◌, option_map};
 ghost use Rattle.jc_card.specs.Card.{CardState};

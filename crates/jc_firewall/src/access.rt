@@ -34,7 +34,7 @@ pub enum Access {
     InstanceOf,
 }
 
-/// The facts of which the verdict on an access is computed, besides the active context.
+/// The facts from which the verdict on an access is computed, besides the active context.
 #[derive(Clone, Copy, Debug, PartialEq, Eq)]
 pub struct Facts {
     pub owner: Owner,

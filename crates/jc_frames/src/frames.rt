@@ -409,8 +409,8 @@ impl Frames {
     }
 }
 
-/// As many words as were borrowed are left in a slice, so what is left are the locals and the operands. It does
-/// nothing.
+/// If as many words are left in a slice as were borrowed, they become the locals and the operands of the top frame. It
+/// does nothing.
 pub fn lending_laws()
     ensures words { (top : Frame) (below : List Frame) (left : List ℕ)
         → length left ≡ length top.locals + length top.operands

@@ -30,10 +30,9 @@ pub record RunsAlike (images certificates : List ℕ → List ℕ → Type 0) (c
 
 -- for each context, and each run none of whose steps runs in it, from a card on which only the runtime runs as the
 -- runtime: on each card that differs only in components of the context's plain objects it runs alike; and after it
--- those of these objects that no event clears have the components that they had. Native members change only what is
--- theirs of the runtime's state, and return only AIDs that are theirs to return. An answer has what this command's call
--- of process sent. Only installs that succeed change the registered instances, and between commands none is being
--- installed
+-- those of these objects that no event clears have the components that they had. Native members change of the runtime's
+-- state, and return as AIDs, only what jc_natives Remembered states. An answer has what this command's call of process
+-- sent. Only installs that succeed change the registered instances, and between commands none is being installed
 pub record AreIsolated (images certificates : List ℕ → List ℕ → Type 0) : Type 0 where
   pub unseen : (context : ℕ) (commands : List ScriptCommand) (c : CardState) (answers : List Answered)
       (touches : List Touch) (ran : List ℕ) (after : CardState) → IsApartCard c

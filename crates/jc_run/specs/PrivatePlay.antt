@@ -145,7 +145,7 @@ Turns images certificates failed_at number bytes c after left before now true =
 Turns images certificates failed_at number bytes c after left before now false =
     PlaysFrom images certificates failed_at number bytes c before now Over
 
--- lines are played: whatever the result of those that are left, the result of all is that after what is written,
+-- lines are played: if the lines that are left have a result, all lines have that result after what is written,
 -- whatever the source is at the end
 pub record HasPlayed {S : Type 0} (images certificates : List ℕ → List ℕ → Type 0) (failed_at : S → Asked → Type 0)
     (c : CardState) (script before : List ℕ) (number : ℕ) (after : CardWords) (left now : Option (List ℕ))

@@ -89,7 +89,7 @@ SessionTurns images certificates bytes c after left before now true =
 SessionTurns images certificates bytes c after left before now false =
     ConversesFrom images certificates bytes c before now Over
 
--- lines are played: whatever the result of those that are left, the result of all is that after what is written
+-- lines are played: if the lines that are left have a result, all lines have that result after what is written
 pub record HasConversed (images certificates : List ℕ → List ℕ → Type 0) (c : CardState) (input before : List ℕ)
     (after : CardWords) (left now : Option (List ℕ)) : Type 0 where
   pub card : CardState

@@ -26,7 +26,7 @@ use Rattle.jc_script.specs.declared.finding.Form.TheVariants as forms
 abbrev pub fault_at : LineCause → ℕ → LineFault
 fault_at cause column = record { cause = cause; column = column }
 
--- ---- one word, of which the first byte stands in a column
+-- ---- one word, whose first byte is in a column
 
 -- whether a byte is printable: in ASCII, from the space on
 abbrev pub is_printable : ℕ → Bool

@@ -114,7 +114,7 @@ fn aid_fault(column: usize, word: &[u8]) -> Option<LineFault>
     }
 }
 
-/// A control byte in a name, of which the first byte stands in a column.
+/// The fault of a control byte in a name whose first byte is in a column.
 fn control_fault(column: usize, word: &[u8]) -> Option<LineFault>
     requires { column + length word.now ≤ 1027 }
     ensures { result ≡ control_fault column word.now }

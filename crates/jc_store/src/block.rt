@@ -8,7 +8,7 @@ use crate::header::Head;
 // How many words are written at once.
 const BLOCK: usize = 16;
 
-// How many cells are moved at once, as long as there are as many, and then.
+// How many cells are moved at once, as long as there are that many; and how many at once after that.
 const LARGE: usize = 64;
 
 const SMALL: usize = 8;

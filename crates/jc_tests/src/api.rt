@@ -14,7 +14,7 @@ member 32 7\nmember 33 0\nmember 34 1\nmember 35 2\nmember 36 3\nmember 37 4\nme
 member 40 7\nmember 41 0\nmember 42 1\nmember 43 2\nmember 44 3\nmember 45 4\nmember 46 5\nmember 47 6\n\
 member 48 7\nmember 49 0\nmember 50 1\nmember 51 2\nmember 52 3\nmember 53 4\nmember 54 5\nmember 55 6\n";
 
-/// Texts, and what is told of them.
+/// Texts that are no binding, and their faults.
 const TEXTS: [(&str, BindingFault); 30] = [
     ("", BindingFault::Missing),
     ("class 23 0", BindingFault::BadLine(1)),

@@ -2,7 +2,7 @@ use crate::package::PACKAGE;
 use jc_base::*;
 use std::test::*;
 
-/// The lengths at which the package, cut off, ends behind a component, and the least tag that it lacks there.
+/// The lengths at which the package, cut off, ends after a component, and the least tag that is missing there.
 const ENDS: [(usize, u8); 8] = [
     (0, 1),
     (18, 5),
@@ -40,7 +40,7 @@ fn parts_of_a_package(rt: HostRuntime) -> Result<(), Fail> {
     Ok(())
 }
 
-/// The tags of eight components without bytes, and what is told of them.
+/// The tags of eight components without bytes, and the fault of each image.
 const TAGS: [([u8; 8], Option<LoadFault>); 5] = [
     ([11, 8, 7, 6, 5, 1, 13, 13], None),
     ([1, 5, 6, 7, 8, 11, 0, 0], None),

@@ -3,12 +3,12 @@ use jc_cert::*;
 use std::alloc::Global;
 use std::test::Fail;
 
-// What `write` gives is shown by no command: each of these is read, and written as it was.
+// No command shows what `write` returns: each of these is read, and written as it was.
 const SPELLINGS: [&[u8]; 6] = [
     &[0, 0],
     // One state, with words, null and what isn't known among its locals and its operands.
     &[0, 1, 0, 0, 0, 1, 0, 4, 0, 3, 0, 1, 2, 3, 2, 1, 0],
-    // The greatest pc behind the least.
+    // The greatest pc after the least.
     &[0, 1, 0, 0, 0, 2, 0, 0, 0, 0, 0, 255, 255, 0, 0, 0],
     // Three methods, the last at the greatest offset.
     &[
@@ -31,8 +31,8 @@ const SPELLINGS: [&[u8]; 6] = [
     ],
 ];
 
-// What is no type: a name of 2, 4 and 17 bytes; the API's class 0, 23 and 257, and another byte in front of its number;
-// a name that is cut; a byte from 08 on.
+// These encode no type: a name of 2, 4 and 17 bytes; the API's class 0, 23 and 257, and another byte in front of its
+// number; a name that is cut; a byte from 08 on.
 const REFUSED_TYPES: [&[u8]; 9] = [
     &[3, 2, 1, 2, 0, 1],
     &[3, 4, 1, 2, 3, 4, 0, 1],

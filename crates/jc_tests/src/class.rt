@@ -2,7 +2,7 @@ use jc_base::{ClassRef, LoadFault, cut};
 use jc_cap::{Format, *};
 use std::test::*;
 
-/// In the Class component interfaces at 0 and 1, and a class at 4; the other components have no bytes.
+/// The Class component has interfaces at 0 and 1, and a class at 4; the other components have no bytes.
 const IMAGE: [u8; 41] = [
     1, 0, 0, 5, 0, 0, 7, 0, 0, 8, 0, 0, 11, 0, 0, 6, 0, 23, // no bytes, and the size of the info
     0xC0, // a shareable interface
@@ -12,7 +12,7 @@ const IMAGE: [u8; 41] = [
     0, 1, 2, 7, 0x80, // interface 1, whose methods are 7 and 128
 ];
 
-/// In the Class component of format 2.2 a pool of one byte, and an interface behind it.
+/// The Class component of format 2.2 has a pool of one byte, and an interface after it.
 const POOLED: [u8; 22] = [
     1, 0, 0, 5, 0, 0, 7, 0, 0, 8, 0, 0, 11, 0, 0, 6, 0, 4, 0, 1, 9, 0x80,
 ];

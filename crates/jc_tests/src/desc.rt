@@ -26,8 +26,7 @@ const LIBRARY: [u8; 161] = [
     0, 0, 1, 0x10, 5, 0x60, 0, 0x10, // no pool types, and two descriptors: void, and class 1
 ];
 
-/// What stands before and behind the Class component of a package of format 2.2, whose one row names the record at
-/// 32,767.
+/// The bytes before and after the Class component of a package of format 2.2, whose one row names the record at 32,767.
 const BEFORE_CLASSES: [u8; 25] = [
     1, 0, 16, 0xDE, 0xCA, 0xFF, 0xED, 2, 2, 0, 0, 1, 5, 1, 2, 3, 4, 5, 0, // Header
     5, 0, 2, 0, 0, // no pool entries
@@ -40,7 +39,7 @@ const BEHIND_CLASSES: [u8; 32] = [
     11, 0, 12, 1, 0xFF, 0, 0x7F, 0xFF, 0, 0, 0, 0, 0, 0, 0, // Descriptor
 ];
 
-/// That package, whose one record stands behind so many bytes of signatures.
+/// That package, whose one record follows this many bytes of signatures.
 fn record_behind(signatures: u16, alloc: Global) -> Result<Vec<u8>, Fail> {
     let mut image = Vec::from_slice(alloc, &BEFORE_CLASSES)?;
     image.extend_from_slice(&signatures.wrapping_add(12).to_be_bytes())?;

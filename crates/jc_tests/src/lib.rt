@@ -1,5 +1,5 @@
-//! Tests of what the libraries' public calls give and no program shows. They stand apart from the libraries, so that
-//! these are proved without them.
+//! Tests of results of the libraries' public calls that no program shows. They are outside of the libraries, so these
+//! are proved without them.
 #![tactic(auto)]
 
 #[cfg(test)]

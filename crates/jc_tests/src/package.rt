@@ -1,7 +1,7 @@
 //! The package that several tests read.
 
-/// A package with one applet, in eight components. Its class declares `process` alone, at 10, beside an install method
-/// at 1, and stands at 0; its pool has two entries, its own class and a virtual method of it.
+/// A package with one applet, in eight components. Its class, at 0, declares only `process`, at 10, and an install
+/// method, at 1. Its pool has two entries: its own class, and a virtual method of it.
 pub(crate) const PACKAGE: [u8; 156] = [
     0x01, 0x00, 0x0F, 0xDE, 0xCA, 0xFF, 0xED, 0x01, 0x02, 0x04, 0x00, 0x01, 0x05, 0xF0, 0x01, 0x02, // Header
     0x03, 0x04, 0x03, 0x00, 0x0A, 0x01, 0x06, 0xF0, 0x01, 0x02, 0x03, 0x04, 0x01, 0x00, 0x01, // Applet

@@ -54,8 +54,8 @@ const LIBRARY: [u8; 96] = [
     0x0B, 0x00, 0x0C, 0x01, 0xFF, 0x00, 0x00, 0x00, 0x00, 0x00, 0x00, 0x00, 0x00, 0x00, 0x00, // Descriptor
 ];
 
-/// A package that imports the library behind the API's two. Its one method, at 1, takes an object of the library's
-/// class, and goes on where it began.
+/// A package that imports the library, after the API's two packages. Its one method, at 1, takes an object of the
+/// library's class, and branches to its own start.
 const CLIENT: [u8; 116] = [
     0x01, 0x00, 0x0F, 0xDE, 0xCA, 0xFF, 0xED, 0x01, 0x02, 0x00, 0x00, 0x01, 0x05, 0xF0, 0x01, 0x02,
     0x03, 0x05, // Header
@@ -75,7 +75,7 @@ const CLIENT_CERTIFICATE: [u8; 20] = [
     0, 0, 0, 1, 3, 5, 0xF0, 1, 2, 3, 4, 0, 0, 0, // pc 0
 ];
 
-/// The answer to the client, behind others.
+/// The answer to the client after others.
 fn answer_to_client(alloc: Global, earlier: &[Vec<u8>]) -> VerifyAnswer {
     verify(alloc, &CLIENT, earlier, &Binding::default_table())
 }

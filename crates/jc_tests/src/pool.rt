@@ -47,7 +47,7 @@ fn entries_of_each_tag(rt: HostRuntime) -> Result<(), Fail> {
     Ok(())
 }
 
-/// Of a package: an install method, a method that takes an object, one that takes nothing, and a field.
+/// Descriptors: of an install method, of a method that takes an object, of one that takes nothing, and of a field.
 const DESCRIPTORS: [u8; 11] = [4, 0xB4, 0x31, 6, 0x68, 0x00, 0x61, 1, 0x10, 1, 0x40];
 
 #[test]
@@ -84,7 +84,7 @@ fn descriptors_in_turn(rt: HostRuntime) -> Result<(), Fail> {
     Ok(())
 }
 
-/// What a field's descriptor spells.
+/// Descriptors of fields, and their types.
 const TYPES: [([u8; 4], DeclaredType<ClassRef>); 8] = [
     ([1, 0x20, 0, 0], DeclaredType::Boolean),
     ([1, 0x3F, 0, 0], DeclaredType::Byte),

@@ -74,9 +74,8 @@ pub fn commands_are_guarded()
 }
 
 /// Only the runtime runs as the runtime, on a new card and after each command: no code of packages does. So a plain
-/// object changes only in steps of a frame in its owner's context, or by clearing. No field, component or static field
-/// holds a reference to a temporary entry point or a global array, except static fields to arrays of libraries. It does
-/// nothing.
+/// object changes only in its owner's context, or by clearing. No field, component or static field holds a reference to
+/// a temporary entry point or a global array, except static fields to arrays of libraries. It does nothing.
 pub fn commands_stay_apart()
     ensures new { (limits : Limits) (binding : Bound) → HasNoClash binding → IsApartCard (new_card limits binding) }
     ensures apdu { (c : CardState) → IsApartCard c → (bytes : List ℕ)
@@ -121,8 +120,8 @@ pub fn commands_see_no_contents()
     steps_are_guarded();
 }
 
-/// The changes of accesses, and of more accesses after them, add up. Nothing changes if each object is left unchanged.
-/// It does nothing.
+/// The changes of accesses, and of more accesses after them, add up. If each object is left unchanged, these are the
+/// changes of no access. It does nothing.
 pub fn accesses_add_up()
     ensures none { (before after : Heap TaggedValue) → LeavesObjects before after → ChangesBy [] before after }
     ensures more { (first between last : Heap TaggedValue) (touches behind : List Touch)

@@ -69,8 +69,8 @@ pub record KeepsAllLookups (before after : List Shape) : Type 0 where
   pub implementations : (c i : ClassName) → IsWithin before c → Implements after c i ↔ Implements before c i
   pub methods : (m : MethodName) → IsMethodWithin before m → method_at after m ≡ method_at before m
 
--- whatever the world has belongs to one of its packages: classes, methods, and the classes that declare them; and, if
--- the API's two packages are there, the method names of its packages, and what a class of the world is below
+-- whatever the world has belongs to one of its packages: classes, methods, the classes that declare them, and what a
+-- class of the world is below; and, if the API's two packages are there, the method names of its packages
 pub record StandWithin (world : List Shape) : Type 0 where
   pub classes : (c : ClassName) (k : ClassShape) → class_at world c ≡ Some k → IsWithin world c
   pub methods : (m : MethodName) (d : DeclaredMethod) → method_at world m ≡ Some d → IsMethodWithin world m

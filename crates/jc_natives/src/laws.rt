@@ -132,8 +132,9 @@ pub fn members_are_declared()
 /// What a native member may change of the runtime's state, and which AIDs it returns. Only register registers an
 /// instance, of the applet on which it is called, for the instance that is being installed. Only members of APDU change
 /// the state of the exchange. getAID and a request for a shareable object pass on the AID of the active owner, and
-/// getPreviousContextAID that of the owner before it. A call by an applet leaves the AID objects unchanged, except if
-/// register is called for that of the instance that is being installed and hasn't registered. It does nothing.
+/// getPreviousContextAID that of the owner before it. In a built world with the runtime's own objects, a call by an
+/// applet leaves the AID objects unchanged, except if register is called for that of the instance that is being
+/// installed and hasn't registered. It does nothing.
 pub fn members_keep_what_is_kept()
     ensures { (w : World) (call : NativeCall Kept) → IsRemembered w call (meaning.answer w call) }
 {

@@ -16,7 +16,7 @@ const MOST_CLASSES: u32 = 17_085;
 /// The class above all classes and interfaces.
 const OBJECT: ClassName = ClassName::Api(ApiClass::Object);
 
-/// The greatest number of steps upward from a type.
+/// The height of a type: a bound on the steps upward from it.
 #[tactic(auto, using(crate::proofs::NoWorld::most_is))]
 pub(crate) fn height_of(ty: Ty, table: &ClassTable) -> u32
     ensures { result ≡ height_of (classes_above table.now) most_classes ty }

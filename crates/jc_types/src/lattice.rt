@@ -56,7 +56,7 @@ pub trait Lattice: Sized {
         ensures joined { fits self.old other.now ≡ true → self.new ≡ join_of table.now self.old other.now }
         ensures kept { fits self.old other.now ≡ false → self.new ≡ self.old };
 
-    /// The greatest number of steps upward from it.
+    /// Its height: a bound on the steps upward from it.
     fn height(&self, table: &Self::Table) -> u128
         ensures { result ≡ height_of table.now self.now };
 

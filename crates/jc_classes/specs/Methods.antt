@@ -12,7 +12,7 @@ use Rattle.jc_cap_desc.specs.Shape.{ClassShape, MethodShape, Shape}
 use Rattle.jc_names.specs.Names.{is_same_name}
 use Rattle.jc_classes.specs.Walk.{found}
 use Rattle.jc_names.specs.Names.{home_of}
-use Rattle.jc_classes.specs.World.{class_named}
+use Rattle.jc_classes.specs.World.{class_named, superclass_of}
 use Rattle.jc_names.specs.declared.name.ClassName.{ClassName}
 use Rattle.jc_classes.specs.declared.walk.Visit.{Visit}
 use Rattle.jc_classes.specs.declared.walk.Visit.TheVariants.{Has, Nothing, Above}
@@ -115,6 +115,11 @@ is_among places place = nat_le places.first place && nat_lt place places.end
 abbrev pub FindsNothingElse : List Shape → ClassName → Places → Type 0
 FindsNothingElse world c places = (token place : ℕ) → is_among places place ≡ false → package_visible ≤ token
     → token < 256 → virtual_method_of world c token place ≡ None
+
+-- in a call from the package at this place, a class resolves package-visible tokens as its superclass does
+abbrev pub FindsAbove : List Shape → ClassName → ℕ → Type 0
+FindsAbove world c asker = (token : ℕ) → package_visible ≤ token → virtual_method_of world c token asker
+    ≡ option_and_then (λ d. virtual_method_of world d token asker) (superclass_of world c)
 
 -- the method of an object's class for an interface's token: the nearest class that lists the interface gives the
 -- virtual token, which is looked up from the object's class

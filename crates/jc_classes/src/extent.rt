@@ -1,10 +1,14 @@
 //! Bounds on the tables of classes, and whether classes may list interfaces, for crates that make their own tables from
 //! them.
 
-ghost use Rattle.std.specs.Prelude.{◌≡◌, ◌+◌, ◌≤◌, ◌<◌, ℕ, None, false, true};
+ghost use Rattle.std.specs.Prelude.{◌≡◌, ◌≢◌, ◌+◌, ◌≤◌, ◌<◌, ◌==◌, ℕ, None, false, length, true};
 ghost use Rattle.jc_classes.specs.Listed.{ListNothing};
-ghost use Rattle.jc_classes.specs.Methods.{FindsNothingElse, is_among, virtual_method_of};
+ghost use Rattle.jc_classes.specs.Methods.{FindsAbove, FindsNothingElse, is_among, virtual_method_of};
+ghost use Rattle.jc_classes.specs.PrivateShape.{record_of};
+ghost use Rattle.jc_classes.specs.Record.{package_entries};
+ghost use Rattle.jc_names.specs.Names.{home_of};
 
+use crate::shape::Body;
 use crate::table::ClassTable;
 use crate::walk::{MOST_CLASSES, anchor_behind};
 use jc_names::{ClassName, PackagePlace};
@@ -35,6 +39,16 @@ impl Places {
         ensures { result ≡ is_among self place }
     {
         self.first <= place && place < self.end
+    }
+}
+
+/// Whether a record has no package-visible methods.
+fn declares_none(body: &Body) -> bool
+    ensures { result ≡ (length (package_entries (record_of body.now)) == 0) }
+{
+    match body {
+        Body::Interface(_) => true,
+        Body::Class(class) => class.package_methods.methods.len() == 0,
     }
 }
 
@@ -102,6 +116,30 @@ impl ClassTable {
         match self.table_of(class) {
             Some(table) => table.visible_tokens(place),
             None => 128,
+        }
+    }
+
+    /// Whether calls from other packages than the class's own resolve package-visible tokens as for its superclass. If
+    /// it returns true, they do. It returns false only if the chain of superclasses doesn't end.
+    #[tactic(auto, using(crate::proofs::Extending::others_above))]
+    pub fn others_find_above(&self, class: ClassName) -> bool
+        ensures { result ≡ true → (asker : ℕ) → home_of class ≢ asker → FindsAbove self.now class asker }
+    {
+        match (self.class_at(class), self.table_of(class)) {
+            (Some(_), Some(_)) => true,
+            _ => false,
+        }
+    }
+
+    /// Whether calls from all packages do, since the class's record has no package-visible methods. If it returns true,
+    /// they do.
+    #[tactic(auto, using(crate::proofs::Extending::all_above))]
+    pub fn all_find_above(&self, class: ClassName) -> bool
+        ensures { result ≡ true → (asker : ℕ) → FindsAbove self.now class asker }
+    {
+        match (self.class_at(class), self.table_of(class)) {
+            (Some(found), Some(_)) => declares_none(&found.body),
+            _ => false,
         }
     }
 

@@ -120,7 +120,7 @@ impl ClassTable {
     }
 
     /// Whether calls from other packages than the class's own resolve package-visible tokens as for its superclass. If
-    /// it returns true, they do. It returns false only if the chain of superclasses doesn't end.
+    /// it returns true, they do. It returns true for each class whose chain of superclasses ends.
     #[tactic(auto, using(crate::proofs::Extending::others_above))]
     pub fn others_find_above(&self, class: ClassName) -> bool
         ensures { result ≡ true → (asker : ℕ) → home_of class ≢ asker → FindsAbove self.now class asker }

@@ -8,7 +8,8 @@ mod Finding
 mod Covering
 mod Naming
 mod Calling
-mod Keying
+mod Sharing
+mod Nearing
 mod Chaining
 mod Same
 mod Wording

@@ -1,65 +1,117 @@
 -- Tables of package-visible methods.
-use Rattle.std.proofs.Common.{◌≡◌, ◌⊎◌, ℕ, ◌+◌, ◌-◌, ◌<◌, ◌≤◌, ◌==◌, Bool, cond, List, []}
-use Rattle.std.proofs.Common.{◌∷◌, ◌++◌, length, Option, Some, None, unwrap_or, ap, ◌∙◌, arith}
-use Rattle.std.proofs.lemmas.Bool.{cases_lt}
-use Rattle.std.proofs.lemmas.Bool.Decides.{nat_tests}
-use Rattle.std.proofs.lemmas.List.Folds.{find-append}
+use Rattle.std.proofs.Common.{◌≡◌, ◌≢◌, ℕ, ◌+◌, ◌-◌, ◌<◌, ◌≤◌, ◌==◌, Bool, true, false, cond, List, [], ◌∷◌, length}
+use Rattle.std.proofs.Common.{Option, Some, None, slice_get, unwrap_or, refl, sym, ap, subst, ◌∙◌, arith}
+use Rattle.std.proofs.lemmas.Bool.{eqb-false, eqb-true, ne_eqb}
 use Rattle.std.proofs.lemmas.Option.{slice_get_within}
 use Rattle.std.specs.List.{find}
-use Rattle.std.specs.Option.{option_map, option_or}
+use Rattle.std.specs.Option.{option_map, option_map_or}
 use Rattle.jc_cap_desc.specs.Shape.{Shape}
 use Rattle.jc_classes.specs.Methods.{package_visible, virtual_method_of}
-use Rattle.jc_names.specs.Names.{home_at}
+use Rattle.jc_names.specs.Names.{home_at, home_of}
 use Rattle.jc_names.specs.declared.name.ClassName.{ClassName}
 use Rattle.jc_program.specs.Called.{AreVisible, KeyedTable, called_in, called_of, keyed_in}
 use Rattle.jc_program.specs.Methods.{LoadedMethod}
-use Rattle.jc_program.specs.PrivateCalled.{AreListed, HasCalled, HasNoPlaceFrom, HasPlaces, HasVisible}
+use Rattle.jc_program.specs.PrivateCalled.{AreListed, HasAt, HasCalled, HasVisible}
+use Rattle.jc_program.specs.PrivateChained.{AreChained, Chained, IsHead, head_of, lists_in, number_behind, tables_at}
+use Rattle.jc_program.specs.PrivateChained.{with_table}
+use Rattle.jc_program.specs.PrivateNearest.{FindsAs, FindsAsNumber, IsNearest}
+use Rattle.jc_program.specs.declared.nearest.Nearest.{Nearest}
 use Rattle.jc_entries.specs.declared.called.Called.{Called}
 use Rattle.jc_entries.specs.declared.called.Called.TheVariants.{Nothing}
+use Rattle.jc_program.proofs.Sharing.{head_behind, list_of, same_behind, table_put}
 
--- ---- one table more
+-- ---- the tables of a class
 
 abbrev keyed : ℕ → List Called → KeyedTable
 keyed key called = record { key = key; called = called }
 
-keyed_more : (tables : List KeyedTable) (key : ℕ) (called : List Called) (asked token : ℕ)
-    → keyed_in (tables ++ keyed key called ∷ []) asked token
-    ≡ option_or (keyed_in tables asked token) (cond (key == asked) (Some (called_in called token)) None)
-keyed_more tables key called asked token =
-    ap (option_map (λ (t : KeyedTable). called_in t.called token))
-    (find-append (λ (t : KeyedTable). t.key == asked) tables (keyed key called ∷ []))
-    ∙ by_found (find (λ (t : KeyedTable). t.key == asked) tables) (key == asked)
+-- where nothing is found, no table is needed
+none_found : (world : List Shape) (methods : List LoadedMethod) (c : ClassName) (home : ℕ)
+    → ((token : ℕ) → package_visible ≤ token → virtual_method_of world c token home ≡ None)
+    → HasAt world methods c [] home
+none_found world methods c home none token low =
+    sym (ap (called_of methods) (none (package_visible + token) (omega arith)))
+
+-- what another class has, from which the same is found
+same_found : (world : List Shape) (methods : List LoadedMethod) (c d : ClassName) (tables : List KeyedTable) (home : ℕ)
+    → FindsAs world c d home → HasAt world methods d tables home → HasAt world methods c tables home
+same_found world methods c d tables home same has token low =
+    has token low ∙ sym (ap (called_of methods) (same (package_visible + token) (omega arith)))
+
+-- the list of a class that is known, from which the same is found
+known_has : (world : List Shape) (methods : List LoadedMethod) (names : List ClassName)
+    (lists : List (List KeyedTable)) (c : ClassName) (number : Option ℕ) (asker : ℕ)
+    → AreListed (HasVisible world methods) names (length lists) lists
+    → ((n : ℕ) → number ≡ Some n → n < length lists)
+    → FindsAsNumber world names c number (home_at asker)
+    → HasAt world methods c (option_map_or (λ n. unwrap_or (slice_get lists n) []) number []) (home_at asker)
+known_has world methods names lists c None asker are within found =
+    none_found world methods c (home_at asker) found
+known_has world methods names lists c (Some n) asker are within found =
+    same_found world methods c found.0 (unwrap_or (slice_get lists n) []) (home_at asker) found.2
+    (are.there n found.0 (within n refl) found.1 asker)
+
+module _ (world : List Shape) (methods : List LoadedMethod) (names : List ClassName) (t : Chained)
+    (heads : List (Option ℕ)) (count : ℕ) (c : ClassName) (nearest : Nearest) (is : IsNearest world names count c nearest)
+    (all : count ≡ length (lists_in t heads))
+    (are : AreListed (HasVisible world methods) names (length (lists_in t heads)) (lists_in t heads)) where
+  nearest_has : (asker : ℕ) → FindsAsNumber world names c nearest.number (home_at asker)
+      → HasAt world methods c (tables_at t (head_of heads nearest.number)) (home_at asker)
+  nearest_has asker found =
+      subst (λ ks. HasAt world methods c ks (home_at asker)) (list_of t heads nearest.number)
+      (known_has world methods names (lists_in t heads) c nearest.number asker are
+      (λ n e. subst (λ k. n < k) all (is.within n e)) found)
+
+  pub others_there : (asker : ℕ) → home_of c ≢ home_at asker
+      → HasAt world methods c (tables_at t (head_of heads nearest.number)) (home_at asker)
+  others_there asker other = nearest_has asker (is.others (home_at asker) other)
+
+  pub all_there : nearest.shares ≡ true
+      → HasVisible world methods c (tables_at t (head_of heads nearest.number))
+  all_there shared asker = nearest_has asker (is.all shared (home_at asker))
+
+-- a table for the class's own package, before those for others
+pub own_before : (world : List Shape) (methods : List LoadedMethod) (c : ClassName) (called : List Called)
+    (others : List KeyedTable) (asker : ℕ) → HasCalled world methods 128 (home_of c) 128 c called
+    → (home_of c ≢ home_at asker → HasAt world methods c others (home_at asker))
+    → HasAt world methods c (keyed (home_of c) called ∷ others) (home_at asker)
+own_before world methods c called others asker own has token low = by_test (home_of c == home_at asker) refl
   where
-    by_found : (o : Option KeyedTable) (b : Bool)
-        → option_map (λ (t : KeyedTable). called_in t.called token)
-        (option_or o (cond b (Some (keyed key called)) None))
-        ≡ option_or (option_map (λ (t : KeyedTable). called_in t.called token) o)
-        (cond b (Some (called_in called token)) None)
-    by_found o b = grind (arith, None, Some)
-
--- ---- the tables of a class
-
--- one more, for the package at the next place
-pub place_put : (world : List Shape) (methods : List LoadedMethod) (c : ClassName) (place : ℕ)
-    (tables : List KeyedTable) (called : List Called) → HasPlaces world methods c place tables
-    → HasCalled world methods 128 place 128 c called
-    → HasPlaces world methods c (place + 1) (tables ++ keyed place called ∷ [])
-place_put world methods c place tables called so_far has = grind (arith, keyed_more, nat_tests)
-
--- what is for no first place finds nothing
-pub all_visible : (world : List Shape) (methods : List LoadedMethod) (c : ClassName) (places : ℕ)
-    (tables : List KeyedTable) → HasPlaces world methods c places tables → HasNoPlaceFrom world c places
-    → HasVisible world methods c tables
-all_visible world methods c places tables has none asker token low = by_order (cases_lt (home_at asker) places)
-  where
-    by_order : (home_at asker < places) ⊎ (places ≤ home_at asker)
-        → unwrap_or (keyed_in tables (home_at asker) token) Nothing
+    by_test : (b : Bool) → (home_of c == home_at asker) ≡ b
+        → unwrap_or (keyed_in (keyed (home_of c) called ∷ others) (home_at asker) token) Nothing
         ≡ called_of methods (virtual_method_of world c (package_visible + token) (home_at asker))
-    by_order h1 = grind (arith, unwrap_or)
+    by_test true e =
+        ap (λ b. unwrap_or (option_map (λ (t : KeyedTable). called_in t.called token) (cond b
+        (Some (keyed (home_of c) called)) (find (λ (t : KeyedTable). t.key == home_at asker) others))) Nothing) e
+        ∙ own token low
+        ∙ ap (λ home. called_of methods (virtual_method_of world c (package_visible + token) home))
+        (eqb-true (home_of c) (home_at asker) e)
+    by_test false e =
+        ap (λ b. unwrap_or (option_map (λ (t : KeyedTable). called_in t.called token) (cond b
+        (Some (keyed (home_of c) called)) (find (λ (t : KeyedTable). t.key == home_at asker) others))) Nothing) e
+        ∙ has (eqb-false (home_of c) (home_at asker) e) token low
 
--- no place yet
-pub no_place : (world : List Shape) (methods : List LoadedMethod) (c : ClassName) → HasPlaces world methods c 0 []
-no_place world methods c = grind arith
+-- the list of a class with a table of its own
+pub put_has : (world : List Shape) (methods : List LoadedMethod) (c : ClassName) (t u : Chained) (called : List Called)
+    (above next : Option ℕ) (number : ℕ) → AreChained t → IsHead (length t.tables) above
+    → next ≡ number_behind t above (home_of c) → number ≡ length t.tables
+    → u ≡ with_table t (keyed (home_of c) called) next → HasCalled world methods 128 (home_of c) 128 c called
+    → ((asker : ℕ) → home_of c ≢ home_at asker → HasAt world methods c (tables_at t above) (home_at asker))
+    → HasVisible world methods c (tables_at u (Some number))
+put_has world methods c t u called above next number are is next_is number_is u_is own has asker =
+    subst (λ ks. HasAt world methods c ks (home_at asker)) (sym list_is)
+    (own_before world methods c called (tables_at t (number_behind t above (home_of c))) asker own
+    (λ other token low. ap (λ o. unwrap_or o Nothing)
+    (same_behind t (home_of c) are above (home_at asker) token is (ne_eqb (home_of c) (home_at asker) other))
+    ∙ has asker other token low))
+  where
+    list_is : tables_at u (Some number)
+        ≡ keyed (home_of c) called ∷ tables_at t (number_behind t above (home_of c))
+    list_is =
+        ap (λ n. tables_at u (Some n)) number_is ∙ ap (λ v. tables_at v (Some (length t.tables))) u_is
+        ∙ ap (λ o. tables_at (with_table t (keyed (home_of c) called) o) (Some (length t.tables))) next_is
+        ∙ table_put t (keyed (home_of c) called) (number_behind t above (home_of c)) are
+        (head_behind t (home_of c) are above is)
 
 pub are_visible : (world : List Shape) (methods : List LoadedMethod) (names : List ClassName)
     (lists : List (List KeyedTable)) → AreListed (HasVisible world methods) names (length names) lists

@@ -8,6 +8,8 @@ pub mod InterfaceRows
 pub mod PrivateInterfaceRows
 pub mod Called
 pub mod PrivateCalled
+pub mod PrivateChained
+pub mod PrivateNearest
 pub mod BitRow
 pub mod PrivateBitRow
 pub mod PrivateBitRows

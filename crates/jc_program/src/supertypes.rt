@@ -31,7 +31,7 @@ use std::marker::Model;
 const OBJECT: ClassName = ClassName::Api(ApiClass::Object);
 
 /// The number of a class. Of the classes of a world, and of those right above them, each has one.
-fn number_of(classes: &Classes, class: ClassName) -> Result<u16, AllocError>
+pub(crate) fn number_of(classes: &Classes, class: ClassName) -> Result<u16, AllocError>
     ensures { IfOk result (λ number. class_number classes.now class ≡ Some number) }
 {
     match classes.number_of(class) {

@@ -1,14 +1,16 @@
 //! The package-visible virtual methods of a world's classes, by number, token and package.
 
-ghost use Rattle.std.specs.Prelude.{◌≡◌, ◌+◌, ◌≤◌, ◌==◌, [], length, take, IfOk};
+ghost use Rattle.std.specs.Prelude.{◌≡◌, ◌≢◌, ◌+◌, ◌<◌, ◌≤◌, ◌==◌, ℕ, true, length, slice_get, take, Some, IfErr, IfOk};
+ghost use Rattle.jc_names.specs.Names.{home_at, home_of};
 ghost use Rattle.jc_program.specs.Called.{AreVisible, visible_at};
-ghost use Rattle.jc_program.specs.PrivateCalled.{AreListed, HasPlaces, HasVisible};
+ghost use Rattle.jc_program.specs.PrivateCalled.{AreListed, HasAt, HasVisible};
+ghost use Rattle.jc_program.specs.PrivateChained.{AreHeads, AreKept, IsHead, head_of, tables_at};
 
 use crate::called::{PACKAGE_VISIBLE, table_made};
+use crate::chained::{ChainedTables, number_at};
 use crate::classes::{ClassNumber, Classes};
-use crate::keyed::KeyedLists;
 use crate::methods::Methods;
-use crate::tables::short_of;
+use crate::nearest::nearest_above;
 use jc_classes::ClassTable;
 use jc_entries::Called;
 use jc_link::World;
@@ -16,89 +18,104 @@ use jc_names::{ClassName, PackagePlace};
 use std::alloc::{AllocError, Global};
 use std::marker::Model;
 
-/// Makes a class's table for the package that stands at a place, if it finds a method there.
-fn put_place(
+/// Puts a class's table for its own package behind others, and gives its number. The tables for other packages are
+/// those of a class above.
+fn put_table(
     alloc: Global,
-    lists: &mut KeyedLists,
+    tables: &mut ChainedTables,
     table: &ClassTable,
     methods: &Methods,
     class: ClassName,
-    place: u16,
-) -> Result<(), AllocError>
-    requires first { HasPlaces table.now methods.now class place lists.old.last }
-    ensures whole { lists.new.whole ≡ lists.old.whole }
-    ensures last { IfOk result (λ u. HasPlaces table.now methods.now class (place + 1) lists.new.last) }
+    above: Option<u16>,
+) -> Result<u16, AllocError>
+    requires above { IsHead (length tables.old.tables) above }
+    requires others { (asker : ℕ) → home_of class ≢ home_at asker
+        → HasAt table.now methods.now class (tables_at tables.old above) (home_at asker) }
+    ensures has { IfOk result (λ number. HasVisible table.now methods.now class (tables_at tables.new (Some number))) }
+    ensures within { IfOk result (λ number. number < length tables.new.tables) }
+    ensures kept { AreKept tables.old tables.new }
 {
+    let place = class.home().index() as u16;
     let tokens = table.visible_tokens(class, usize::from(place));
-    if tokens == 0 {
-        return Ok(());
-    }
     let called = table_made(alloc, table, methods, class, PACKAGE_VISIBLE, place, tokens)?;
-    lists.put(place, &called)?;
-    Ok(())
+    let next = tables.behind(above, place);
+    let number = tables.put(place, &called, next)?;
+    Ok(number)
 }
 
-/// Makes the tables of a class.
-#[tactic(auto, using(crate::proofs::Showing::all_visible, crate::proofs::Showing::no_place))]
-fn put_visible(
+/// Where the list of a class begins: it is that of a class above if it shares that one's methods, and else begins with
+/// a table of its own.
+fn head_made(
     alloc: Global,
-    lists: &mut KeyedLists,
+    tables: &mut ChainedTables,
     table: &ClassTable,
     methods: &Methods,
     class: ClassName,
-) -> Result<(), AllocError>
-    requires first { lists.old.last ≡ [] }
-    ensures whole { lists.new.whole ≡ lists.old.whole }
-    ensures last { IfOk result (λ u. HasVisible table.now methods.now class lists.new.last) }
+    above: Option<u16>,
+    shares: bool,
+) -> Result<Option<u16>, AllocError>
+    requires above { IsHead (length tables.old.tables) above }
+    requires others { (asker : ℕ) → home_of class ≢ home_at asker
+        → HasAt table.now methods.now class (tables_at tables.old above) (home_at asker) }
+    requires all { shares ≡ true → HasVisible table.now methods.now class (tables_at tables.old above) }
+    ensures has { IfOk result (λ head. HasVisible table.now methods.now class (tables_at tables.new head)) }
+    ensures within { IfOk result (IsHead (length tables.new.tables)) }
+    ensures kept { AreKept tables.old tables.new }
 {
-    let places = short_of(table.visible_places(class).end)?;
-    for place in 0..places {
-        put_place(alloc, lists, table, methods, class, place)?;
+    if shares {
+        return Ok(above);
     }
-    Ok(())
+    let number = put_table(alloc, tables, table, methods, class, above)?;
+    Ok(Some(number))
 }
 
-/// Puts the tables of the other classes behind those of the first ones.
-fn put_lists(
-    alloc: Global,
-    lists: &mut KeyedLists,
-    table: &ClassTable,
-    methods: &Methods,
-    names: &[ClassName],
-) -> Result<(), AllocError>
-    requires first { AreListed (HasVisible table.now methods.now) names.now (length lists.old.whole) lists.old.whole }
-    requires few { length lists.old.whole ≤ length names.now }
-    ensures done { IfOk result (λ u. AreListed (HasVisible table.now methods.now)
-        names.now (length names.now) lists.new.whole) }
-    ensures begins { take (length lists.old.whole) lists.new.whole ≡ lists.old.whole }
+/// Where the list of the class with a number begins.
+fn head_of(heads: &[Option<u16>], number: Option<u16>) -> Option<u16>
+    ensures { result ≡ head_of heads.now number }
 {
-    for at in lists.len()..names.len() {
-        lists.begin();
-        put_visible(alloc, lists, table, methods, names[at])?;
-        lists.close()?;
+    number_at(heads, usize::from(number?))
+}
+
+/// How many tables there are up to the last with which a list begins.
+fn heads_end(heads: &[Option<u16>]) -> usize
+    ensures { AreHeads result heads.now }
+{
+    let mut end = 0;
+    for head in heads {
+        if let Some(number) = *head {
+            end = end.max(usize::from(number) + 1);
+        }
     }
-    Ok(())
+    end
 }
 
 /// For each class of a world what its package-visible methods are: for each package in which it or a superclass
-/// declares some, by their tokens.
+/// declares some, by their tokens. A class has one table, for its own package, if its record declares such methods or
+/// stands in front of that of a superclass which does: at most 128 entries. All else it shares with its superclass. So
+/// memory grows with the records of classes alone, however long their chains are. A call passes at most one table for
+/// each package of the chain.
 #[derive(Drop)]
 pub struct VisibleMethods {
-    lists: KeyedLists,
+    tables: ChainedTables,
+    /// With which table the list of each class begins.
+    heads: Vec<Option<u16>>,
 }
 
 impl Model for VisibleMethods {
-    ghost use Rattle.std.specs.Prelude.{List};
+    ghost use Rattle.std.specs.Prelude.{List, length};
     ghost use Rattle.jc_program.specs.Called.{KeyedTable};
+    ghost use Rattle.jc_program.specs.PrivateChained.{AreHeads, lists_in};
 
     ghost Value = { List (List KeyedTable) };
 
-    ghost view = { λ v. v.lists.whole };
+    ghost view = { λ v. lists_in v.tables v.heads.items };
+
+    ghost invariant = { λ v. AreHeads (length v.tables.tables) v.heads.items };
 }
 
 impl VisibleMethods {
     /// The package-visible methods of these classes in a world, with these methods with code.
-    #[tactic(auto, using(crate::proofs::Showing::are_visible, crate::proofs::Calling::none_listed_yet))]
+    #[tactic(auto, using(crate::proofs::Calling::none_listed_yet))]
     pub fn new(
         alloc: Global,
         world: &World,
@@ -108,10 +125,43 @@ impl VisibleMethods {
         ensures visible { IfOk result (λ made. AreVisible world.now.shapes methods.now classes.now made) }
         ensures count { IfOk result (λ made. length made ≡ length classes.now) }
     {
-        let table = world.table();
-        let mut lists = KeyedLists::new(alloc);
-        put_lists(alloc, &mut lists, table, methods, classes.names())?;
-        Ok(VisibleMethods { lists })
+        let mut made = VisibleMethods {
+            tables: ChainedTables::new(alloc),
+            heads: Vec::new(alloc),
+        };
+        made.grow(alloc, world.table(), methods, classes)?;
+        Ok(made)
+    }
+
+    /// Puts a class behind the others.
+    fn put(
+        &mut self,
+        alloc: Global,
+        table: &ClassTable,
+        methods: &Methods,
+        classes: &Classes,
+        class: ClassName,
+    ) -> Result<(), AllocError>
+        requires here { slice_get classes.now (length self.old) ≡ Some class }
+        requires first { AreListed (HasVisible table.now methods.now) classes.now (length self.old) self.old }
+        ensures listed { IfOk result (λ u. AreListed (HasVisible table.now methods.now)
+            classes.now (length self.old + 1) self.new) }
+        ensures begins { take (length self.old) self.new ≡ self.old }
+    {
+        let nearest = nearest_above(table, classes, self.len(), class)?;
+        let above = head_of(&self.heads, nearest.number);
+        let shares = nearest.shares;
+        let head = head_made(
+            alloc,
+            &mut self.tables,
+            table,
+            methods,
+            class,
+            above,
+            shares,
+        )?;
+        self.heads.push(head)?;
+        Ok(())
     }
 
     /// Puts the package-visible methods of the other classes of a world behind those of the first ones.
@@ -129,40 +179,47 @@ impl VisibleMethods {
         ensures count { IfOk result (λ u. length self.new ≡ length classes.now) }
         ensures begins { take (length self.old) self.new ≡ self.old }
     {
-        put_lists(alloc, &mut self.lists, table, methods, classes.names())
+        let names = classes.names();
+        for at in self.len()..names.len() {
+            self.put(alloc, table, methods, classes, names[at])?;
+        }
+        Ok(())
     }
 
     /// Keeps those of the first classes alone.
     pub(crate) fn keep(&mut self, count: usize)
         ensures { self.new ≡ take count self.old }
     {
-        self.lists.keep(count);
+        self.heads.truncate(count);
+        self.tables.keep(heads_end(&self.heads));
     }
 
     /// For how many classes.
     pub fn len(&self) -> usize
         ensures { result ≡ length self.now }
     {
-        self.lists.len()
+        self.heads.len()
     }
 
     /// Whether for none.
     pub fn is_empty(&self) -> bool
         ensures { result ≡ (length self.now == 0) }
     {
-        self.lists.len() == 0
+        self.heads.len() == 0
     }
 
     /// What a call of the method with a package-visible token, from 128 on, leads to for an object of the class with a
     /// number, where a method of the loaded package with a number makes it; nothing where no class has its number.
     #[inline]
+    #[tactic(auto, using(crate::proofs::Sharing::list_at))]
     pub fn visible_method(&self, number: ClassNumber, token: u8, package: u8) -> Called
         ensures { result ≡ visible_at self.now number token «package» }
     {
         let asker = PackagePlace::of_loaded(package).index() as u16;
         let place = token.saturating_sub(PACKAGE_VISIBLE);
-        self.lists
-            .find(usize::from(number.index()), asker, place)
+        let head = number_at(&self.heads, usize::from(number.index()));
+        self.tables
+            .find(head, asker, place)
             .unwrap_or(Called::Nothing)
     }
 }

@@ -1,9 +1,0 @@
-use Rattle.std.proofs.Common.{◌≡◌, length, take}
-use Rattle.jc_program.specs.PrivateCalled.{AreListed, HasVisible}
-use Rattle.jc_program.proofs.visible.put_lists.Given as goal
-
-abbrev pub invariant-loop-at : goal.invariant-loop-at
-invariant-loop-at l = record {
-  listed : AreListed (HasVisible l.table l.methods) l.names l.at l.lists.whole;
-  begins : take (length l.fn.lists.whole) l.lists.whole ≡ l.fn.lists.whole;
-}

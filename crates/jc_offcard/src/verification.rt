@@ -150,7 +150,7 @@ fn inferred(alloc: Global, linked: &Linked) -> VerifyAnswer
     ensures { IsInferred linked.now result }
 {
     match infer(alloc, linked) {
-        Ok(cert) => written(alloc, &cert),
+        Ok(found) => written(alloc, &found.cert),
         Err(VerifyFault::NoCertificate { method, fault }) => {
             VerifyAnswer::NoCertificate { method, fault }
         }

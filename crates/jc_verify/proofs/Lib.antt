@@ -6,6 +6,7 @@ mod Arriving
 mod Lying
 mod Naming
 mod Settling
+mod Tallying
 mod Counting
 mod Stating
 mod Carrying

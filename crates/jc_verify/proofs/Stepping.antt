@@ -34,7 +34,7 @@ module _ {L : Type 0} (below : L → L → Bool) (height : L → ℕ) (most : �
 
   -- ---- how far they may still rise
 
-  tails : (p q : Place L) (ps qs : List (Place L)) → AreSteps below height most (p ∷ ps) (q ∷ qs) → AreSteps below height most ps qs
+  pub tails : (p q : Place L) (ps qs : List (Place L)) → AreSteps below height most (p ∷ ps) (q ∷ qs) → AreSteps below height most ps qs
   tails p q ps qs h = record { len = omega (arith, h.len); each = λ n x y e f. h.each (suc n) x y e f }
 
   step_left : (p q : Place L) → IsStep below height most p q → left_of height most q ≤ left_of height most p

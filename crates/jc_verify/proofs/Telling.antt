@@ -11,6 +11,7 @@ use Rattle.jc_check.specs.Method.{Method}
 use Rattle.jc_check.specs.Package.{method_of, package_rules}
 use Rattle.jc_verify.specs.PrivateGathered.{AreGathered, IsDenied, IsInferred, IsSoFar, IsTold, Stands}
 use Rattle.jc_verify.specs.PrivateNames.{KeepsNames}
+use Rattle.jc_verify.specs.PrivateTurns.{AreCounted}
 use Rattle.jc_verify.specs.Refusal.{CanBeCarried, IsUncarried}
 use Rattle.jc_verify.specs.MethodFault.{IsToldOf}
 use Rattle.jc_verify.specs.declared.gathering.Gathered.{Gathered}
@@ -38,6 +39,7 @@ module _ (l : Linked) (n : ℕ) (b : MethodBody) (at : slice_get l.body.kept.met
   pub passed_over : (t : MethodFault) → g.told ≡ Some t → t.method ≤ b.offset → IsSoFar l (n + 1) g
   passed_over t told behind = record {
     gathered = λ none. absurd (none-some t (sym none ∙ told));
+    counted = λ none. absurd (none-some t (sym none ∙ told));
     told = so_far.told;
     carried = λ k c s lower. by k c (either k c s) lower;
   }
@@ -50,6 +52,7 @@ module _ (l : Linked) (n : ℕ) (b : MethodBody) (at : slice_get l.body.kept.met
       → (CanBeCarried l (method_of l b) → ⊥) → IsToldOf (package_rules l) (method_of l b) t.fault → IsSoFar l (n + 1) after
   told_now after t told is before without of = record {
     gathered = λ none. absurd (none-some t (sym none ∙ told));
+    counted = λ none. absurd (none-some t (sym none ∙ told));
     told = λ u e. subst (λ (x : MethodFault). IsTold l x.method x.fault) (same_Some t u (sym told ∙ e)) (record { place = n; method = b; is = at; at = sym is; without = without; told = of });
     carried = λ k c s lower. by k c (either k c s) (lower t told);
   }
@@ -59,9 +62,10 @@ module _ (l : Linked) (n : ℕ) (b : MethodBody) (at : slice_get l.body.kept.met
 
   -- it has states
   pub carried_now : (after : Gathered) (states : List Stated) → IsInferred l (method_of l b) states → after.told ≡ g.told → (after.told ≡ None → AreGathered l (n + 1) (rows after.rows.items))
-      → IsSoFar l (n + 1) after
-  carried_now after states inferred told gathered = record {
+      → (after.told ≡ None → AreCounted l (n + 1) (rows after.rows.items) after.followed) → IsSoFar l (n + 1) after
+  carried_now after states inferred told gathered counted = record {
     gathered = gathered;
+    counted = counted;
     told = λ t e. so_far.told t (sym told ∙ e);
     carried = λ k c s lower. by k c (either k c s) lower;
   }

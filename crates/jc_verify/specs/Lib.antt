@@ -1,9 +1,11 @@
 pub mod Live
 pub mod Inferred
+pub mod Visits
 pub mod MethodFault
 pub mod Refusal
 pub mod PrivatePlaces
 pub mod PrivateFlow
+pub mod PrivateTurns
 pub mod PrivateCarrier
 pub mod PrivateStop
 pub mod PrivateTold

@@ -1,6 +1,6 @@
 -- Private. What the verifier knows while it follows control flow through a method: what is held at places, and what is
 -- closed, so that all that flows from there is held where it comes to.
-use Rattle.std.specs.Prelude.{◌≡◌, ℕ, ◌+◌, ◌*◌, ◌<◌, ◌≤◌, Bool, true, false, List, length, Option, Some, None, Ok}
+use Rattle.std.specs.Prelude.{◌≡◌, ◌≢◌, ℕ, ◌+◌, ◌*◌, ◌<◌, ◌≤◌, Bool, true, false, List, length, Option, Some, None, Ok}
 use Rattle.std.specs.Prelude.{⊤, slice_get, slice_index_or}
 use Rattle.std.specs.List.{AllByRecursion}
 use Rattle.std.specs.Option.{option_and_then, option_map}
@@ -19,6 +19,7 @@ use Rattle.jc_check.specs.Package.{package_rules}
 use Rattle.jc_check.specs.Rules.{Rules}
 use Rattle.jc_check.specs.Typing.{BranchLeads, HandlerLeads, HasShape, IsFine, Leads, Typing}
 use Rattle.jc_verify.specs.PrivatePlaces.{AreSteps, all_left}
+use Rattle.jc_verify.specs.Visits.{IsDepth}
 use Rattle.jc_verify.specs.declared.place.Place.{Place}
 
 abbrev pub Places : Type 0
@@ -65,6 +66,11 @@ pub record HasLaws (l : Linked) : Type 0 where
       → IsMonotone (is_class_below l.world) ((package_rules l).effect m.max_stack m.returned operation)
   pub bound : (s : Types) → height_of_types (classes_above l.world) most_classes s
       ≤ (length s.locals + length s.operands) * (3 + most_classes)
+  pub falls : (depth : ℕ) → IsDepth l.world depth → (s t : Types)
+      → types_below (is_class_below l.world) s t ≡ true → s ≢ t
+      → height_of_types (classes_above l.world) depth t < height_of_types (classes_above l.world) depth s
+  pub within : (depth : ℕ) → IsDepth l.world depth → (s : Types)
+      → height_of_types (classes_above l.world) depth s ≤ (length s.locals + length s.operands) * (3 + depth)
 
 -- places changed: what was held lies below what is held
 pub record Risen (l : Linked) (m : Method) (numbers : List (Option ℕ)) (before after : Places) : Type 0 where

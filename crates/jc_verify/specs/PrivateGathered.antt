@@ -10,6 +10,7 @@ use Rattle.jc_check.specs.Package.{method_of, package_rules}
 use Rattle.jc_check.specs.declared.fault.Fault.{Fault}
 use Rattle.jc_verify.specs.Inferred.{AreLeast, AreWhereEntered}
 use Rattle.jc_verify.specs.PrivateNames.{KeepsNames}
+use Rattle.jc_verify.specs.PrivateTurns.{AreCounted}
 use Rattle.jc_verify.specs.Refusal.{CanBeCarried}
 use Rattle.jc_verify.specs.MethodFault.{IsToldOf}
 use Rattle.jc_verify.specs.declared.gathering.Gathered.{Gathered}
@@ -84,6 +85,7 @@ pub record IsTold (l : Linked) (offset : ℕ) (fault : Fault) : Type 0 where
 pub record IsSoFar (l : Linked) (n : ℕ) (g : Gathered) : Type 0 where
   pub gathered : g.told ≡ None → AreGathered l n (rows g.rows.items)
   pub told : (t : MethodFault) → g.told ≡ Some t → IsTold l t.method t.fault
+  pub counted : g.told ≡ None → AreCounted l n (rows g.rows.items) g.followed
   pub carried : (k : ℕ) (b : MethodBody) → Stands l n k b → ((t : MethodFault) → g.told ≡ Some t → b.offset < t.method)
       → CanBeCarried l (method_of l b)
 

@@ -1,7 +1,8 @@
 //! Following control flow through a method.
 
-ghost use Rattle.std.specs.Prelude.{◌≡◌, ◌<◌, ◌≤◌, ℤ, true, Some, Ok, length, Contains, slice_get};
+ghost use Rattle.std.specs.Prelude.{◌≡◌, ◌+◌, ◌<◌, ◌≤◌, ℤ, true, Some, Ok, length, Contains, slice_get};
 ghost use Rattle.std.specs.Prelude.{IfOk, IfErr, IfNone, IfSome};
+ghost use Rattle.std.specs.Io.Iter.{u64_saturate};
 ghost use Rattle.std.specs.List.{AllByRecursion};
 ghost use Rattle.jc_code.specs.Targets.{targets_of};
 ghost use Rattle.jc_types.specs.Changes.{Became};
@@ -371,12 +372,13 @@ fn instr_at<'m>(flow: &Flow<'_, 'm>, pc: usize) -> Option<Instr<'m>>
     }
 }
 
-/// Follows control flow from a pc until it comes to places or ends.
+/// Follows control flow from a pc until it comes to places or ends, and counts that.
 pub(crate) fn follow(
     flow: &Flow,
     places: &mut [Place<State>],
     caught: &mut State,
     state: &mut State,
+    followed: &mut u64,
     start: u16,
 ) -> Result<(), WordFault>
     requires work { IsAtWork flow.now places.old }
@@ -385,9 +387,11 @@ pub(crate) fn follow(
     ensures taken { IfOk result (λ u. HasTaken flow.now (ClosedFrom flow.now start state.old.types)
         (Bears flow.now start state.old.types) places.old places.new) }
     ensures room { IfOk result (λ u. HaveRoom flow.now caught.new state.new) }
+    ensures counted { followed.new ≡ u64_saturate (followed.old + 1) }
     ensures refused { IfErr result (IsDenial flow.now (Bears flow.now start state.old.types) places.old) }
 {
     listing_laws();
+    *followed = followed.saturating_add(1);
     let mut seen = Seen::nothing(flow.alloc);
     let mut pc = start;
     loop {

@@ -12,6 +12,7 @@ ghost use Rattle.jc_verify.specs.PrivateGathered.{IsDenied, IsInferred, IsPut, I
 ghost use Rattle.jc_verify.specs.PrivateNames.{KeepsNames};
 ghost use Rattle.jc_verify.specs.PrivateRefused.{HasFitMethods};
 ghost use Rattle.jc_verify.specs.PrivateTold.{Tells};
+ghost use Rattle.jc_verify.specs.PrivateTurns.{IsCountedIn};
 
 use crate::fault::VerifyFault;
 use crate::method::states_of;
@@ -28,26 +29,34 @@ pub(crate) struct MethodFault {
     pub(crate) fault: Fault,
 }
 
-/// What is known of the first methods of a package: the rows of those that have states, and of those without a
-/// certificate the one with the least offset.
+/// What is known of the first methods of a package: the rows of those that have states, of those without a certificate
+/// the one with the least offset, and how often control flow was followed.
 #[derive(Drop)]
 pub(crate) struct Gathered {
     pub(crate) rows: Vec<MethodRow>,
     pub(crate) told: Option<MethodFault>,
+    pub(crate) followed: u64,
 }
 
 /// The states that carry a method with code.
-fn states_for(alloc: Global, linked: &Linked, body: &MethodCode) -> Result<Vec<StateRow>, WordFault>
+fn states_for(
+    alloc: Global,
+    linked: &Linked,
+    body: &MethodCode,
+    followed: &mut u64,
+) -> Result<Vec<StateRow>, WordFault>
     requires { HasLaws linked.now }
     ensures inferred { IfOk result (λ states. IsInferred linked.now (method_of linked.now body.now)
         (map stated states.items)) }
+    ensures counted { IfOk result (λ states.
+        IsCountedIn linked.now (map stated states.items) followed.old followed.new) }
     ensures refused { IfErr result (λ fault. (pc : ℕ) (reason : Reason) → fault ≡ Refused pc reason
         → IsDenied linked.now (method_of linked.now body.now)) }
     ensures told { IfErr result (λ fault. KeepsNames linked.now (method_of linked.now body.now)
         → Tells (package_rules linked.now) (method_of linked.now body.now) fault) }
 {
     let method = method_of(alloc, linked, body)?;
-    states_of(alloc, linked, &method)
+    states_of(alloc, linked, &method, followed)
 }
 
 /// Whether a method is told of that stands before another one, or where it stands.
@@ -69,6 +78,7 @@ fn put_states(
     ensures put { IfOk result (λ u. IsPut offset (map stated states.items) (rows gathered.old.rows.items)
         (rows gathered.new.rows.items)) }
     ensures told { gathered.new.told ≡ gathered.old.told }
+    ensures followed { gathered.new.followed ≡ gathered.old.followed }
     ensures memory { IfErr result (λ fault. fault ≡ VerifyFault.Memory) }
 {
     if states.is_empty() {
@@ -95,7 +105,7 @@ pub(crate) fn gather(
     if is_passed_over(gathered.told, offset) {
         return Ok(());
     }
-    match states_for(alloc, linked, body) {
+    match states_for(alloc, linked, body, &mut gathered.followed) {
         Ok(states) => put_states(gathered, offset, states),
         Err(WordFault::Refused { pc, reason }) => {
             gathered.told = Some(told_at(offset, pc, reason));

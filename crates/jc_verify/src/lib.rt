@@ -16,4 +16,4 @@ mod spelling;
 mod stop;
 
 pub use fault::VerifyFault;
-pub use package::infer;
+pub use package::{Inferred, infer};

@@ -13,6 +13,7 @@ ghost use Rattle.jc_verify.specs.PrivateFlow.{HasLaws, Places};
 ghost use Rattle.jc_verify.specs.PrivateGathered.{IsDenied, IsInferred};
 ghost use Rattle.jc_verify.specs.PrivateSettled.{IsFilled};
 ghost use Rattle.jc_verify.specs.PrivateStated.{AreStateRows};
+ghost use Rattle.jc_verify.specs.PrivateTurns.{IsCountedIn};
 ghost use Rattle.jc_verify.specs.PrivateWork.{IsBlank};
 
 use crate::entries::entries_of;
@@ -28,31 +29,40 @@ use jc_types::State;
 use std::alloc::Global;
 
 /// What places hold once they are filled, as rows of a certificate. None holds anything before.
-fn rows_in(flow: &Flow, places: &mut [Place<State>]) -> Result<Vec<StateRow>, WordFault>
+fn rows_in(
+    flow: &Flow,
+    places: &mut [Place<State>],
+    followed: &mut u64,
+) -> Result<Vec<StateRow>, WordFault>
     requires blank { IsBlank flow.now places.old }
     ensures rows { IfOk result (λ rows. (final : Places)
         × IsFilled flow.now.linked.now flow.now.method.now flow.now.numbers.now places.old final
         × AreStateRows (class_of_name flow.now.linked.now.world) final (map stated rows.items)) }
+    ensures counted { IfOk result (λ rows.
+        IsCountedIn flow.now.linked.now (map stated rows.items) followed.old followed.new) }
     ensures refused { IfErr result (λ fault. (pc : ℕ) (reason : Reason) → fault ≡ Refused pc reason
         → ((typing : Typing) → IsCarrier flow.now.linked.now flow.now.method.now flow.now.numbers.now typing → ⊥)
         ⊎ (KeepsNames flow.now.linked.now flow.now.method.now → ⊥)) }
     ensures told { IfErr result (λ fault. KeepsNames flow.now.linked.now flow.now.method.now
         → Tells (package_rules flow.now.linked.now) flow.now.method.now fault) }
 {
-    fill(flow, places)?;
+    fill(flow, places, followed)?;
     let linked = flow.linked;
     stated_rows(flow.alloc, linked.table(), places)
 }
 
-/// The states that carry a method.
+/// The states that carry a method. What is followed is counted.
 pub(crate) fn states_of(
     alloc: Global,
     linked: &Linked,
     method: &Method,
+    followed: &mut u64,
 ) -> Result<Vec<StateRow>, WordFault>
     requires laws { HasLaws linked.now }
     requires short { length method.now.code < 2 ^ 16 }
     ensures inferred { IfOk result (λ rows. IsInferred linked.now method.now (map stated rows.items)) }
+    ensures counted { IfOk result (λ rows.
+        IsCountedIn linked.now (map stated rows.items) followed.old followed.new) }
     ensures refused { IfErr result (λ fault. (pc : ℕ) (reason : Reason) → fault ≡ Refused pc reason
         → IsDenied linked.now method.now) }
     ensures told { IfErr result (λ fault. KeepsNames linked.now method.now
@@ -69,5 +79,5 @@ pub(crate) fn states_of(
         method,
         numbers: &numbered.numbers,
     };
-    rows_in(&flow, &mut numbered.places)
+    rows_in(&flow, &mut numbered.places, followed)
 }

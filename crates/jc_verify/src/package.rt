@@ -1,13 +1,15 @@
 //! The certificate of a package.
 
-ghost use Rattle.std.specs.Prelude.{◌≡◌, length, IfErr, IfOk};
-ghost use Rattle.jc_cert.specs.Cert.{rows};
+ghost use Rattle.std.specs.Prelude.{◌≡◌, ℕ, ◌-◌, ◌<◌, ◌^◌, length, IfErr, IfOk};
+ghost use Rattle.jc_cert.specs.Cert.{IsCert, rows};
 ghost use Rattle.jc_check.specs.Checked.{CarriesPackage};
 ghost use Rattle.jc_verify.specs.Inferred.{HasAllStates, HasLeastStates, HasStatesWhereEntered};
 ghost use Rattle.jc_verify.specs.PrivateFlow.{HasLaws};
 ghost use Rattle.jc_verify.specs.PrivateGathered.{AreGathered, IsSoFar};
 ghost use Rattle.jc_verify.specs.PrivateRefused.{HasFitMethods};
+ghost use Rattle.jc_verify.specs.PrivateTurns.{AreCounted};
 ghost use Rattle.jc_verify.specs.Refusal.{IsRefusal};
+ghost use Rattle.jc_verify.specs.Visits.{HasBoundedCount};
 
 use crate::fault::VerifyFault;
 use crate::gathering::{Gathered, gather};
@@ -18,6 +20,14 @@ use jc_effects::effects_are_monotone;
 use jc_link::{Linked, MethodCode, built_worlds_are_sound};
 use jc_types::order_laws;
 use std::alloc::Global;
+
+/// A certificate that was worked out, and how often control flow was followed from a pc for it: until it ended, or came
+/// to pcs with a state.
+#[derive(Debug, Drop)]
+pub struct Inferred {
+    pub cert: Cert,
+    pub followed: u64,
+}
 
 /// What holds of types and of code beside a linked package, and of its methods. It does nothing but look at the
 /// methods' headers.
@@ -53,6 +63,7 @@ fn gather_all(alloc: Global, linked: &Linked) -> Result<Gathered, VerifyFault>
     let mut gathered = Gathered {
         rows: Vec::with_capacity(alloc, methods.len())?,
         told: None,
+        followed: 0,
     };
     for index in 0..methods.len() {
         gather(alloc, linked, &methods[index], &mut gathered)?;
@@ -67,6 +78,10 @@ fn certificate_of(linked: &Linked, methods: Vec<MethodRow>) -> Cert
     ensures carried { CarriesPackage linked.now result }
     ensures entered { HasStatesWhereEntered linked.now result }
     ensures least { HasLeastStates linked.now result }
+    ensures counted { (count : ℕ)
+        → AreCounted linked.now (length linked.now.body.kept.methods) (rows methods.items) count
+        → AreCounted linked.now (length linked.now.body.kept.methods) result count }
+    ensures cert { IsCert result }
 {
     let mut methods = methods;
     methods.sort_unstable_by_key(|row| row.offset);
@@ -75,14 +90,16 @@ fn certificate_of(linked: &Linked, methods: Vec<MethodRow>) -> Cert
 
 /// The certificate of what is known of all methods, unless one of them is told of.
 #[tactic(auto, using(crate::proofs::Bearing::all_states, crate::proofs::Telling::is_refusal))]
-fn certificate_or_fault(linked: &Linked, gathered: Gathered) -> Result<Cert, VerifyFault>
+fn certificate_or_fault(linked: &Linked, gathered: Gathered) -> Result<Inferred, VerifyFault>
     requires laws { HasLaws linked.now }
     requires fit { HasFitMethods linked.now }
     requires so_far { IsSoFar linked.now (length linked.now.body.kept.methods) gathered }
-    ensures carried { IfOk result (λ cert. CarriesPackage linked.now cert) }
-    ensures entered { IfOk result (λ cert. HasStatesWhereEntered linked.now cert) }
-    ensures all { IfOk result (λ cert. HasAllStates linked.now cert) }
-    ensures least { IfOk result (λ cert. HasLeastStates linked.now cert) }
+    ensures carried { IfOk result (λ found. CarriesPackage linked.now found.cert) }
+    ensures entered { IfOk result (λ found. HasStatesWhereEntered linked.now found.cert) }
+    ensures all { IfOk result (λ found. HasAllStates linked.now found.cert) }
+    ensures least { IfOk result (λ found. HasLeastStates linked.now found.cert) }
+    ensures followed { IfOk result (HasBoundedCount linked.now) }
+    ensures exact { IfOk result (λ found. found.followed < 2 ^ 64 - 1) }
     ensures refused { IfErr result (IsRefusal linked.now) }
 {
     if let Some(told) = gathered.told {
@@ -91,17 +108,22 @@ fn certificate_or_fault(linked: &Linked, gathered: Gathered) -> Result<Cert, Ver
             fault: told.fault,
         });
     }
-    Ok(certificate_of(linked, gathered.rows))
+    let followed = gathered.followed;
+    let cert = certificate_of(linked, gathered.rows);
+    Ok(Inferred { cert, followed })
 }
 
 /// Works out a certificate that carries a linked package, with states only where control flow enters a method by a
 /// branch or a handler of an instruction that it reaches, each the least that is possible there. Where a method can't
-/// be carried the one with the least offset is told.
-pub fn infer(alloc: Global, linked: &Linked) -> Result<Cert, VerifyFault>
-    ensures carried { IfOk result (λ cert. CarriesPackage linked.now cert) }
-    ensures entered { IfOk result (λ cert. HasStatesWhereEntered linked.now cert) }
-    ensures all { IfOk result (λ cert. HasAllStates linked.now cert) }
-    ensures least { IfOk result (λ cert. HasLeastStates linked.now cert) }
+/// be carried the one with the least offset is told. How often control flow is followed is bounded by the certificate,
+/// and counted up to 2^64 - 1, which is never reached.
+pub fn infer(alloc: Global, linked: &Linked) -> Result<Inferred, VerifyFault>
+    ensures carried { IfOk result (λ found. CarriesPackage linked.now found.cert) }
+    ensures entered { IfOk result (λ found. HasStatesWhereEntered linked.now found.cert) }
+    ensures all { IfOk result (λ found. HasAllStates linked.now found.cert) }
+    ensures least { IfOk result (λ found. HasLeastStates linked.now found.cert) }
+    ensures followed { IfOk result (HasBoundedCount linked.now) }
+    ensures exact { IfOk result (λ found. found.followed < 2 ^ 64 - 1) }
     ensures refused { IfErr result (IsRefusal linked.now) }
 {
     flow_laws(linked);

@@ -1,12 +1,13 @@
 //! Following control flow from the places that have changed, until none has.
 
-ghost use Rattle.std.specs.Prelude.{◌≡◌, ◌⊎◌, ◌<◌, ◌≤◌, ℕ, true, false, Some, None, length, slice_get, IfErr, IfNone};
-ghost use Rattle.std.specs.Prelude.{IfOk, IfSome};
+ghost use Rattle.std.specs.Prelude.{◌≡◌, ◌⊎◌, ◌+◌, ◌<◌, ◌≤◌, ℕ, true, false, Some, None, length, slice_get};
+ghost use Rattle.std.specs.Prelude.{IfErr, IfNone, IfOk, IfSome};
 ghost use Rattle.jc_types.specs.State.{StateWithRoom};
 ghost use Rattle.jc_check.specs.Method.{entry_of};
 ghost use Rattle.jc_verify.specs.PrivateFlow.{IsUpper, types_held};
 ghost use Rattle.jc_verify.specs.PrivateSettled.{HasSettled, IsEntryMet, IsFilled, IsFollowed, IsSettled, IsSwept};
 ghost use Rattle.jc_verify.specs.PrivateSettled.{settled_place};
+ghost use Rattle.jc_verify.specs.PrivateTurns.{IsCounted};
 ghost use Rattle.jc_verify.specs.PrivateWork.{Anything, HasTaken, HaveRoom, IsAtWork, IsBlank, IsDenial};
 ghost use Rattle.jc_verify.specs.declared.place.Place.{Place as PlaceOf};
 
@@ -40,6 +41,7 @@ fn take_up(place: &mut Place<State>, state: &mut State) -> Option<u16>
         → (length s.types.locals ≡ length state.old.types.locals) × (length s.types.operands ≤ state.old.room) }
     ensures taken { IfSome result (λ pc. (place.old.pc ≡ pc) × (place.new ≡ settled_place place.old)
         × (types_held place.old ≡ Some state.new.types)) }
+    ensures changed { IfSome result (λ pc. place.old.changed ≡ true) }
     ensures left { IfNone result ((place.new ≡ place.old × (place.old.changed ≡ false))
         ⊎ (place.new ≡ settled_place place.old × (types_held place.old ≡ None))) }
     ensures room { state.new.room ≡ state.old.room }
@@ -62,6 +64,7 @@ fn follow_place(
     places: &mut [Place<State>],
     caught: &mut State,
     state: &mut State,
+    followed: &mut u64,
     number: usize,
 ) -> Result<(), WordFault>
     requires work { IsAtWork flow.now places.old }
@@ -69,11 +72,13 @@ fn follow_place(
     requires there { number < length places.old }
     ensures followed { IfOk result (λ u.
         IsFollowed flow.now.linked.now flow.now.method.now flow.now.numbers.now number places.old places.new) }
+    ensures counted { IfOk result (λ u.
+        IsCounted flow.now.linked.now places.old places.new followed.old followed.new) }
     ensures room { IfOk result (λ u. HaveRoom flow.now caught.new state.new) }
     ensures refused { IfErr result (IsDenial flow.now Anything places.old) }
 {
     match take_up(&mut places[number], state) {
-        Some(start) => follow(flow, places, caught, state, start),
+        Some(start) => follow(flow, places, caught, state, followed, start),
         None => Ok(()),
     }
 }
@@ -84,16 +89,19 @@ fn sweep_forwards(
     places: &mut [Place<State>],
     caught: &mut State,
     state: &mut State,
+    followed: &mut u64,
 ) -> Result<(), WordFault>
     requires work { IsAtWork flow.now places.old }
     requires room { HaveRoom flow.now caught.old state.old }
     ensures swept { IfOk result (λ u. IsSwept flow.now.linked.now flow.now.method.now flow.now.numbers.now 0
         (length places.new) places.old places.new) }
+    ensures counted { IfOk result (λ u.
+        IsCounted flow.now.linked.now places.old places.new followed.old followed.new) }
     ensures room { IfOk result (λ u. HaveRoom flow.now caught.new state.new) }
     ensures refused { IfErr result (IsDenial flow.now Anything places.old) }
 {
     for number in 0..places.len() {
-        follow_place(flow, places, caught, state, number)?;
+        follow_place(flow, places, caught, state, followed, number)?;
     }
     Ok(())
 }
@@ -104,18 +112,21 @@ fn sweep_backwards(
     places: &mut [Place<State>],
     caught: &mut State,
     state: &mut State,
+    followed: &mut u64,
 ) -> Result<(), WordFault>
     requires work { IsAtWork flow.now places.old }
     requires room { HaveRoom flow.now caught.old state.old }
     ensures swept { IfOk result (λ u. IsSwept flow.now.linked.now flow.now.method.now flow.now.numbers.now 0
         (length places.new) places.old places.new) }
+    ensures counted { IfOk result (λ u.
+        IsCounted flow.now.linked.now places.old places.new followed.old followed.new) }
     ensures room { IfOk result (λ u. HaveRoom flow.now caught.new state.new) }
     ensures refused { IfErr result (IsDenial flow.now Anything places.old) }
 {
     let mut number = places.len();
     while number > 0 {
         number -= 1;
-        follow_place(flow, places, caught, state, number)?;
+        follow_place(flow, places, caught, state, followed, number)?;
     }
     Ok(())
 }
@@ -141,16 +152,19 @@ fn settle(
     places: &mut [Place<State>],
     caught: &mut State,
     state: &mut State,
+    followed: &mut u64,
 ) -> Result<(), WordFault>
     requires work { IsAtWork flow.now places.old }
     requires settled { IsSettled flow.now.linked.now flow.now.method.now flow.now.numbers.now places.old }
     requires room { HaveRoom flow.now caught.old state.old }
     ensures settled { IfOk result (λ u. HasSettled flow.now places.old places.new) }
+    ensures counted { IfOk result (λ u.
+        IsCounted flow.now.linked.now places.old places.new followed.old followed.new) }
     ensures refused { IfErr result (IsDenial flow.now Anything places.old) }
 {
     loop {
-        sweep_forwards(flow, places, caught, state)?;
-        sweep_backwards(flow, places, caught, state)?;
+        sweep_forwards(flow, places, caught, state, followed)?;
+        sweep_backwards(flow, places, caught, state, followed)?;
         if !has_changed(places) {
             return Ok(());
         }
@@ -163,6 +177,7 @@ fn enter(
     places: &mut [Place<State>],
     caught: &mut State,
     state: &mut State,
+    followed: &mut u64,
 ) -> Result<(), WordFault>
     requires blank { IsBlank flow.now places.old }
     requires room { HaveRoom flow.now caught.old state.old }
@@ -170,11 +185,13 @@ fn enter(
     ensures taken { IfOk result (λ u. HasTaken flow.now
         (IsEntryMet flow.now.linked.now flow.now.method.now flow.now.numbers.now)
         (IsUpper flow.now.linked.now flow.now.method.now) places.old places.new) }
+    ensures counted { IfOk result (λ u.
+        IsCounted flow.now.linked.now places.old places.new (followed.old + 1) followed.new) }
     ensures room { IfOk result (λ u. HaveRoom flow.now caught.new state.new) }
     ensures refused { IfErr result (IsDenial flow.now Anything places.old) }
 {
     match flow_to(flow, places, 0, state) {
-        Ok(true) => follow(flow, places, caught, state, 0),
+        Ok(true) => follow(flow, places, caught, state, followed, 0),
         Ok(false) => Ok(()),
         Err(stop) => Err(told_at(0, stop)),
     }
@@ -182,10 +199,16 @@ fn enter(
 
 /// What places hold once control flow was followed from the entry, and from all places that took something in. None
 /// holds anything before.
-pub(crate) fn fill(flow: &Flow, places: &mut [Place<State>]) -> Result<(), WordFault>
+pub(crate) fn fill(
+    flow: &Flow,
+    places: &mut [Place<State>],
+    followed: &mut u64,
+) -> Result<(), WordFault>
     requires blank { IsBlank flow.now places.old }
     ensures filled { IfOk result (λ u.
         IsFilled flow.now.linked.now flow.now.method.now flow.now.numbers.now places.old places.new) }
+    ensures counted { IfOk result (λ u.
+        IsCounted flow.now.linked.now places.old places.new (followed.old + 1) followed.new) }
     ensures refused { IfErr result (IsDenial flow.now Anything places.old) }
 {
     let method = flow.method;
@@ -201,6 +224,6 @@ pub(crate) fn fill(flow: &Flow, places: &mut [Place<State>]) -> Result<(), WordF
         method.max_locals,
         method.max_stack,
     )?;
-    enter(flow, places, &mut caught, &mut state)?;
-    settle(flow, places, &mut caught, &mut state)
+    enter(flow, places, &mut caught, &mut state, followed)?;
+    settle(flow, places, &mut caught, &mut state, followed)
 }

@@ -1,10 +1,12 @@
-use Rattle.std.proofs.Common.{◌<◌, ◌^◌, rules, ap, arith, map, subst, sym, refl, ◌∙◌}
+use Rattle.std.proofs.Common.{◌<◌, ◌+◌, ◌^◌, rules, ap, arith, map, subst, sym, refl, ◌∙◌}
 use Rattle.jc_cap_desc.specs.Shape.{MethodBody}
 use Rattle.jc_cert.specs.Cert.{rows, stated}
 use Rattle.jc_check.specs.Package.{method_of, package_rules}
 use Rattle.jc_verify.specs.PrivateTold.{Tells}
+use Rattle.jc_verify.specs.PrivateTurns.{AreCounted}
 use Rattle.jc_verify.specs.MethodFault.{IsToldOf}
 use Rattle.jc_verify.specs.PrivateGathered.{IsPut}
+use Rattle.jc_verify.proofs.Tallying.{counted_put}
 use Rattle.jc_verify.proofs.Telling.{carried_now, is_passed, isnt_passed, passed_over, told_now, without}
 use Rattle.jc_verify.proofs.Rows.{put}
 use Rattle.jc_verify.proofs.Visiting.{if_ok}
@@ -21,7 +23,9 @@ returns-in-Ok-clause-gathered c =
     if_ok c.put_states.result _ _ c.put_states.ensures.put (λ u is_put n at so_far.
     carried_now l n b at c.args.gathered.now so_far c.put_states.new.gathered states c.in-Ok.ensures.inferred c.put_states.ensures.told
     (λ none. put l c.requires.fit.apart n before (so_far.gathered (sym c.put_states.ensures.told ∙ none)) b at states _ small
-    c.in-Ok.ensures.inferred (subst (λ o. IsPut o states before (rows c.put_states.new.gathered.rows.items)) (sym same) is_put)))
+    c.in-Ok.ensures.inferred (subst (λ o. IsPut o states before (rows c.put_states.new.gathered.rows.items)) (sym same) is_put))
+    (λ none. subst (AreCounted l (n + 1) (rows c.put_states.new.gathered.rows.items)) (sym c.put_states.ensures.followed)
+    (counted_put l n _ states before (rows c.put_states.new.gathered.rows.items) c.args.gathered.now.followed _ (so_far.counted (sym c.put_states.ensures.told ∙ none)) c.in-Ok.ensures.counted is_put)))
 
 pub returns-then-is_passed_over-clause-gathered : goal.returns-then-is_passed_over-clause-gathered
 returns-then-is_passed_over-clause-gathered c n at so_far = grind (arith, is_passed, passed_over)

@@ -1,8 +1,10 @@
-use Rattle.std.proofs.Common.{inl, inr, arith}
+use Rattle.std.proofs.Common.{inl, inr, map, arith}
 use Rattle.std.proofs.lemmas.Result.{err_from_is_err_and}
 use Rattle.jc_verify.proofs.Naming.{never_unnamed}
 use Rattle.jc_verify.proofs.Reaching.{reached_named}
 use Rattle.jc_verify.proofs.Settling.{under_first}
+use Rattle.jc_cert.specs.Cert.{stated}
+use Rattle.jc_verify.proofs.Tallying.{counted_in}
 use Rattle.jc_verify.proofs.Visiting.{if_err, if_ok}
 use Rattle.jc_check.specs.Package.{package_rules}
 use Rattle.jc_verify.proofs.Ending.{denial_tells, never_told}
@@ -17,6 +19,12 @@ returns-in_err-fill-clause-refused c =
 
 pub returns-clause-rows : goal.returns-clause-rows
 returns-clause-rows c = if_ok c.stated_rows.result _ _ (rw c.table.ensures.table at c.stated_rows.ensures.rows) (λ rows are. (c.fill.new.places, c.in_ok-fill.ensures.filled, are))
+
+pub returns-clause-counted : goal.returns-clause-counted
+returns-clause-counted c =
+    if_ok c.stated_rows.result _ _ (rw c.table.ensures.table at c.stated_rows.ensures.rows) (λ rows are.
+    counted_in c.args.flow.now.linked.now _ c.args.places.now c.fill.new.places (map stated rows.items) c.args.followed.now c.fill.new.followed c.requires.blank.empty
+    c.in_ok-fill.ensures.counted are)
 
 pub returns-clause-refused : goal.returns-clause-refused
 returns-clause-refused c =

@@ -1,6 +1,6 @@
-use Rattle.std.proofs.Common.{rules, subst, sym}
+use Rattle.std.proofs.Common.{rules, length, subst, sym}
 use Rattle.std.proofs.lemmas.List.Sorted.{IsNonDecreasingBy-from_sort_by_key, IsPermutation-map}
-use Rattle.jc_cert.specs.Cert.{row, rows}
+use Rattle.jc_cert.specs.Cert.{IsCert, row, rows}
 use Rattle.jc_cert.specs.declared.cert.MethodRow.{MethodRow}
 use Rattle.jc_check.specs.Checked.{CarriesPackage}
 use Rattle.jc_verify.specs.Inferred.{HasLeastStates, HasStatesWhereEntered}
@@ -8,6 +8,8 @@ use Rattle.jc_verify.proofs.Certifying.{is_cert}
 use Rattle.jc_verify.proofs.Certified.{certified, least_states, where_entered}
 use Rattle.jc_verify.proofs.Fewer.{fewer}
 use Rattle.jc_verify.proofs.Visiting.{holds, is_some_unless}
+use Rattle.jc_verify.specs.PrivateTurns.{AreCounted}
+use Rattle.jc_verify.proofs.Tallying.{counted_permuted}
 use Rattle.jc_verify.proofs.package.certificate_of.Goals as goal
 
 pub unwrap-requires : goal.unwrap-requires
@@ -34,3 +36,18 @@ returns-clause-least c =
     let order = IsPermutation-map row c.args.methods.items c.sort_unstable_by_key.new.self.items c.sort_unstable_by_key.ensures.permutation in
     let made = holds c.new.result _ c.unwrap.result c.unwrap.ensures c.new.ensures.made in
     subst (HasLeastStates c.args.linked.now) (sym made) (least_states c.args.linked.now c.requires.fit.apart (rows c.args.methods.items) (rows c.sort_unstable_by_key.new.self.items) order c.requires.gathered)
+
+pub returns-clause-counted : goal.returns-clause-counted
+returns-clause-counted c count counted =
+    let order = IsPermutation-map row c.args.methods.items c.sort_unstable_by_key.new.self.items c.sort_unstable_by_key.ensures.permutation in
+    let made = holds c.new.result _ c.unwrap.result c.unwrap.ensures c.new.ensures.made in
+    subst (λ rs. AreCounted c.args.linked.now (length c.args.linked.now.body.kept.methods) rs count) (sym made)
+    (counted_permuted c.args.linked.now (length c.args.linked.now.body.kept.methods) (rows c.args.methods.items) (rows c.sort_unstable_by_key.new.self.items) count order counted)
+
+pub returns-clause-cert : goal.returns-clause-cert
+returns-clause-cert c =
+    let order = IsPermutation-map row c.args.methods.items c.sort_unstable_by_key.new.self.items c.sort_unstable_by_key.ensures.permutation in
+    let ascend = IsNonDecreasingBy-from_sort_by_key (λ (m : MethodRow). m.offset) _ c.sort_unstable_by_key.ensures.sorted (λ a r q k. search rules) in
+    let few = fewer c.args.linked.now.body.kept.methods c.requires.fit.apart in
+    let made = holds c.new.result _ c.unwrap.result c.unwrap.ensures c.new.ensures.made in
+    subst IsCert (sym made) (is_cert c.args.linked.now (rows c.args.methods.items) c.sort_unstable_by_key.new.self.items c.requires.gathered order ascend c.requires.fit few)

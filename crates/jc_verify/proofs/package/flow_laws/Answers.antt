@@ -2,6 +2,7 @@ use Rattle.std.proofs.Common.{subst, sym, ap}
 use Rattle.jc_cap_desc.specs.Shape.{StandApart}
 use Rattle.jc_check.specs.Package.{method_of}
 use Rattle.jc_verify.proofs.Naming.{keeps_names}
+use Rattle.jc_verify.proofs.Tallying.{not_true, to_depth}
 use Rattle.jc_verify.proofs.package.flow_laws.Goals as goal
 
 pub returns-clause-laws : goal.returns-clause-laws
@@ -17,6 +18,10 @@ returns-clause-laws c =
       classes = classes;
       monotone = λ m operation. c.effects_are_monotone.ensures.effects (record { world = world; targets = c.args.linked.now.body.targets; returned = m.returned }) order m.max_stack operation;
       bound = c.order_laws.ensures.bound _ _ _ _ classes;
+      falls = λ depth deep s t below other.
+          c.order_laws.ensures.heights _ _ _ _ (to_depth world depth deep classes) s t below
+          (not_true _ (λ back. other (c.order_laws.ensures.antisymmetric _ order s t below back)));
+      within = λ depth deep. c.order_laws.ensures.bound _ _ _ _ (to_depth world depth deep classes);
     }
 
 pub returns-clause-fit : goal.returns-clause-fit

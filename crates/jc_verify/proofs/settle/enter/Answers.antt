@@ -1,6 +1,7 @@
-use Rattle.std.proofs.Common.{true, arith}
+use Rattle.std.proofs.Common.{true, ◌+◌, arith}
 use Rattle.jc_verify.proofs.Denying.{denial_of, denies_on, refuses_on}
 use Rattle.jc_verify.proofs.Reaching.{never_met, reaches_entry}
+use Rattle.jc_verify.proofs.Tallying.{counted_through, grown_counted}
 use Rattle.jc_verify.proofs.Taking.{blank_work, taken_as, taken_then}
 use Rattle.jc_verify.proofs.Visiting.{if_err, if_ok}
 use Rattle.jc_verify.proofs.settle.enter.Goals as goal
@@ -20,6 +21,22 @@ returns-in-Ok-true-clause-taken c =
     if_ok c.follow.result _ _ c.follow.ensures.taken (λ u taken.
     let more = rw c.requires.entry at taken in
     taken_as (taken_then first more) (λ typing (falls, closed). record { on = true; falls = falls; closed = closed }) (λ typing upper. (upper.entry, record { upper = upper; leads = upper.entry })))
+
+pub returns-in-Ok-true-clause-counted : goal.returns-in-Ok-true-clause-counted
+returns-in-Ok-true-clause-counted c =
+    let l = c.args.flow.now.linked.now in
+    let laws = c.requires.blank.sound.laws in
+    let m = c.args.flow.now.method.now in
+    let once = c.args.followed.now + 1 in
+    if_ok c.follow.result _ _ c.follow.ensures.taken (λ u taken.
+    counted_through l c.args.places.now c.flow_to.new.places c.follow.new.places once once c.follow.new.followed
+    (grown_counted l laws m c.args.places.now c.flow_to.new.places once once c.in-Ok-true.ensures.taken.grown.steps (omega arith))
+    (grown_counted l laws m c.flow_to.new.places c.follow.new.places once c.follow.new.followed taken.grown.steps (omega (arith, c.follow.ensures.counted))))
+
+pub returns-in-Ok-false-clause-counted : goal.returns-in-Ok-false-clause-counted
+returns-in-Ok-false-clause-counted c =
+    grown_counted c.args.flow.now.linked.now c.requires.blank.sound.laws c.args.flow.now.method.now c.args.places.now c.flow_to.new.places (c.args.followed.now + 1) c.args.followed.now
+    c.in-Ok-false.ensures.taken.grown.steps (omega arith)
 
 pub returns-in-Ok-false-clause-taken : goal.returns-in-Ok-false-clause-taken
 returns-in-Ok-false-clause-taken c = grind (arith, taken_as)

@@ -1,7 +1,9 @@
+use Rattle.std.proofs.Common.{◌+◌}
 use Rattle.std.proofs.lemmas.Result.{err_from_is_err_and}
 use Rattle.jc_verify.proofs.Denying.{denies_on}
 use Rattle.jc_verify.proofs.Growing.{risen_through}
 use Rattle.jc_verify.proofs.Settling.{settled_first, under_first}
+use Rattle.jc_verify.proofs.Tallying.{counted_through}
 use Rattle.jc_verify.proofs.Visiting.{if_err, if_ok}
 use Rattle.jc_verify.proofs.settle.fill.Goals as goal
 
@@ -27,6 +29,12 @@ returns-clause-filled c =
       entry = entered.met c.settle.new.places settled.risen;
       closed = settled.closed;
     })
+
+pub returns-clause-counted : goal.returns-clause-counted
+returns-clause-counted c =
+    if_ok c.settle.result _ _ c.settle.ensures.counted (λ u counted.
+    counted_through c.args.flow.now.linked.now c.args.places.now c.enter.new.places c.settle.new.places (c.args.followed.now + 1) c.enter.new.followed c.settle.new.followed
+    c.in_ok-enter.ensures.counted counted)
 
 pub returns-clause-refused : goal.returns-clause-refused
 returns-clause-refused c =

@@ -1,6 +1,8 @@
+use Rattle.std.proofs.Common.{arith}
 use Rattle.std.proofs.lemmas.Option.{slice_get-get_or}
 use Rattle.jc_verify.proofs.Denying.{denies_on}
 use Rattle.jc_verify.proofs.Settling.{fits_place, none_taken, one_taken, room_taken, taken_bears, taken_flows, taken_under, taken_work}
+use Rattle.jc_verify.proofs.Tallying.{followed_counted, none_counted}
 use Rattle.jc_verify.proofs.Visiting.{if_err, if_ok}
 use Rattle.jc_verify.proofs.settle.follow_place.Goals as goal
 
@@ -20,6 +22,19 @@ pub returns-in-Some-clause-followed : goal.returns-in-Some-clause-followed
 returns-in-Some-clause-followed c =
     let at = slice_get-get_or c.args.places.now c.args.number c.index-places-number.result c.requires.there in
     if_ok c.follow.result _ _ c.follow.ensures.taken (λ u t. one_taken c.requires.work c.args.number at c.in-Some.ensures.taken t)
+
+pub returns-in-Some-clause-counted : goal.returns-in-Some-clause-counted
+returns-in-Some-clause-counted c =
+    let at = slice_get-get_or c.args.places.now c.args.number c.index-places-number.result c.requires.there in
+    let taken = c.in-Some.ensures.taken in
+    if_ok c.follow.result _ _ c.follow.ensures.taken (λ u t.
+    followed_counted c.args.flow.now.linked.now _ c.requires.work.sound.laws c.args.flow.now.method.now c.args.places.now c.args.number c.take_up.new.place _ at
+    c.in-Some.ensures.changed taken.1 taken.2 c.follow.new.places c.args.followed.now c.follow.new.followed t.grown.steps (omega (arith, c.follow.ensures.counted)))
+
+pub returns-in-None-clause-counted : goal.returns-in-None-clause-counted
+returns-in-None-clause-counted c =
+    let at = slice_get-get_or c.args.places.now c.args.number c.index-places-number.result c.requires.there in
+    none_counted c.args.flow.now.linked.now _ c.args.places.now c.args.number c.take_up.new.place at c.in-None.ensures.left c.args.followed.now
 
 pub returns-in-None-clause-followed : goal.returns-in-None-clause-followed
 returns-in-None-clause-followed c =

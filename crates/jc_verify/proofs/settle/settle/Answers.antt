@@ -4,10 +4,11 @@ use Rattle.std.proofs.lemmas.Result.{err_from_is_err_and}
 use Rattle.jc_verify.proofs.Denying.{denies_on}
 use Rattle.jc_verify.proofs.Growing.{risen_self, risen_through}
 use Rattle.jc_verify.proofs.Settling.{swept_again, swept_work}
+use Rattle.jc_verify.proofs.Tallying.{counted_none, counted_through}
 use Rattle.jc_verify.proofs.settle.settle.Goals as goal
 
 pub loop-places-init : goal.loop-places-init
-loop-places-init c = grind (arith, risen_self)
+loop-places-init c = grind (arith, risen_self, counted_none)
 
 pub sweep_backwards-requires-clause-work : goal.sweep_backwards-requires-clause-work
 sweep_backwards-requires-clause-work c = swept_work c.loop-places.invariant.work c.in_ok-sweep_forwards.ensures.swept
@@ -23,6 +24,12 @@ returns-then-not-has_changed-clause-settled c =
       closed = λ n p t at held. swept.settled before.settled n p t at (c.has_changed.ensures.none c.if-not-has_changed.true n p at) held;
     }
 
+pub returns-then-not-has_changed-clause-counted : goal.returns-then-not-has_changed-clause-counted
+returns-then-not-has_changed-clause-counted c =
+    counted_through c.args.flow.now.linked.now c.args.places.now c.loop-places.places c.sweep_backwards.new.places c.args.followed.now c.loop-places.followed c.sweep_backwards.new.followed c.loop-places.invariant.counted
+    (counted_through c.args.flow.now.linked.now c.loop-places.places c.sweep_forwards.new.places c.sweep_backwards.new.places c.loop-places.followed c.sweep_forwards.new.followed c.sweep_backwards.new.followed
+    c.in_ok-sweep_forwards.ensures.counted c.in_ok-sweep_backwards.ensures.counted)
+
 pub loop-places-smaller : goal.loop-places-smaller
 loop-places-smaller c = grind (arith, swept_again, slice_get_within)
 
@@ -35,6 +42,10 @@ loop-places-preserved c =
       under = λ typing upper under. swept.under typing upper (before.under typing upper under);
       work = swept_work before.work swept;
       settled = swept.settled before.settled;
+      counted =
+          counted_through c.args.flow.now.linked.now c.args.places.now c.loop-places.places c.sweep_backwards.new.places c.args.followed.now c.loop-places.followed c.sweep_backwards.new.followed before.counted
+          (counted_through c.args.flow.now.linked.now c.loop-places.places c.sweep_forwards.new.places c.sweep_backwards.new.places c.loop-places.followed c.sweep_forwards.new.followed c.sweep_backwards.new.followed
+          c.in_ok-sweep_forwards.ensures.counted c.in_ok-sweep_backwards.ensures.counted);
       room = c.in_ok-sweep_backwards.ensures.room;
     }
 

@@ -2,10 +2,11 @@ use Rattle.std.proofs.Common.{rules, arith}
 use Rattle.std.proofs.lemmas.Result.{err_from_is_err_and}
 use Rattle.jc_verify.proofs.Denying.{denies_on}
 use Rattle.jc_verify.proofs.Settling.{swept_before, swept_none, swept_work}
+use Rattle.jc_verify.proofs.Tallying.{counted_none, counted_through}
 use Rattle.jc_verify.proofs.settle.sweep_backwards.Goals as goal
 
 pub loop-number-init : goal.loop-number-init
-loop-number-init c = search (arith, swept_none, rules)
+loop-number-init c = search (arith, swept_none, counted_none, rules)
 
 pub follow_place-requires-clause-work : goal.follow_place-requires-clause-work
 follow_place-requires-clause-work c = swept_work c.requires.work c.loop-number.invariant.swept
@@ -16,6 +17,9 @@ loop-number-preserved c = record {
       swept_before c.args.flow.now.linked.now c.requires.work.sound.laws c.args.flow.now.method.now c.args.flow.now.numbers.now c.loop-number.number _ c.args.places.now c.loop-number.places c.follow_place.new.places
       c.loop-number-test.true c.loop-number.invariant.swept c.in_ok-follow_place.ensures.followed;
   within = search rules;
+  counted =
+      counted_through c.args.flow.now.linked.now c.args.places.now c.loop-number.places c.follow_place.new.places c.args.followed.now c.loop-number.followed c.follow_place.new.followed c.loop-number.invariant.counted
+      c.in_ok-follow_place.ensures.counted;
   room = c.in_ok-follow_place.ensures.room;
 }
 

@@ -1,5 +1,5 @@
 -- Private. How often places are followed, and how often that may still be.
-use Rattle.std.specs.Prelude.{ℕ, ◌+◌, ◌*◌, ◌≤◌, Bool, List, [], ◌∷◌, length, if◌then◌else◌}
+use Rattle.std.specs.Prelude.{ℕ, ◌+◌, ◌-◌, ◌*◌, ◌^◌, ◌<◌, ◌≤◌, Bool, List, [], ◌∷◌, length, if◌then◌else◌}
 use Rattle.std.specs.List.{sum_by}
 use Rattle.std.specs.Option.{option_map_or}
 use Rattle.jc_cap_desc.specs.Shape.{Shape}
@@ -8,8 +8,12 @@ use Rattle.jc_classes.specs.Subtype.{classes_above}
 use Rattle.jc_link.specs.Linked.{Linked}
 use Rattle.jc_types.specs.State.{StateWithRoom, height_of_types}
 use Rattle.jc_verify.specs.PrivateFlow.{Places}
-use Rattle.jc_verify.specs.Visits.{IsDepth, most_changes, most_in_row}
+use Rattle.jc_verify.specs.Visits.{IsDepth, most_changes, most_in_row, states_in_row}
 use Rattle.jc_verify.specs.declared.place.Place.{Place}
+
+-- how often is counted at most; past that the count stays as it is
+abbrev pub most_counted : ℕ
+most_counted = 2 ^ 64 - 1
 
 -- a place that has changed is followed once more
 abbrev pub once_if : Bool → ℕ
@@ -25,26 +29,36 @@ abbrev pub most_of : ℕ → Place StateWithRoom → ℕ
 most_of depth p =
     option_map_or (λ s. 1 + (length s.types.locals + length s.types.operands) * (3 + depth)) p.held 0
 
+-- how often a place is followed at least from now on, and in all, if it holds something
+abbrev pub owed_of : Place StateWithRoom → ℕ
+owed_of p = option_map_or (λ s. once_if p.changed) p.held 0
+
+abbrev pub least_of : Place StateWithRoom → ℕ
+least_of p = option_map_or (λ s. 1) p.held 0
+
 -- the same for all places together
-abbrev pub still_in : List Shape → ℕ → Places → ℕ
-still_in world depth [] = 0
-still_in world depth (p ∷ places) = still_of world depth p + still_in world depth places
+abbrev pub in_all : (Place StateWithRoom → ℕ) → Places → ℕ
+in_all of [] = 0
+in_all of (p ∷ places) = of p + in_all of places
 
-abbrev pub most_in : ℕ → Places → ℕ
-most_in depth [] = 0
-most_in depth (p ∷ places) = most_of depth p + most_in depth places
-
--- places were followed, and all that were are counted: what was counted and what may still be is no more than before,
--- but for what may be at places that hold something only since
-pub record IsCounted (l : Linked) (before after : Places) (count counted : ℕ) : Type 0 where
-  pub each : (depth : ℕ) → IsDepth l.world depth
-      → counted + still_in l.world depth after + most_in depth before
-      ≤ count + still_in l.world depth before + most_in depth after
+-- places were followed, and all that were are counted. What was counted and what may still be is no more than before,
+-- but for entries of methods and for what may be at places that hold something only since. And what was counted and
+-- what is owed is no less than before and one for each of these, if the count goes so far
+pub record IsCounted (l : Linked) (entries : ℕ) (before after : Places) (count counted : ℕ) : Type 0 where
+  pub most : (depth : ℕ) → IsDepth l.world depth
+      → counted + in_all (still_of l.world depth) after + in_all (most_of depth) before
+      ≤ entries + count + in_all (still_of l.world depth) before + in_all (most_of depth) after
+  pub exact : counted < most_counted → count < most_counted
+  pub least : counted < most_counted
+      → count + in_all owed_of before + in_all least_of after ≤ counted + in_all owed_of after + in_all least_of before
 
 -- the places of a method with these states were followed, and its entry
 pub record IsCountedIn (l : Linked) (states : List Stated) (count counted : ℕ) : Type 0 where
-  pub each : (depth : ℕ) → IsDepth l.world depth → counted ≤ count + 1 + sum_by (most_changes depth) states
+  pub most : (depth : ℕ) → IsDepth l.world depth → counted ≤ count + 1 + sum_by (most_changes depth) states
+  pub exact : counted < most_counted → count < most_counted
+  pub least : counted < most_counted → count + length states ≤ counted
 
 -- those of the first methods, with these rows, were followed, and their entries
 pub record AreCounted (l : Linked) (n : ℕ) (rows : List Row) (counted : ℕ) : Type 0 where
-  pub each : (depth : ℕ) → IsDepth l.world depth → counted ≤ n + sum_by (most_in_row depth) rows
+  pub most : (depth : ℕ) → IsDepth l.world depth → counted ≤ n + sum_by (most_in_row depth) rows
+  pub least : counted < most_counted → sum_by states_in_row rows ≤ counted

@@ -23,8 +23,13 @@ most_changes depth s = 1 + (length s.locals + length s.operands) * (3 + depth)
 abbrev pub most_in_row : ℕ → Row → ℕ
 most_in_row depth r = sum_by (most_changes depth) r.states
 
+-- how many states a method's row has
+abbrev pub states_in_row : Row → ℕ
+states_in_row r = length r.states
+
 -- in all methods of a package together control flow is followed at most once for each method with code, and once for
--- each change of a state of the certificate
+-- each change of a state of the certificate; and at least once for each of these states
 pub record HasBoundedCount (l : Linked) (i : Inferred) : Type 0 where
-  pub each : (depth : ℕ) → IsDepth l.world depth
+  pub most : (depth : ℕ) → IsDepth l.world depth
       → i.followed ≤ length l.body.kept.methods + sum_by (most_in_row depth) i.cert
+  pub least : sum_by states_in_row i.cert ≤ i.followed

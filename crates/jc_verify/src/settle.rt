@@ -1,13 +1,13 @@
 //! Following control flow from the places that have changed, until none has.
 
-ghost use Rattle.std.specs.Prelude.{◌≡◌, ◌⊎◌, ◌+◌, ◌<◌, ◌≤◌, ℕ, true, false, Some, None, length, slice_get};
+ghost use Rattle.std.specs.Prelude.{◌≡◌, ◌⊎◌, ◌<◌, ◌≤◌, ℕ, true, false, Some, None, length, slice_get};
 ghost use Rattle.std.specs.Prelude.{IfErr, IfNone, IfOk, IfSome};
 ghost use Rattle.jc_types.specs.State.{StateWithRoom};
 ghost use Rattle.jc_check.specs.Method.{entry_of};
 ghost use Rattle.jc_verify.specs.PrivateFlow.{IsUpper, types_held};
 ghost use Rattle.jc_verify.specs.PrivateSettled.{HasSettled, IsEntryMet, IsFilled, IsFollowed, IsSettled, IsSwept};
 ghost use Rattle.jc_verify.specs.PrivateSettled.{settled_place};
-ghost use Rattle.jc_verify.specs.PrivateTurns.{IsCounted};
+ghost use Rattle.jc_verify.specs.PrivateTurns.{IsCounted, in_all, owed_of};
 ghost use Rattle.jc_verify.specs.PrivateWork.{Anything, HasTaken, HaveRoom, IsAtWork, IsBlank, IsDenial};
 ghost use Rattle.jc_verify.specs.declared.place.Place.{Place as PlaceOf};
 
@@ -73,7 +73,7 @@ fn follow_place(
     ensures followed { IfOk result (λ u.
         IsFollowed flow.now.linked.now flow.now.method.now flow.now.numbers.now number places.old places.new) }
     ensures counted { IfOk result (λ u.
-        IsCounted flow.now.linked.now places.old places.new followed.old followed.new) }
+        IsCounted flow.now.linked.now 0 places.old places.new followed.old followed.new) }
     ensures room { IfOk result (λ u. HaveRoom flow.now caught.new state.new) }
     ensures refused { IfErr result (IsDenial flow.now Anything places.old) }
 {
@@ -96,7 +96,7 @@ fn sweep_forwards(
     ensures swept { IfOk result (λ u. IsSwept flow.now.linked.now flow.now.method.now flow.now.numbers.now 0
         (length places.new) places.old places.new) }
     ensures counted { IfOk result (λ u.
-        IsCounted flow.now.linked.now places.old places.new followed.old followed.new) }
+        IsCounted flow.now.linked.now 0 places.old places.new followed.old followed.new) }
     ensures room { IfOk result (λ u. HaveRoom flow.now caught.new state.new) }
     ensures refused { IfErr result (IsDenial flow.now Anything places.old) }
 {
@@ -119,7 +119,7 @@ fn sweep_backwards(
     ensures swept { IfOk result (λ u. IsSwept flow.now.linked.now flow.now.method.now flow.now.numbers.now 0
         (length places.new) places.old places.new) }
     ensures counted { IfOk result (λ u.
-        IsCounted flow.now.linked.now places.old places.new followed.old followed.new) }
+        IsCounted flow.now.linked.now 0 places.old places.new followed.old followed.new) }
     ensures room { IfOk result (λ u. HaveRoom flow.now caught.new state.new) }
     ensures refused { IfErr result (IsDenial flow.now Anything places.old) }
 {
@@ -158,8 +158,9 @@ fn settle(
     requires settled { IsSettled flow.now.linked.now flow.now.method.now flow.now.numbers.now places.old }
     requires room { HaveRoom flow.now caught.old state.old }
     ensures settled { IfOk result (λ u. HasSettled flow.now places.old places.new) }
+    ensures done { IfOk result (λ u. in_all owed_of places.new ≡ 0) }
     ensures counted { IfOk result (λ u.
-        IsCounted flow.now.linked.now places.old places.new followed.old followed.new) }
+        IsCounted flow.now.linked.now 0 places.old places.new followed.old followed.new) }
     ensures refused { IfErr result (IsDenial flow.now Anything places.old) }
 {
     loop {
@@ -186,7 +187,7 @@ fn enter(
         (IsEntryMet flow.now.linked.now flow.now.method.now flow.now.numbers.now)
         (IsUpper flow.now.linked.now flow.now.method.now) places.old places.new) }
     ensures counted { IfOk result (λ u.
-        IsCounted flow.now.linked.now places.old places.new (followed.old + 1) followed.new) }
+        IsCounted flow.now.linked.now 1 places.old places.new followed.old followed.new) }
     ensures room { IfOk result (λ u. HaveRoom flow.now caught.new state.new) }
     ensures refused { IfErr result (IsDenial flow.now Anything places.old) }
 {
@@ -207,8 +208,9 @@ pub(crate) fn fill(
     requires blank { IsBlank flow.now places.old }
     ensures filled { IfOk result (λ u.
         IsFilled flow.now.linked.now flow.now.method.now flow.now.numbers.now places.old places.new) }
+    ensures done { IfOk result (λ u. in_all owed_of places.new ≡ 0) }
     ensures counted { IfOk result (λ u.
-        IsCounted flow.now.linked.now places.old places.new (followed.old + 1) followed.new) }
+        IsCounted flow.now.linked.now 1 places.old places.new followed.old followed.new) }
     ensures refused { IfErr result (IsDenial flow.now Anything places.old) }
 {
     let method = flow.method;

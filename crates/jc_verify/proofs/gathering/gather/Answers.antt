@@ -19,13 +19,15 @@ returns-in-Ok-clause-gathered c =
     let same = sym (ap (λ (b : MethodBody). b.offset) c.body.view_is) in
     let small : c.args.body.now.offset < 2 ^ 16 = search rules in
     let before = rows c.args.gathered.now.rows.items in
+    let after = rows c.put_states.new.gathered.rows.items in
     let states = map stated c.in-Ok.states.items in
     if_ok c.put_states.result _ _ c.put_states.ensures.put (λ u is_put n at so_far.
     carried_now l n b at c.args.gathered.now so_far c.put_states.new.gathered states c.in-Ok.ensures.inferred c.put_states.ensures.told
     (λ none. put l c.requires.fit.apart n before (so_far.gathered (sym c.put_states.ensures.told ∙ none)) b at states _ small
-    c.in-Ok.ensures.inferred (subst (λ o. IsPut o states before (rows c.put_states.new.gathered.rows.items)) (sym same) is_put))
-    (λ none. subst (AreCounted l (n + 1) (rows c.put_states.new.gathered.rows.items)) (sym c.put_states.ensures.followed)
-    (counted_put l n _ states before (rows c.put_states.new.gathered.rows.items) c.args.gathered.now.followed _ (so_far.counted (sym c.put_states.ensures.told ∙ none)) c.in-Ok.ensures.counted is_put)))
+    c.in-Ok.ensures.inferred (subst (λ o. IsPut o states before after) (sym same) is_put))
+    (λ none. subst (AreCounted l (n + 1) after) (sym c.put_states.ensures.followed)
+    (counted_put l n _ states before after c.args.gathered.now.followed _
+    (so_far.counted (sym c.put_states.ensures.told ∙ none)) c.in-Ok.ensures.counted is_put)))
 
 pub returns-then-is_passed_over-clause-gathered : goal.returns-then-is_passed_over-clause-gathered
 returns-then-is_passed_over-clause-gathered c n at so_far = grind (arith, is_passed, passed_over)

@@ -23,8 +23,9 @@ returns-clause-rows c = if_ok c.stated_rows.result _ _ (rw c.table.ensures.table
 pub returns-clause-counted : goal.returns-clause-counted
 returns-clause-counted c =
     if_ok c.stated_rows.result _ _ (rw c.table.ensures.table at c.stated_rows.ensures.rows) (λ rows are.
-    counted_in c.args.flow.now.linked.now _ c.args.places.now c.fill.new.places (map stated rows.items) c.args.followed.now c.fill.new.followed c.requires.blank.empty
-    c.in_ok-fill.ensures.counted are)
+    counted_in c.args.flow.now.linked.now _ c.args.places.now c.fill.new.places (map stated rows.items)
+    c.args.followed.now c.fill.new.followed c.requires.blank.empty c.in_ok-fill.ensures.counted
+    c.in_ok-fill.ensures.done are)
 
 pub returns-clause-refused : goal.returns-clause-refused
 returns-clause-refused c =

@@ -39,15 +39,23 @@ returns-clause-least c =
 
 pub returns-clause-counted : goal.returns-clause-counted
 returns-clause-counted c count counted =
-    let order = IsPermutation-map row c.args.methods.items c.sort_unstable_by_key.new.self.items c.sort_unstable_by_key.ensures.permutation in
+    let l = c.args.linked.now in
+    let before = c.args.methods.items in
+    let put = c.sort_unstable_by_key.new.self.items in
+    let order = IsPermutation-map row before put c.sort_unstable_by_key.ensures.permutation in
     let made = holds c.new.result _ c.unwrap.result c.unwrap.ensures c.new.ensures.made in
-    subst (λ rs. AreCounted c.args.linked.now (length c.args.linked.now.body.kept.methods) rs count) (sym made)
-    (counted_permuted c.args.linked.now (length c.args.linked.now.body.kept.methods) (rows c.args.methods.items) (rows c.sort_unstable_by_key.new.self.items) count order counted)
+    let n = length l.body.kept.methods in
+    subst (λ rs. AreCounted l n rs count) (sym made) (counted_permuted l n (rows before) (rows put) count order counted)
 
 pub returns-clause-cert : goal.returns-clause-cert
 returns-clause-cert c =
-    let order = IsPermutation-map row c.args.methods.items c.sort_unstable_by_key.new.self.items c.sort_unstable_by_key.ensures.permutation in
-    let ascend = IsNonDecreasingBy-from_sort_by_key (λ (m : MethodRow). m.offset) _ c.sort_unstable_by_key.ensures.sorted (λ a r q k. search rules) in
-    let few = fewer c.args.linked.now.body.kept.methods c.requires.fit.apart in
+    let l = c.args.linked.now in
+    let before = c.args.methods.items in
+    let put = c.sort_unstable_by_key.new.self.items in
+    let sorted = c.sort_unstable_by_key.ensures in
+    let order = IsPermutation-map row before put sorted.permutation in
+    let by_offset = λ (m : MethodRow). m.offset in
+    let ascend = IsNonDecreasingBy-from_sort_by_key by_offset _ sorted.sorted (λ a r q k. search rules) in
+    let few = fewer l.body.kept.methods c.requires.fit.apart in
     let made = holds c.new.result _ c.unwrap.result c.unwrap.ensures c.new.ensures.made in
-    subst IsCert (sym made) (is_cert c.args.linked.now (rows c.args.methods.items) c.sort_unstable_by_key.new.self.items c.requires.gathered order ascend c.requires.fit few)
+    subst IsCert (sym made) (is_cert l (rows before) put c.requires.gathered order ascend c.requires.fit few)

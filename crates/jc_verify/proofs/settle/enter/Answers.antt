@@ -1,7 +1,7 @@
-use Rattle.std.proofs.Common.{true, ◌+◌, arith}
+use Rattle.std.proofs.Common.{true, arith}
 use Rattle.jc_verify.proofs.Denying.{denial_of, denies_on, refuses_on}
 use Rattle.jc_verify.proofs.Reaching.{never_met, reaches_entry}
-use Rattle.jc_verify.proofs.Tallying.{counted_through, grown_counted}
+use Rattle.jc_verify.proofs.Tallying.{counted_through, grown_counted, once_counted}
 use Rattle.jc_verify.proofs.Taking.{blank_work, taken_as, taken_then}
 use Rattle.jc_verify.proofs.Visiting.{if_err, if_ok}
 use Rattle.jc_verify.proofs.settle.enter.Goals as goal
@@ -27,16 +27,18 @@ returns-in-Ok-true-clause-counted c =
     let l = c.args.flow.now.linked.now in
     let laws = c.requires.blank.sound.laws in
     let m = c.args.flow.now.method.now in
-    let once = c.args.followed.now + 1 in
+    let count = c.args.followed.now in
+    let grown = c.in-Ok-true.ensures.taken.grown in
     if_ok c.follow.result _ _ c.follow.ensures.taken (λ u taken.
-    counted_through l c.args.places.now c.flow_to.new.places c.follow.new.places once once c.follow.new.followed
-    (grown_counted l laws m c.args.places.now c.flow_to.new.places once once c.in-Ok-true.ensures.taken.grown.steps (omega arith))
-    (grown_counted l laws m c.flow_to.new.places c.follow.new.places once c.follow.new.followed taken.grown.steps (omega (arith, c.follow.ensures.counted))))
+    counted_through l 0 1 c.args.places.now c.flow_to.new.places c.follow.new.places count count c.follow.new.followed
+    (grown_counted l laws m 0 c.args.places.now c.flow_to.new.places count grown.steps)
+    (once_counted l laws m c.flow_to.new.places c.follow.new.places count c.follow.new.followed taken.grown.steps
+    c.follow.ensures.counted))
 
 pub returns-in-Ok-false-clause-counted : goal.returns-in-Ok-false-clause-counted
 returns-in-Ok-false-clause-counted c =
-    grown_counted c.args.flow.now.linked.now c.requires.blank.sound.laws c.args.flow.now.method.now c.args.places.now c.flow_to.new.places (c.args.followed.now + 1) c.args.followed.now
-    c.in-Ok-false.ensures.taken.grown.steps (omega arith)
+    grown_counted c.args.flow.now.linked.now c.requires.blank.sound.laws c.args.flow.now.method.now 1 c.args.places.now
+    c.flow_to.new.places c.args.followed.now c.in-Ok-false.ensures.taken.grown.steps
 
 pub returns-in-Ok-false-clause-taken : goal.returns-in-Ok-false-clause-taken
 returns-in-Ok-false-clause-taken c = grind (arith, taken_as)

@@ -1,4 +1,3 @@
-use Rattle.std.proofs.Common.{◌+◌}
 use Rattle.std.proofs.lemmas.Result.{err_from_is_err_and}
 use Rattle.jc_verify.proofs.Denying.{denies_on}
 use Rattle.jc_verify.proofs.Growing.{risen_through}
@@ -33,8 +32,8 @@ returns-clause-filled c =
 pub returns-clause-counted : goal.returns-clause-counted
 returns-clause-counted c =
     if_ok c.settle.result _ _ c.settle.ensures.counted (λ u counted.
-    counted_through c.args.flow.now.linked.now c.args.places.now c.enter.new.places c.settle.new.places (c.args.followed.now + 1) c.enter.new.followed c.settle.new.followed
-    c.in_ok-enter.ensures.counted counted)
+    counted_through c.args.flow.now.linked.now 1 0 c.args.places.now c.enter.new.places c.settle.new.places
+    c.args.followed.now c.enter.new.followed c.settle.new.followed c.in_ok-enter.ensures.counted counted)
 
 pub returns-clause-refused : goal.returns-clause-refused
 returns-clause-refused c =

@@ -1,4 +1,3 @@
-use Rattle.std.proofs.Common.{arith}
 use Rattle.std.proofs.lemmas.Option.{slice_get-get_or}
 use Rattle.jc_verify.proofs.Denying.{denies_on}
 use Rattle.jc_verify.proofs.Settling.{fits_place, none_taken, one_taken, room_taken, taken_bears, taken_flows, taken_under, taken_work}
@@ -28,13 +27,15 @@ returns-in-Some-clause-counted c =
     let at = slice_get-get_or c.args.places.now c.args.number c.index-places-number.result c.requires.there in
     let taken = c.in-Some.ensures.taken in
     if_ok c.follow.result _ _ c.follow.ensures.taken (λ u t.
-    followed_counted c.args.flow.now.linked.now _ c.requires.work.sound.laws c.args.flow.now.method.now c.args.places.now c.args.number c.take_up.new.place _ at
-    c.in-Some.ensures.changed taken.1 taken.2 c.follow.new.places c.args.followed.now c.follow.new.followed t.grown.steps (omega (arith, c.follow.ensures.counted)))
+    followed_counted c.args.flow.now.linked.now _ c.requires.work.sound.laws c.args.flow.now.method.now
+    c.args.places.now c.args.number c.take_up.new.place _ at c.in-Some.ensures.changed taken.1 taken.2
+    c.follow.new.places c.args.followed.now c.follow.new.followed t.grown.steps c.follow.ensures.counted)
 
 pub returns-in-None-clause-counted : goal.returns-in-None-clause-counted
 returns-in-None-clause-counted c =
     let at = slice_get-get_or c.args.places.now c.args.number c.index-places-number.result c.requires.there in
-    none_counted c.args.flow.now.linked.now _ c.args.places.now c.args.number c.take_up.new.place at c.in-None.ensures.left c.args.followed.now
+    none_counted c.args.flow.now.linked.now _ c.args.places.now c.args.number c.take_up.new.place at
+    c.in-None.ensures.left c.args.followed.now
 
 pub returns-in-None-clause-followed : goal.returns-in-None-clause-followed
 returns-in-None-clause-followed c =

@@ -4,7 +4,7 @@ use Rattle.std.proofs.lemmas.Result.{err_from_is_err_and}
 use Rattle.jc_verify.proofs.Denying.{denies_on}
 use Rattle.jc_verify.proofs.Growing.{risen_self, risen_through}
 use Rattle.jc_verify.proofs.Settling.{swept_again, swept_work}
-use Rattle.jc_verify.proofs.Tallying.{counted_none, counted_through}
+use Rattle.jc_verify.proofs.Tallying.{counted_none, counted_through, none_owed}
 use Rattle.jc_verify.proofs.settle.settle.Goals as goal
 
 pub loop-places-init : goal.loop-places-init
@@ -26,9 +26,16 @@ returns-then-not-has_changed-clause-settled c =
 
 pub returns-then-not-has_changed-clause-counted : goal.returns-then-not-has_changed-clause-counted
 returns-then-not-has_changed-clause-counted c =
-    counted_through c.args.flow.now.linked.now c.args.places.now c.loop-places.places c.sweep_backwards.new.places c.args.followed.now c.loop-places.followed c.sweep_backwards.new.followed c.loop-places.invariant.counted
-    (counted_through c.args.flow.now.linked.now c.loop-places.places c.sweep_forwards.new.places c.sweep_backwards.new.places c.loop-places.followed c.sweep_forwards.new.followed c.sweep_backwards.new.followed
+    counted_through c.args.flow.now.linked.now 0 0 c.args.places.now c.loop-places.places c.sweep_backwards.new.places
+    c.args.followed.now c.loop-places.followed c.sweep_backwards.new.followed c.loop-places.invariant.counted
+    (counted_through c.args.flow.now.linked.now 0 0 c.loop-places.places c.sweep_forwards.new.places
+    c.sweep_backwards.new.places c.loop-places.followed c.sweep_forwards.new.followed c.sweep_backwards.new.followed
     c.in_ok-sweep_forwards.ensures.counted c.in_ok-sweep_backwards.ensures.counted)
+
+pub returns-then-not-has_changed-clause-done : goal.returns-then-not-has_changed-clause-done
+returns-then-not-has_changed-clause-done c =
+    none_owed c.args.flow.now.linked.now c.sweep_backwards.new.places
+    (c.has_changed.ensures.none c.if-not-has_changed.true)
 
 pub loop-places-smaller : goal.loop-places-smaller
 loop-places-smaller c = grind (arith, swept_again, slice_get_within)
@@ -43,9 +50,13 @@ loop-places-preserved c =
       work = swept_work before.work swept;
       settled = swept.settled before.settled;
       counted =
-          counted_through c.args.flow.now.linked.now c.args.places.now c.loop-places.places c.sweep_backwards.new.places c.args.followed.now c.loop-places.followed c.sweep_backwards.new.followed before.counted
-          (counted_through c.args.flow.now.linked.now c.loop-places.places c.sweep_forwards.new.places c.sweep_backwards.new.places c.loop-places.followed c.sweep_forwards.new.followed c.sweep_backwards.new.followed
-          c.in_ok-sweep_forwards.ensures.counted c.in_ok-sweep_backwards.ensures.counted);
+          counted_through c.args.flow.now.linked.now 0 0 c.args.places.now c.loop-places.places
+          c.sweep_backwards.new.places c.args.followed.now c.loop-places.followed c.sweep_backwards.new.followed
+          before.counted
+          (counted_through c.args.flow.now.linked.now 0 0 c.loop-places.places c.sweep_forwards.new.places
+          c.sweep_backwards.new.places c.loop-places.followed c.sweep_forwards.new.followed
+          c.sweep_backwards.new.followed c.in_ok-sweep_forwards.ensures.counted
+          c.in_ok-sweep_backwards.ensures.counted);
       room = c.in_ok-sweep_backwards.ensures.room;
     }
 

@@ -11,7 +11,7 @@ invariant-loop-places l = record {
   under : (typing : Typing) → IsUpper l.flow.linked.now l.flow.method.now typing → IsUnder l.flow.linked.now l.flow.numbers.now l.fn.places typing → IsUnder l.flow.linked.now l.flow.numbers.now l.places typing;
   work : IsAtWork l.flow l.places;
   settled : IsSettled l.flow.linked.now l.flow.method.now l.flow.numbers.now l.places;
-  counted : IsCounted l.flow.linked.now l.fn.places l.places l.fn.followed l.followed;
+  counted : IsCounted l.flow.linked.now 0 l.fn.places l.places l.fn.followed l.followed;
   room : HaveRoom l.flow l.caught l.state;
 }
 

@@ -18,7 +18,8 @@ loop-number-preserved c = record {
       c.loop-number-test.true c.loop-number.invariant.swept c.in_ok-follow_place.ensures.followed;
   within = search rules;
   counted =
-      counted_through c.args.flow.now.linked.now c.args.places.now c.loop-number.places c.follow_place.new.places c.args.followed.now c.loop-number.followed c.follow_place.new.followed c.loop-number.invariant.counted
+      counted_through c.args.flow.now.linked.now 0 0 c.args.places.now c.loop-number.places c.follow_place.new.places
+      c.args.followed.now c.loop-number.followed c.follow_place.new.followed c.loop-number.invariant.counted
       c.in_ok-follow_place.ensures.counted;
   room = c.in_ok-follow_place.ensures.room;
 }

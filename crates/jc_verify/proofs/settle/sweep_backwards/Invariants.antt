@@ -8,7 +8,7 @@ abbrev pub invariant-loop-number : goal.invariant-loop-number
 invariant-loop-number l = record {
   swept : IsSwept l.flow.linked.now l.flow.method.now l.flow.numbers.now l.number (length l.fn.places) l.fn.places l.places;
   within : l.number ≤ length l.places;
-  counted : IsCounted l.flow.linked.now l.fn.places l.places l.fn.followed l.followed;
+  counted : IsCounted l.flow.linked.now 0 l.fn.places l.places l.fn.followed l.followed;
   room : HaveRoom l.flow l.caught l.state;
 }
 

@@ -20,7 +20,8 @@ loop-number-preserved c = record {
       swept_one c.args.flow.now.linked.now c.requires.work.sound.laws c.args.flow.now.method.now c.args.flow.now.numbers.now c.loop-number.number c.args.places.now c.loop-number.places c.follow_place.new.places c.loop-number.invariant.swept
       c.in_ok-follow_place.ensures.followed;
   counted =
-      counted_through c.args.flow.now.linked.now c.args.places.now c.loop-number.places c.follow_place.new.places c.args.followed.now c.loop-number.followed c.follow_place.new.followed c.loop-number.invariant.counted
+      counted_through c.args.flow.now.linked.now 0 0 c.args.places.now c.loop-number.places c.follow_place.new.places
+      c.args.followed.now c.loop-number.followed c.follow_place.new.followed c.loop-number.invariant.counted
       c.in_ok-follow_place.ensures.counted;
   room = c.in_ok-follow_place.ensures.room;
 }

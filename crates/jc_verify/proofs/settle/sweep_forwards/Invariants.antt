@@ -6,6 +6,6 @@ use Rattle.jc_verify.proofs.settle.sweep_forwards.Given as goal
 abbrev pub invariant-loop-number : goal.invariant-loop-number
 invariant-loop-number l = record {
   swept : IsSwept l.flow.linked.now l.flow.method.now l.flow.numbers.now 0 l.number l.fn.places l.places;
-  counted : IsCounted l.flow.linked.now l.fn.places l.places l.fn.followed l.followed;
+  counted : IsCounted l.flow.linked.now 0 l.fn.places l.places l.fn.followed l.followed;
   room : HaveRoom l.flow l.caught l.state;
 }

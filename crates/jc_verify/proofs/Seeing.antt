@@ -1,6 +1,6 @@
 -- What exception handlers took in, while control flow is followed on.
-use Rattle.std.proofs.Common.{◌≡◌, ℕ, Bool, true, ◌&&◌, List, [], ◌∷◌, length, None, Some, slice_get, refl, sym, ap, subst}
-use Rattle.std.proofs.Common.{◌∙◌, arith}
+use Rattle.std.proofs.Common.{◌≡◌, ℕ, Bool, true, ◌&&◌, List, [], ◌∷◌, length, None, Some, slice_get}
+use Rattle.std.proofs.Common.{sym, ap, subst, ◌∙◌, arith}
 use Rattle.std.specs.List.{AllByRecursion}
 use Rattle.std.specs.Option.{option_map}
 use Rattle.std.proofs.lemmas.Option.{none-some, same_Some}
@@ -40,8 +40,9 @@ module _ (rules : Rules) (typing : Typing) (pc : ℕ) (t : Types) (locals : List
         class = c.class;
         catches = c.catches;
         leads =
-            subst (λ (ls : List Ty). Leads rules typing (record { locals = ls; operands = Class c.class ∷ [] }) h.goes_on)
-            (sym e) c.leads;
+            let caught = Class c.class ∷ [] in
+            subst (λ (ls : List Ty). Leads rules typing (record { locals = ls; operands = caught }) h.goes_on) (sym e)
+            c.leads;
       }
 
   locals_alone : (hs : List Handler) → AllByRecursion (HandlerLeads rules typing pc t) hs
@@ -51,8 +52,8 @@ module _ (rules : Rules) (typing : Typing) (pc : ℕ) (t : Types) (locals : List
 
 module _ (f : Flow) where
   -- the place where a handler goes on holds these locals, if it held those that agree with them
-  pub still_held : {places : Places} → IsAtWork f places → (pc number : ℕ) (p : Place StateWithRoom) (held : StateWithRoom)
-      (range : LocalRange) (locals : List Ty) → number_at f.numbers.now pc ≡ Some number
+  pub still_held : {places : Places} → IsAtWork f places → (pc number : ℕ) (p : Place StateWithRoom)
+      (held : StateWithRoom) (range : LocalRange) (locals : List Ty) → number_at f.numbers.now pc ≡ Some number
       → slice_get places number ≡ Some p → p.held ≡ Some held
       → ((old : List Ty) → AgreeOutside range old locals
       → all_below (is_class_below f.linked.now.world) old held.types.locals ≡ true
@@ -102,17 +103,21 @@ module _ (f : Flow) (seen : Seen) where
       below_class = is_class_below f.linked.now.world
 
       led : CatchLeads (package_rules f.linked.now) (held_at f.numbers.now places) (with_locals seen.locals.items) h
-      led = has places was.pc (risen_self f.linked.now work.sound.laws f.method.now f.numbers.now places) was.at was.covered
+      led =
+          let self = risen_self f.linked.now work.sound.laws f.method.now f.numbers.now places in
+          has places was.pc self was.at was.covered
 
       -- what was taken in lies below what is held now
       was_below : types_below below_class (caught_types led.class (with_locals seen.locals.items)) still.held ≡ true
       was_below =
-          subst (λ (x : Types). types_below below_class (caught_types led.class (with_locals seen.locals.items)) x ≡ true)
+          let caught = caught_types led.class (with_locals seen.locals.items) in
+          subst (λ (x : Types). types_below below_class caught x ≡ true)
           (same_Some led.leads.state still.held (sym led.leads.typed ∙ still.at)) led.leads.below
 
       shaped : HasShape f.method.now still.held
       shaped =
-          let by = held_by f.linked.now work.sound.laws f.method.now f.numbers.now places h.goes_on still.held still.at in
+          let by =
+          held_by f.linked.now work.sound.laws f.method.now f.numbers.now places h.goes_on still.held still.at in
           subst (HasShape f.method.now) by.types (work.shaped by.number by.place by.state by.stands by.held)
 
       as_many : length seen.locals.items ≡ length s.types.locals
@@ -134,7 +139,8 @@ module _ (f : Flow) (seen : Seen) where
           catches = led.catches;
           leads =
               leads_on f.linked.now work.sound.laws f.method.now f.numbers.now places final risen
-              (caught_types led.class s.types) h.goes_on (record { state = still.held; typed = still.at; below = is_below });
+              (caught_types led.class s.types) h.goes_on
+              (record { state = still.held; typed = still.at; below = is_below });
         };
         least = λ typing under asks. under;
         work = work;

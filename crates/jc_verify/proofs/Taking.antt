@@ -1,5 +1,8 @@
 -- What places have taken in, one step behind the other.
-use Rattle.std.proofs.Common.{◌≡◌, ℕ, ◌+◌, Bool, true, false, List, None, Some, Ok, slice_get, slice_set, refl, sym, ap, subst, ◌∙◌, arith}
+use Rattle.std.proofs.Common.{◌≡◌, ℕ, ◌+◌, ◌≤◌, Bool, true, false, List, length, None, Some, Ok, slice_get, slice_set}
+use Rattle.std.proofs.Common.{refl, sym, ap, subst, ◌∙◌, arith}
+use Rattle.std.specs.List.{AllByRecursion}
+use Rattle.std.proofs.lemmas.List.{drop_all}
 use Rattle.std.specs.Option.{option_map}
 use Rattle.std.proofs.lemmas.Option.{none-some, slice_get-get_or}
 use Rattle.jc_code.specs.Targets.{falls_of, targets_of}
@@ -76,6 +79,13 @@ module _ {f : Flow} where
     pub passed_one : (k : ℕ) (x : A) {start now next : Places} → slice_get xs k ≡ Some x → ArePassed f leads xs k start now → HasTakenIn f (λ typing. leads typing x) now next → ArePassed f leads xs (k + 1) start next
     passed_one k x at passed taken =
         taken_as (taken_then passed taken) (λ typing (before, here) rest. before (all_from (leads typing) xs k x at here rest)) (λ typing all. (all, all_at (leads typing) xs k x at all))
+
+    -- all were passed
+    pub passed_all : (k : ℕ) {start next : Places} → length xs ≤ k → ArePassed f leads xs k start next
+        → HasTakenIn f (λ typing. AllByRecursion (leads typing) xs) start next
+    passed_all k end passed =
+        taken_as passed (λ typing before. before (subst (AllByRecursion (leads typing)) (sym (drop_all k xs end)) tt))
+        (λ typing all. all)
 
   -- ---- at a place
 

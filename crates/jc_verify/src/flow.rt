@@ -197,44 +197,7 @@ fn handle(
     }
 }
 
-/// Each handler in turn.
-fn handle_each(
-    flow: &Flow,
-    places: &mut [Place<State>],
-    caught: &mut State,
-    seen: &Seen,
-    state: &State,
-    pc: u16,
-) -> Result<(), Stop>
-    requires work { IsAtWork flow.now places.old }
-    requires ways { AllByRecursion (IsHandlersWay flow.now pc state.now.types) flow.now.method.now.handlers }
-    requires room { HaveRoom flow.now caught.old state.now }
-    requires seen { HaveSeen flow.now places.old seen.now }
-    ensures caught { HasRoom flow.now.method.now caught.new }
-    ensures taken { IfOk result (λ u.
-        HasTakenIn flow.now (HandlesAll flow.now pc state.now.types) places.old places.new) }
-    ensures refused { IfErr result (Refuses flow.now (HandlesAll flow.now pc state.now.types)
-        (IsUncaught flow.now.linked.now flow.now.method.now (Contains flow.now.method.now.handlers) pc
-        state.now.types) places.old) }
-{
-    let handlers = flow.method.handlers();
-    let range = seen.changed(state.locals());
-    for index in 0..handlers.len() {
-        handle(
-            flow,
-            places,
-            caught,
-            seen,
-            range,
-            state,
-            pc,
-            &handlers[index],
-        )?;
-    }
-    Ok(())
-}
-
-/// All handlers, which have then seen these locals.
+/// Each handler in turn. All have then seen these locals.
 fn handle_all(
     flow: &Flow,
     places: &mut [Place<State>],
@@ -255,10 +218,23 @@ fn handle_all(
         (IsUncaught flow.now.linked.now flow.now.method.now (Contains flow.now.method.now.handlers) pc
         state.now.types) places.old) }
 {
-    if flow.method.handlers().is_empty() {
+    let handlers = flow.method.handlers();
+    if handlers.is_empty() {
         return Ok(());
     }
-    handle_each(flow, places, caught, seen, state, pc)?;
+    let range = seen.changed(state.locals());
+    for index in 0..handlers.len() {
+        handle(
+            flow,
+            places,
+            caught,
+            seen,
+            range,
+            state,
+            pc,
+            &handlers[index],
+        )?;
+    }
     seen.note(pc, state.locals())?;
     Ok(())
 }

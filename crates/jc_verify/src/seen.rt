@@ -8,8 +8,8 @@ use jc_check::Handler;
 use jc_types::{LocalRange, Ty, differing};
 use std::alloc::{AllocError, Global};
 
-/// The locals before the instruction whose handlers took them in last, and its pc. Where there is none, the locals count
-/// for nothing.
+/// The locals before the instruction whose handlers took them in last, and its pc. Where there is none, the locals
+/// count for nothing.
 #[derive(Drop)]
 pub(crate) struct Seen {
     pub(crate) at: Option<u16>,

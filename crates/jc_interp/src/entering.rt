@@ -97,7 +97,7 @@ impl WordMachine {
         *running = Running {
             method: header.method,
             code: method.code,
-            kinds: method.kinds(),
+            kinds: here.program.methods.code_kinds(number, &method),
             pool: pool_from(here.program, method.package, *running),
             context: header.active.context,
         };

@@ -1,3 +1,4 @@
+mod Switching
 mod Catching
 mod Known
 mod Laying

@@ -1,7 +1,7 @@
 use Rattle.std.proofs.Common.{List, ℕ, subst, sym, ap, ◌∙◌}
 use Rattle.jc_frames.specs.Frames.{Frames}
 use Rattle.jc_frames.specs.declared.header.FrameHeader.{FrameHeader}
-use Rattle.jc_kinds.specs.Kinds.{AreKindsOf}
+use Rattle.jc_switches.specs.PrivateSwitches.{AreCodeKinds}
 use Rattle.jc_interp.specs.PrivateRunning.{IsPoolOf}
 use Rattle.jc_interp.specs.declared.top.Running.{Running}
 use Rattle.jc_interp.proofs.ByName.{its_code}
@@ -21,7 +21,7 @@ returns-clause-runs c went =
     let r : Running = record {
       method = header.method;
       code = c.method.inside.code;
-      kinds = c.kinds.result;
+      kinds = c.code_kinds.result;
       pool = c.pool_from.result;
       context = header.active.context;
     } in
@@ -31,8 +31,8 @@ returns-clause-runs c went =
             ap (λ (x : LoadedMethod). x.code) c.method.view_is
             ∙ its_code p c.args.number c.requires.by_name m (sym c.get.ensures ∙ c.in-Some.is) other
             (same ∙ ap (λ (h : FrameHeader). h.method) c.header_of-header.ensures);
-        kinds = subst (λ (code : List ℕ). AreKindsOf code c.kinds.result.now)
-            (sym (ap (λ (x : LoadedMethod). x.code) c.method.view_is)) c.kinds.ensures;
+        kinds = subst (λ (code : List ℕ). AreCodeKinds code c.code_kinds.result)
+            (sym (ap (λ (x : LoadedMethod). x.code) c.method.view_is)) c.code_kinds.ensures;
         pool = subst (λ (number : ℕ). IsPoolOf p number c.pool_from.result.now)
             (ap (λ (x : LoadedMethod). x.number) c.method.view_is
             ∙ sym (ap (λ (h : FrameHeader). h.method.«package») c.header_of-header.ensures)) c.pool_from.ensures;

@@ -48,7 +48,7 @@ abbrev pub called_on : Program → Store → ℕ → ℕ → Option Called
 called_on p store number token =
     option_map (λ (o : Seen). called_at p.virtual_methods o.class token) (seen_of store number)
 
--- and in place of a virtual member of the API; nothing where there is no such member, or no object
+-- and in place of a virtual member of the API; nothing if there is no such member, or no object
 abbrev pub called_for : Program → Store → ℕ → ℕ → Called
 called_for p store member number =
     unwrap_or (option_and_then (called_on p store number) (token_at p.member_tokens member)) calls.Nothing

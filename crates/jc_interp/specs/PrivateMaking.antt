@@ -7,7 +7,7 @@ use Rattle.jc_store.specs.Heap.{Heap, cells_in}
 use Rattle.jc_store.specs.Store.{Store}
 use Rattle.jc_interp.specs.PrivateSeen.{with_put}
 
--- the store with the word of a list at an index, where there is one, in that component of an object
+-- the store with the word of a list at an index, if there is one, in that component of an object
 abbrev pub with_component : Store → ℕ → ℕ → List ℕ → Store
 with_component s number index words = option_map_or (with_put s number index) (slice_get words index) s
 

@@ -52,7 +52,7 @@ fn native_end(outcome: WordOutcome) -> RunEnd
     }
 }
 
-/// What an object's class has at a token; none where there is no object.
+/// What an object's class has at a token; none if there is no object.
 fn called_on(program: &Program, store: &Store, number: u16, token: u8) -> Option<Called>
     ensures { result ≡ called_on program.now store.now number token }
 {
@@ -76,7 +76,7 @@ fn called_for(program: &Program, store: &Store, member: u16, number: u16) -> Cal
 
 impl WordMachine {
     /// What an object's class has in place of a virtual member of the API: the member's number and the object's. In an
-    /// accepted world, over its own tables, it is what the look-up finds; nothing where there is no such object.
+    /// accepted world, over its own tables, it is what the look-up finds; nothing if there is no such object.
     pub fn method_for(&self, program: &Program, member: u16, object: u16) -> Called
         ensures { IsMethodFor program.now self.now.store member object result }
     {

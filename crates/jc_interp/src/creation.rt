@@ -41,7 +41,7 @@ fn is_count(word: u16) -> bool
     word.cast_signed() >= 0
 }
 
-/// Makes a plain object, where there is room for it. The answer is its number.
+/// Makes a plain object, if there is room for it, and returns its number.
 #[inline(always)]
 fn make(store: &mut Store, object: ObjectType, owner: Owner, len: usize, class: u16) -> Option<u16>
     ensures { made store.new result ≡ made_in store.old object owner len class }

@@ -1,8 +1,8 @@
-//! What a step comes to.
+//! How a step ends.
 
 use jc_machine::{Budget, CodePoint};
 
-/// What a step comes to.
+/// How a step ends.
 #[derive(Clone, Copy, Debug, PartialEq, Eq)]
 pub enum StepEnd {
     /// The machine goes on.
@@ -50,5 +50,5 @@ pub(crate) const SECURITY_EXCEPTION: u16 = 7;
 
 pub(crate) const SYSTEM_EXCEPTION: u16 = 9;
 
-/// The reason of the runtime's SystemException where there is no room for an object.
+/// The reason of the runtime's SystemException if there is no room for an object.
 pub(crate) const NO_RESOURCE: u16 = 5;

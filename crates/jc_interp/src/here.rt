@@ -1,4 +1,4 @@
-//! Where a step is: what surrounds the machine, and the instruction.
+//! The context of a step: what surrounds the machine, and the instruction.
 
 use jc_frames::FrameHeader;
 use jc_link::World;
@@ -13,6 +13,6 @@ pub(crate) struct Here<'p> {
     pub(crate) selected: Option<u8>,
     /// The top frame, at the instruction.
     pub(crate) frame: FrameHeader,
-    /// Where the instruction behind this one begins.
+    /// The pc of the next instruction.
     pub(crate) next_pc: u16,
 }

@@ -66,7 +66,7 @@ fn word_at(statics: &Statics, objects: u16, offset: u16, declared: DeclaredType<
     }
 }
 
-/// Puts a word to an offset, where there is one.
+/// Writes a word at an offset, if there is one.
 #[tactic(auto, using(crate::proofs::ImageWords::put_past))]
 fn put_word(words: &mut [u16], offset: u16, word: u16)
     ensures { words.new ≡ slice_set words.old offset word }

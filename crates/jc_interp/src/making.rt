@@ -107,7 +107,7 @@ fn fill(store: &mut Store, number: u16, array: &InitialArray)
     }
 }
 
-/// Makes an array of the package with a number, where there is room for it.
+/// Makes an array of the package with a number, if there is room for it.
 fn make_array(store: &mut Store, number: u8, body: &LinkedBody, array: &InitialArray) -> bool
     ensures made { result ≡ true → store.new ≡ with_arrays store.old (word_array number body.now array.now ∷ []) }
     ensures full { result ≡ false → IsFull store.old (length (words_of_array array.now)) }

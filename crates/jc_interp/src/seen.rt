@@ -38,7 +38,7 @@ pub(crate) fn look_at(store: &Store, number: u16) -> Option<Seen>
     })
 }
 
-/// The component of an object at an index; 0 where there is none.
+/// The component of an object at an index; 0 if there is none.
 #[inline]
 pub(crate) fn cell(store: &Store, number: u16, index: usize) -> u16
     ensures { result ≡ cell_in store.now number index }
@@ -50,7 +50,7 @@ pub(crate) fn cell(store: &Store, number: u16, index: usize) -> u16
     }
 }
 
-/// Puts a word into the component of an object at an index, where there is one.
+/// Puts a word into the component of an object at an index, if there is one.
 #[inline]
 pub(crate) fn put(store: &mut Store, number: u16, index: usize, word: u16)
     ensures { store.new ≡ with_put store.old number index word }

@@ -75,7 +75,7 @@ impl Statics {
         Ok(())
     }
 
-    /// The word of the field at an offset, of the package with a number; 0 where there is none.
+    /// The word of the field at an offset, of the package with a number; 0 if there is none.
     #[inline]
     pub(crate) fn get(&self, package: u8, offset: u16) -> u16
         ensures { result ≡ static_in self.now «package» offset }
@@ -89,7 +89,7 @@ impl Statics {
         }
     }
 
-    /// Puts a word there, where there is one.
+    /// Writes a word there, if there is such a field.
     #[inline]
     pub(crate) fn set(&mut self, package: u8, offset: u16, word: u16)
         ensures { self.new ≡ with_static self.old «package» offset word }

@@ -87,7 +87,7 @@ impl WordMachine {
     }
 
     /// An object is thrown: the nearest frame with a handler for it goes on there, and the frames within are dropped.
-    /// Where none has one it is thrown out of the call, and all frames stay.
+    /// If none has one, it is thrown out of the call, and all frames stay.
     pub(crate) fn unwind(&mut self, program: &Program, object: u16) -> StepEnd
         ensures { done self.new result ≡ do_unwind program.now object self.old }
     {

@@ -21,7 +21,7 @@ AreWhereEntered m states =
     (listing : List PlacedInstr) → IsListing instr_at m.code listing
     → AllByRecursion (λ c. IsEntered m listing c.pc) states
 
--- so it is for each method with code of a package
+-- the same for each method with code of a package
 pub record HasStatesWhereEntered (l : Linked) (rows : List Row) : Type 0 where
   pub each : (n : ℕ) (b : MethodBody) → slice_get l.body.kept.methods n ≡ Some b
       → AreWhereEntered (method_of l b) (stated_for rows b.offset)
@@ -38,7 +38,7 @@ abbrev pub AreLeast : Linked → Method → List Stated → Type 0
 AreLeast l m states =
     (typing : Typing) → IsTyping (package_rules l) m typing → AllByRecursion (LiesBelow l typing) states
 
--- so it is for each method with code of a package
+-- the same for each method with code of a package
 pub record HasLeastStates (l : Linked) (rows : List Row) : Type 0 where
   pub each : (n : ℕ) (b : MethodBody) → slice_get l.body.kept.methods n ≡ Some b
       → AreLeast l (method_of l b) (stated_for rows b.offset)
@@ -55,7 +55,7 @@ HasStateAtEach m states =
     (listing : List PlacedInstr) → IsListing instr_at m.code listing → (pc : ℕ) → IsEntered m listing pc
     → HasStateAt states pc
 
--- so it is for each method with code of a package
+-- the same for each method with code of a package
 pub record HasAllStates (l : Linked) (rows : List Row) : Type 0 where
   pub each : (n : ℕ) (b : MethodBody) → slice_get l.body.kept.methods n ≡ Some b
       → HasStateAtEach (method_of l b) (stated_for rows b.offset)

@@ -71,7 +71,7 @@ pub record AreGathered (l : Linked) (n : ℕ) (of : List Row) : Type 0 where
 abbrev pub IsDenied : Linked → Method → Type 0
 IsDenied l m = (CanBeCarried l m → ⊥) ⊎ (KeepsNames l m → ⊥)
 
--- a method with code stands at this offset, no states carry it, and the fault is told of it
+-- a method with code stands at this offset, no states carry it, and the fault is its own
 pub record IsTold (l : Linked) (offset : ℕ) (fault : Fault) : Type 0 where
   pub place : ℕ
   pub method : MethodBody

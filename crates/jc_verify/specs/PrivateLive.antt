@@ -141,7 +141,7 @@ IfRefusal Memory holds = ⊤
 abbrev pub IsUndecoded : List ℕ → ℕ → Reason → Type 0
 IsUndecoded code pc reason = (why : CodeFault) × StopsAt instr_at code pc why × (reason ≡ reason_of why)
 
--- this is told at a pc, and something holds
+-- this is reported at a pc, and something holds
 abbrev pub ToldAt : ℕ → Reason → Type 0 → ℕ → Reason → Type 0
 ToldAt pc why holds at reason = (at ≡ pc) × (reason ≡ why) × holds
 

@@ -19,7 +19,7 @@ use Rattle.jc_verify.specs.declared.place.Place.{Place}
 abbrev pub HasName : List Shape → ClassName → Type 0
 HasName world class = is_class_at world class ≡ true
 
--- so it is of the class of a type, if it has one
+-- the same for the class of a type, if it has one
 abbrev pub TypeHasName : List Shape → Ty → Type 0
 TypeHasName world Top = ⊤
 TypeHasName world Word = ⊤
@@ -30,12 +30,12 @@ TypeHasName world ByteArray = ⊤
 TypeHasName world ShortArray = ⊤
 TypeHasName world (ReferenceArray class) = HasName world class
 
--- so it is of the classes of all types of a state
+-- the same for the classes of all types of a state
 pub record HasNames (world : List Shape) (t : Types) : Type 0 where
   pub locals : AllByRecursion (TypeHasName world) t.locals
   pub operands : AllByRecursion (TypeHasName world) (reverse t.operands)
 
--- so it is of what places hold
+-- the same for what places hold
 abbrev pub AreNamed : List Shape → List (Place StateWithRoom) → Type 0
 AreNamed world places =
     (n : ℕ) (p : Place StateWithRoom) (s : StateWithRoom) → slice_get places n ≡ Some p → p.held ≡ Some s

@@ -13,7 +13,7 @@ abbrev pub stop_of : NotTaken → Stop
 stop_of taking.Unlike = Refused CertMismatch
 stop_of taking.Memory = Memory
 
--- what is told of an instruction
+-- why control flow stops at an instruction
 abbrev pub fault_at : ℕ → Stop → WordFault
 fault_at pc (Refused reason) = faults.Refused pc reason
 fault_at pc Memory = faults.Memory

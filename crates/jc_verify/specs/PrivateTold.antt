@@ -1,4 +1,4 @@
--- Private. What is known of the states that places hold, and of what is told where control flow is refused to go on.
+-- Private. What is known of the states that places hold, and of what is reported if control flow is refused.
 use Rattle.std.specs.Prelude.{◌≡◌, ◌≢◌, ⊤, ℕ, ℤ, pos, true, false, List, [], Option, Some, slice_get}
 use Rattle.std.specs.List.{AllByRecursion}
 use Rattle.jc_base.specs.declared.reason.Reason.{Reason}
@@ -25,13 +25,13 @@ pub record IsFlowing (rules : Rules) (m : Method) (listing : List PlacedInstr) (
   pub flows : Flows rules m listing pc t
   pub begin : begins listing pc ≡ true
 
--- so it is in the listing of a method's code
+-- the same in the listing of a method's code
 abbrev pub Reaches : Linked → Method → ℕ → Types → Type 0
 Reaches l m pc t =
     (listing : List PlacedInstr) → IsListing (package_rules l).decoder m.code listing
     → IsFlowing (package_rules l) m listing pc t
 
--- so it is of what places hold
+-- the same for what places hold
 abbrev pub AreReached : Linked → Method → Places → Type 0
 AreReached l m places =
     (n : ℕ) (p : Place StateWithRoom) (s : StateWithRoom) → slice_get places n ≡ Some p → p.held ≡ Some s
@@ -65,7 +65,7 @@ pub record IsUnled (l : Linked) (m : Method) (among : ℤ → Type 0) (t : Types
   pub is : among (pos pc)
   pub meets : MeetsUnlike (Reaches l m) pc t r
 
--- where something is refused, that is told of the method
+-- if something is refused, that is reported for the method
 abbrev pub Tells : Rules → Method → WordFault → Type 0
 Tells rules m (faults.Refused pc reason) = IsToldOf rules m (fault_at pc reason)
 Tells rules m faults.Memory = ⊤

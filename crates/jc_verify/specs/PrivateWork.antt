@@ -88,7 +88,7 @@ pub record IsWay (f : Flow) (t : Types) (h : Handler) : Type 0 where
   pub catches : h.caught ≡ Some class
   pub flows : FlowsIn f h.goes_on (caught_types class t)
 
--- so it is where the handler covers a pc
+-- the same, if the handler covers a pc
 abbrev pub IsHandlersWay : Flow → ℕ → Types → Handler → Type 0
 IsHandlersWay f pc t h = covers h pc ≡ true → IsWay f t h
 
@@ -98,13 +98,13 @@ pub record IsBranchsWay (f : Flow) (t : Types) (place : ℤ) : Type 0 where
   pub is : place ≡ pos pc
   pub flows : FlowsIn f pc t
 
--- ---- what is said of a typing
+-- ---- of a typing
 
 -- types lie below its state at a pc
 abbrev pub LeadsTo : Flow → ℕ → Types → Typing → Type 0
 LeadsTo f pc t typing = Leads (package_rules f.linked.now) typing t pc
 
--- so it is at the pc of the place of a number
+-- the same at the pc of the place of a number
 abbrev pub LeadsInto : Flow → ℕ → Types → Typing → Type 0
 LeadsInto f number t typing = (pc : ℕ) → number_at f.numbers.now pc ≡ Some number → LeadsTo f pc t typing
 
@@ -143,7 +143,7 @@ pub record Bears (f : Flow) (pc : ℕ) (t : Types) (typing : Typing) : Type 0 wh
 abbrev pub Anything : Typing → Type 0
 Anything typing = ⊤
 
--- ---- what following comes to
+-- ---- what following leaves
 
 -- places took in what flows: whatever is held in the end gives what is to be given; and a typing that asks for that
 -- lies above what they hold, if it did before
@@ -180,7 +180,7 @@ pub record IsRefusedFor (f : Flow) (asks : Typing → Type 0) (tells : Reason �
       → IsUnder f.linked.now f.numbers.now before typing → asks typing → ⊥
   pub told : tells reason
 
--- so it is where it is refused, and not for want of memory
+-- the same, if it is refused, and not for want of memory
 pub record Refuses (f : Flow) (asks : Typing → Type 0) (tells : Reason → Type 0) (before : Places)
     (stop : Stop) : Type 0 where
   pub each : (reason : Reason) → stop ≡ Refused reason → IsRefusedFor f asks tells before reason
@@ -193,11 +193,11 @@ abbrev pub MeetsHeldBy : Flow → Places → ℕ → Types → Reason → Type 0
 MeetsHeldBy f places number t reason =
     (pc : ℕ) → number_at f.numbers.now pc ≡ Some number → MeetsHeld f places pc t reason
 
--- a fault is told of the method, with a reason at a pc
+-- a fault of the method is reported, with a reason at a pc
 abbrev pub IsToldAt : Flow → ℕ → Reason → Type 0
 IsToldAt f pc reason = IsToldOf (package_rules f.linked.now) f.method.now (fault_at pc reason)
 
--- the same by the fault that is told
+-- the same by the reported fault
 pub record IsDenial (f : Flow) (asks : Typing → Type 0) (before : Places) (fault : WordFault) : Type 0 where
   pub each : (pc : ℕ) (reason : Reason) → fault ≡ faults.Refused pc reason
       → IsRefusedFor f asks (IsToldAt f pc) before reason

@@ -26,7 +26,7 @@ pub record IsFirstWithout (l : Linked) (offset : ℕ) : Type 0 where
   pub before : (n : ℕ) (b : MethodBody) → slice_get l.body.kept.methods n ≡ Some b → b.offset < offset
       → CanBeCarried l (method_of l b)
 
--- the method at this offset is the first that no states carry, and the fault is told of it
+-- the method at this offset is the first that no states carry, and the fault is its own
 pub record IsUncarried (l : Linked) (offset : ℕ) (fault : Fault) : Type 0 where
   pub first : IsFirstWithout l offset
   pub told : IsToldOf (package_rules l) (method_of l first.method) fault

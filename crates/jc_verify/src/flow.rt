@@ -30,7 +30,7 @@ use jc_names::ClassName;
 use jc_types::{LocalRange, State, Ty, are_below_within};
 use std::alloc::Global;
 
-/// What is told of an instruction.
+/// Why control flow stops at an instruction.
 pub(crate) fn told_at(pc: u16, stop: Stop) -> WordFault
     ensures { result ≡ fault_at pc stop }
 {

@@ -59,7 +59,7 @@ fn states_for(
     states_of(alloc, linked, &method, followed)
 }
 
-/// Whether a method is told of that stands before another one, or where it stands.
+/// Whether a fault was found in a method at the offset of another one, or before it.
 fn is_passed_over(told: Option<MethodFault>, offset: u16) -> bool
     ensures { result ≡ option_map_or (λ t. nat_le t.method offset) told false }
 {

@@ -88,7 +88,7 @@ fn certificate_of(linked: &Linked, methods: Vec<MethodRow>) -> Cert
     Cert::new(methods).unwrap()
 }
 
-/// The certificate of what is known of all methods, unless one of them is told of.
+/// The certificate of what is known of all methods, unless one of them has a fault.
 #[tactic(auto, using(crate::proofs::Bearing::all_states, crate::proofs::Telling::is_refusal))]
 fn certificate_or_fault(linked: &Linked, gathered: Gathered) -> Result<Inferred, VerifyFault>
     requires laws { HasLaws linked.now }

@@ -32,7 +32,7 @@ impl From<AllocError> for NotTaken {
     }
 }
 
-/// Puts the least value above both in place of what is held, where that isn't above the other one already.
+/// Raises what is held to the least value above both, unless it is above the other one already.
 fn raise<L: Lattice>(held: &mut L, value: &L, table: &L::Table) -> Result<bool, NotTaken>
     requires sound { L.is_sound table.now }
     ensures above { IfOk result (λ raised. L.lies_below table.now value.now held.new ≡ true) }

@@ -1,6 +1,8 @@
 -- Lists of tables that share what they have in common.
-use Rattle.std.proofs.Common.{◌≡◌, ◌⊎◌, inl, inr, ℕ, zero, suc, ◌+◌, ◌-◌, ◌<◌, ◌≤◌, ◌==◌, Bool, true, false, cond, List, []}
-use Rattle.std.proofs.Common.{◌∷◌, ◌++◌, min, length, take, Option, Some, None, slice_get, unwrap_or, refl, sym, ap, ◌∙◌}
+use Rattle.std.proofs.Common.{◌≡◌, ◌⊎◌, inl, inr, ℕ, zero, suc, ◌+◌, ◌-◌, ◌<◌, ◌≤◌, ◌==◌, Bool, true, false, cond}
+use Rattle.std.proofs.Common.{List, []}
+use Rattle.std.proofs.Common.{◌∷◌, ◌++◌, min, length, take, Option, Some, None, slice_get, unwrap_or, refl, sym, ap}
+use Rattle.std.proofs.Common.{◌∙◌}
 use Rattle.std.proofs.Common.{arith, length-append}
 use Rattle.std.proofs.lemmas.Bool.{cases_lt, eq-eqb, eqb-true, ne_eqb}
 use Rattle.std.proofs.lemmas.List.{length-take, map-append}
@@ -133,7 +135,8 @@ table_put t table next are is =
 pub none_kept : (t : Chained) → AreKept t t
 none_kept t = record { more = omega arith; lists = λ head is. refl }
 
-pub table_kept : (t : Chained) (table : KeyedTable) (next : Option ℕ) → AreChained t → AreKept t (with_table t table next)
+pub table_kept : (t : Chained) (table : KeyedTable) (next : Option ℕ) → AreChained t
+    → AreKept t (with_table t table next)
 table_kept t table next are = begins_kept t (with_table t table next) are (table_begins t table next are)
 
 pub kept_lists : (t u : Chained) (heads : List (Option ℕ)) → AreKept t u → AreHeads (length t.tables) heads
@@ -266,7 +269,8 @@ module _ (t : Chained) (key token : ℕ) where
   has_here number n counter found is less at same =
       ap (has (length t.tables - counter)) is ∙ by_table (slice_get t.tables n) refl at
     where
-      by_table : (o : Option KeyedTable) → slice_get t.tables n ≡ o → option_map (λ (k : KeyedTable). k.key) o ≡ Some found
+      by_table : (o : Option KeyedTable) → slice_get t.tables n ≡ o
+          → option_map (λ (k : KeyedTable). k.key) o ≡ Some found
           → has (length t.tables - counter) (Some n) ≡ Some (called_at (lists_of t.tables) n token)
       by_table None there e = absurd cc
       by_table (Some table) there e =
@@ -279,7 +283,8 @@ module _ (t : Chained) (key token : ℕ) where
   has_next number n counter found is less at other =
       ap (has (length t.tables - counter)) is ∙ by_table (slice_get t.tables n) refl at
     where
-      by_table : (o : Option KeyedTable) → slice_get t.tables n ≡ o → option_map (λ (k : KeyedTable). k.key) o ≡ Some found
+      by_table : (o : Option KeyedTable) → slice_get t.tables n ≡ o
+          → option_map (λ (k : KeyedTable). k.key) o ≡ Some found
           → has (length t.tables - counter) (Some n) ≡ has (length t.tables - (counter + 1)) (number_at t.nexts n)
       by_table None there e = absurd cc
       by_table (Some table) there e =

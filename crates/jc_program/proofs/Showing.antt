@@ -52,7 +52,8 @@ known_has world methods names lists c (Some n) asker are within found =
     (are.there n found.0 (within n refl) found.1 asker)
 
 module _ (world : List Shape) (methods : List LoadedMethod) (names : List ClassName) (t : Chained)
-    (heads : List (Option ℕ)) (count : ℕ) (c : ClassName) (nearest : Nearest) (is : IsNearest world names count c nearest)
+    (heads : List (Option ℕ)) (count : ℕ) (c : ClassName) (nearest : Nearest)
+    (is : IsNearest world names count c nearest)
     (all : count ≡ length (lists_in t heads))
     (are : AreListed (HasVisible world methods) names (length (lists_in t heads)) (lists_in t heads)) where
   nearest_has : (asker : ℕ) → FindsAsNumber world names c nearest.number (home_at asker)

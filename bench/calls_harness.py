@@ -73,10 +73,10 @@ pub(crate) struct Card {
 /// Links a package, checks it with its certificate, and puts it behind the others.
 fn load(alloc: Global, world: &mut World, image: &[u8]) -> Result<(), LoadFault> {
     let linked = link(alloc, &cut(image)?, world)?;
-    let Ok(certificate) = infer(alloc, &linked) else {
+    let Ok(inferred) = infer(alloc, &linked) else {
         return Err(LoadFault::Memory);
     };
-    let checked = check(alloc, linked, &certificate)?;
+    let checked = check(alloc, linked, &inferred.cert)?;
     put(world, checked.into_linked())
 }
 

@@ -1,0 +1,2 @@
+pub mod SmallCard
+pub mod Results

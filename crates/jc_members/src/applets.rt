@@ -3,7 +3,8 @@
 //! 18 bytes, which begins with the AIDs of instances 1 and 2; object 26 is an array of another context.
 
 ghost use Rattle.std.specs.Prelude.{◌≡◌, [], ◌∷◌, Some, map, true};
-ghost use Rattle.jc_members.specs.Results.{Gives, GivesNothing, Throws, cells_after, ends, kept_after};
+ghost use Rattle.jc_members.specs.Results.{Gives, GivesNothing, IsStuck, Throws, cells_after, ends, ends_as_declared};
+ghost use Rattle.jc_members.specs.Results.{kept_after};
 ghost use Rattle.jc_members.specs.SmallCard.{call, closed, first, owner, registered, second, waiting};
 ghost use Rattle.jc_words.specs.Values.{Null, Ref, Word};
 
@@ -71,4 +72,12 @@ pub fn applets_answer()
     ensures not_selecting { ends (call closed 39 (Ref 17 ∷ [])) ≡ Gives (Word 0) }
     ensures shareable { ends (call closed 40 (Ref 17 ∷ Ref 15 ∷ Word 0 ∷ [])) ≡ Gives Null }
     ensures shareable_untested { ends (call closed 40 (Ref 17 ∷ Ref 23 ∷ Word 0 ∷ [])) ≡ Gives Null }
+{}
+
+/// process is abstract, so a call is stuck, as one on an object of another class. It does nothing.
+#[tactic(auto, unfolding(jc_api::specs::Token::chain, jc_api::specs::Token::is_at_or_above, jc_classes::specs::Api::each_below, jc_classes::specs::Api::number_to, jc_classes::specs::Api::room_to, jc_classes::specs::Api::those_to, jc_classes::specs::Walk::most_classes,))]
+pub fn process_is_abstract()
+    ensures process { ends_as_declared (call closed 38 (Ref 17 ∷ Ref 11 ∷ [])) ≡ IsStuck }
+    ensures deselect { ends_as_declared (call closed 37 (Ref 17 ∷ [])) ≡ GivesNothing }
+    ensures of_no_applet { ends_as_declared (call closed 37 (Ref 24 ∷ [])) ≡ IsStuck }
 {}

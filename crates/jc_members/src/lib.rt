@@ -15,7 +15,8 @@ pub use apdus::{
     the_length_is_announced,
 };
 pub use applets::{
-    applets_answer, applets_register, applets_register_under_bytes, registering_is_refused,
+    applets_answer, applets_register, applets_register_under_bytes, process_is_abstract,
+    registering_is_refused,
 };
 pub use objects::{
     constructors_set_nothing, constructors_set_the_reason, exceptions_are_thrown,

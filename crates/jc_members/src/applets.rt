@@ -75,7 +75,6 @@ pub fn applets_answer()
 {}
 
 /// process is abstract, so a call is stuck, as one on an object of another class. It does nothing.
-#[tactic(auto, unfolding(jc_api::specs::Token::chain, jc_api::specs::Token::is_at_or_above, jc_classes::specs::Api::each_below, jc_classes::specs::Api::number_to, jc_classes::specs::Api::room_to, jc_classes::specs::Api::those_to, jc_classes::specs::Walk::most_classes,))]
 pub fn process_is_abstract()
     ensures process { ends_as_declared (call closed 38 (Ref 17 ∷ Ref 11 ∷ [])) ≡ IsStuck }
     ensures deselect { ends_as_declared (call closed 37 (Ref 17 ∷ [])) ≡ GivesNothing }

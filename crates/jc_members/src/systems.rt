@@ -84,5 +84,7 @@ pub fn transient_arrays_are_refused()
         { selected = None })) array_makers ≡ replicate 4 (Throws 9 (Word 3 ∷ [])) }
     ensures negative { all_end closed array_makers (Word 0x8000 ∷ Word 1 ∷ []) ≡ replicate 4 (Throws 5 []) }
     ensures no_room { all_end closed array_makers (Word 11 ∷ Word 1 ∷ []) ≡ replicate 4 (Throws 9 (Word 2 ∷ [])) }
+    ensures no_number { ends (record (call closed 46 (Word 0 ∷ Word 1 ∷ []))
+        { limits = record { objects = 26; cells = 130; frames = 9; frame_words = 99 } }) ≡ Throws 9 (Word 2 ∷ []) }
     ensures longest { all_end closed array_makers (Word 32767 ∷ Word 2 ∷ []) ≡ replicate 4 (Throws 9 (Word 2 ∷ [])) }
 {}

@@ -12,7 +12,7 @@ use Rattle.jc_names.specs.Names.{home_of}
 use Rattle.jc_names.specs.declared.name.ClassName.{ClassName}
 use Rattle.jc_program.specs.Classes.{class_number}
 
--- an interface's number, and under which virtual tokens a class has its methods
+-- an interface's number, and the virtual tokens under which a class has its methods
 pub record IndexRow : Type 0 where
   pub interface : ℕ
   pub indexes : List ℕ
@@ -24,12 +24,12 @@ pub record ClassInterfaces : Type 0 where
 
 -- ---- what a class has
 
--- the row for an interface, if that has a number
+-- the row for an interface, if the interface has a number
 abbrev pub index_row : List Shape → List ClassName → ℕ → Implemented → Option IndexRow
 index_row world names home row = option_map (λ n. record { interface = n; indexes = row.indexes })
     (option_and_then (class_number names) (class_named world home row.interface))
 
--- the rows of a class's own record; none where no class stands there
+-- the rows of a class's own record; none if there is no such class
 abbrev pub own_rows : List Shape → ClassName → List Implemented
 own_rows world c = option_map_or (λ k. interface_rows k.body) (class_at world c) []
 
@@ -39,17 +39,17 @@ class_interfaces world names c = record {
   superclass = option_and_then (class_number names) (superclass_of world c);
 }
 
--- these are the rows of classes
+-- the rows of classes are right
 abbrev pub AreInterfaceRows : List Shape → List ClassName → List ClassInterfaces → Type 0
 AreInterfaceRows world names classes = classes ≡ map (class_interfaces world names) names
 
 -- ---- the nearest class that lists an interface
 
--- under which virtual tokens an interface's methods stand: the first row of it says so
+-- the virtual tokens of an interface's methods, from the first row with the interface
 abbrev pub indexes_in : List IndexRow → ℕ → Option (List ℕ)
 indexes_in rows interface = option_map (λ r. r.indexes) (find (λ r. r.interface == interface) rows)
 
--- what the class with a number says, or the nearest one above it, of at most so many
+-- the same for a class or its nearest superclass with such a row, among at most `steps` classes
 abbrev pub indexes_from : List ClassInterfaces → ℕ → ℕ → ℕ → Option (List ℕ)
 indexes_from classes interface zero number = None
 indexes_from classes interface (suc steps) number = option_and_then

@@ -12,26 +12,26 @@ use Rattle.jc_classes.specs.World.{class_at}
 use Rattle.jc_names.specs.declared.name.ClassName.{ClassName}
 use Rattle.jc_names.specs.declared.name.ClassName.TheVariants.{Api}
 
--- the token at which a member stands in the table of public methods of a record; an interface's has none
+-- the token of a member in its record's table of public methods; members of interfaces have none
 abbrev pub token_in : ℕ → RecordBody → Option ℕ
 token_in member (Interface r) = None
 token_in member (Class r) =
     option_map (λ n. r.public_methods.base + n) (position (λ m. m == member) r.public_methods.methods)
 
--- in the record of a class; none where the class isn't there
+-- the same in the record of a class; none if there is no such class
 abbrev pub token_of_class : List Shape → ClassName → ℕ → Option ℕ
 token_of_class world c member = option_and_then (λ (k : ClassShape). token_in member k.body) (class_at world c)
 
--- in that of its own class, found anew in the world; none where no member has the number
+-- the same in the record of the member's own class; none if no member has the number
 abbrev pub member_token : List Shape → ℕ → Option ℕ
 member_token world member =
     option_and_then (λ (m : ApiMember). token_of_class world (Api m.class) member) (member_of member)
 
--- what a table has for the member with a number; none behind its end
+-- a table's token for the member with a number; none after its end
 abbrev pub token_at : List (Option ℕ) → ℕ → Option ℕ
 token_at tokens member = unwrap_or (slice_get tokens member) None
 
--- these are the tokens of the API's members in a world
+-- the tokens of the API's members in a world are right
 abbrev pub AreMemberTokens : List Shape → List (Option ℕ) → Type 0
 AreMemberTokens world tokens = (member : ℕ) → token_at tokens member ≡ member_token world member
 

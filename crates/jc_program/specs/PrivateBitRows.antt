@@ -1,4 +1,4 @@
--- Private. Rows of bits that are put into one another, until each has what those above it have.
+-- Private. Rows of bits that are merged until each has all numbers of the rows above it.
 use Rattle.std.specs.Prelude.{◌≡◌, ℕ, ◌+◌, ◌<◌, ◌≤◌, ◌==◌, Bool, true, false, List, [], ◌∷◌, slice_get, unwrap_or}
 use Rattle.std.specs.List.{list_any}
 use Rattle.jc_program.specs.PrivateBitRow.{most_bits, unset}
@@ -12,12 +12,12 @@ has_number number numbers = list_any (λ n. n == number) numbers
 abbrev pub is_any_listed : List (List ℕ) → List ℕ → ℕ → Bool
 is_any_listed rows numbers m = list_any (λ n. is_listed rows n m) numbers
 
--- how many numbers aren't in each of the rows
+-- how many numbers the rows don't have, summed over the rows
 abbrev pub unset_in : List (List ℕ) → ℕ
 unset_in [] = 0
 unset_in (row ∷ rows) = unset row most_bits + unset_in rows
 
--- the row that is named second is right above the other: of one class, and of the first classes of some
+-- the row `above` is right above the row `n`: for the row at a place, and for `count` rows from `first` on
 abbrev pub IsOneAbove : ℕ → List ℕ → ℕ → ℕ → Type 0
 IsOneAbove place numbers n above = (n ≡ place) × (has_number above numbers ≡ true)
 
@@ -25,7 +25,7 @@ abbrev pub IsRightAbove : ℕ → ℕ → List (List ℕ) → ℕ → ℕ → Ty
 IsRightAbove first count lists n above =
     (k : ℕ) × (k < count) × (n ≡ first + k) × (has_number above (unwrap_or (slice_get lists k) []) ≡ true)
 
--- rows were put into those that they are right above, and whether a number wasn't there before
+-- each row got the numbers of the rows right above it; `changed` says whether one of them is new
 pub record ArePassed (Above : ℕ → ℕ → Type 0) (old new : List (List ℕ)) (changed : Bool) : Type 0 where
   pub kept : (n m : ℕ) → is_listed old n m ≡ true → is_listed new n m ≡ true
   pub same : changed ≡ false → (n m : ℕ) → is_listed new n m ≡ is_listed old n m
@@ -38,7 +38,7 @@ pub record ArePassed (Above : ℕ → ℕ → Type 0) (old new : List (List ℕ)
       → ((n m : ℕ) → is_listed old n m ≡ true → fits n m ≡ true)
       → (n m : ℕ) → is_listed new n m ≡ true → fits n m ≡ true
 
--- rows were put into others, and no number was there for which there is no reason
+-- rows got numbers from rows above them, and no others
 pub record AreRisen (Above : ℕ → ℕ → Type 0) (old new : List (List ℕ)) : Type 0 where
   pub kept : (n m : ℕ) → is_listed old n m ≡ true → is_listed new n m ≡ true
   pub sound : (fits : ℕ → ℕ → Bool)
@@ -46,7 +46,7 @@ pub record AreRisen (Above : ℕ → ℕ → Type 0) (old new : List (List ℕ))
       → ((n m : ℕ) → is_listed old n m ≡ true → fits n m ≡ true)
       → (n m : ℕ) → is_listed new n m ≡ true → fits n m ≡ true
 
--- and each row has what those right above it have
+-- and each row has all numbers of the rows right above it
 pub record AreSettled (Above : ℕ → ℕ → Type 0) (old new : List (List ℕ)) : Type 0 where
   pub risen : AreRisen Above old new
   pub closed : (n above m : ℕ) → Above n above → is_listed new above m ≡ true → is_listed new n m ≡ true

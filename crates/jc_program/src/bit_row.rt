@@ -7,10 +7,10 @@ ghost use Rattle.jc_program.specs.PrivateBitRow.{AreUnited, bits_of};
 use std::alloc::{AllocError, Global};
 use std::marker::Model;
 
-/// How many numbers a word stands for.
+/// How many numbers a word contains.
 const WORD_BITS: u16 = 64;
 
-/// Makes words longer, up to so many.
+/// Appends zeros until there are `count` words.
 #[tactic(auto, using(crate::proofs::Rowing::same_pushed))]
 fn widen(words: &mut Vec<u64>, count: usize) -> Result<(), AllocError>
     requires { count ≤ 1024 }
@@ -25,7 +25,7 @@ fn widen(words: &mut Vec<u64>, count: usize) -> Result<(), AllocError>
     Ok(())
 }
 
-/// The bits of two words.
+/// The bits of either word.
 #[inline]
 #[tactic(auto, using(crate::proofs::Rowing::or_small))]
 fn both_of(word: u64, more: u64) -> u64
@@ -36,7 +36,7 @@ fn both_of(word: u64, more: u64) -> u64
     word | more
 }
 
-/// Sets bits of one word. Whether one of them wasn't set.
+/// Sets bits of one word. Returns whether one of them wasn't set.
 #[tactic(auto, using(crate::proofs::Rowing::united_word))]
 fn unite_word(words: &mut [u64], at: usize, more: u64) -> bool
     requires there { at < length words.old }
@@ -50,7 +50,7 @@ fn unite_word(words: &mut [u64], at: usize, more: u64) -> bool
     new != old
 }
 
-/// Sets the bits that are set in other words. Whether one of them wasn't set.
+/// Sets the bits that are set in other words. Returns whether one of them wasn't set.
 fn unite_words(words: &mut [u64], more: &[u64]) -> bool
     requires wide { length more.now ≤ length words.old }
     requires few { length words.old ≤ 1024 }
@@ -64,7 +64,7 @@ fn unite_words(words: &mut [u64], more: &[u64]) -> bool
     changed
 }
 
-/// Numbers of two bytes, each in the row or not: a bit each, in as many words as they need.
+/// A set of numbers of 16 bits: one bit for each, in as many words as they need.
 #[derive(Drop)]
 pub(crate) struct BitRow {
     words: Vec<u64>,
@@ -81,7 +81,7 @@ impl Model for BitRow {
 }
 
 impl BitRow {
-    /// The row without a number.
+    /// The empty row.
     pub(crate) fn new(alloc: Global) -> BitRow
         ensures { result ≡ [] }
     {
@@ -103,7 +103,7 @@ impl BitRow {
         word >> (number % WORD_BITS) & 1 == 1
     }
 
-    /// Puts a number in, which it may have already.
+    /// Puts a number in, even if it is there already.
     pub(crate) fn put(&mut self, number: u16) -> Result<(), AllocError>
         ensures { IfOk result (λ u. (n : ℕ) → has_bit self.new n ≡ (has_bit self.old n || n == number)) }
     {
@@ -113,7 +113,7 @@ impl BitRow {
         Ok(())
     }
 
-    /// Puts the numbers of another row in. Whether it hadn't one of them.
+    /// Puts the numbers of another row in. Returns whether one of them is new.
     pub(crate) fn unite(&mut self, other: &BitRow) -> Result<bool, AllocError>
         ensures { IfOk result (λ changed. AreUnited (has_bit other.now) self.old self.new changed) }
     {

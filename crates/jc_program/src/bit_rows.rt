@@ -1,4 +1,4 @@
-//! Rows of bits that are put into one another, until each has what those above it have.
+//! Rows of bits that are merged until each has all numbers of the rows above it.
 
 ghost use Rattle.std.specs.Prelude.{◌≡◌, ◌+◌, ◌<◌, ◌++◌, length, slice_get, IfOk};
 ghost use Rattle.std.specs.Option.{option_map};
@@ -34,7 +34,7 @@ impl NumberList {
     }
 }
 
-/// The row with a number: of those that are made, or of those that are being made, which come behind them.
+/// The row with a number. The rows in `rows`, still in construction, count after those in `made`.
 fn row_of<'a>(made: &'a [BitRow], rows: &'a [BitRow], number: u16) -> Option<&'a BitRow>
     ensures { option_map (λ r. r.now) result ≡ slice_get (made.now ++ rows.now) number }
 {
@@ -46,7 +46,7 @@ fn row_of<'a>(made: &'a [BitRow], rows: &'a [BitRow], number: u16) -> Option<&'a
     }
 }
 
-/// Puts what the row with a number has into another row. Whether a number wasn't there.
+/// Puts the numbers of the row with a number into another row. Returns whether one of them is new.
 fn unite_from(
     made: &[BitRow],
     rows: &[BitRow],
@@ -61,7 +61,7 @@ fn unite_from(
     }
 }
 
-/// Puts what the rows with these numbers have into another row. Whether a number wasn't there.
+/// Puts the numbers of all these rows into another row. Returns whether one of them is new.
 #[tactic(auto, using(crate::proofs::Rising::all_more))]
 fn unite_all(
     made: &[BitRow],
@@ -79,7 +79,7 @@ fn unite_all(
     Ok(changed)
 }
 
-/// Puts what the rows right above one have into this one. Whether a number wasn't there.
+/// Puts the numbers of the rows right above a row into it. Returns whether one of them is new.
 fn pass_row(
     alloc: Global,
     made: &[BitRow],
@@ -98,7 +98,7 @@ fn pass_row(
     Ok(changed)
 }
 
-/// Puts into each row what the rows right above it have. Whether a number wasn't there.
+/// Puts into each row the numbers of the rows right above it. Returns whether one of them is new.
 #[tactic(auto, using(crate::proofs::Rising::passed_none))]
 fn pass(
     alloc: Global,
@@ -119,7 +119,7 @@ fn pass(
     Ok(changed)
 }
 
-/// Puts into each row what the rows right above it have, until all have it.
+/// Puts into each row the numbers of the rows right above it, until nothing changes.
 #[tactic(auto, using(crate::proofs::Rising::risen_none))]
 pub(crate) fn settle(
     alloc: Global,

@@ -1,4 +1,4 @@
-//! Tables of what is called, of which each leads to another.
+//! Tables of call targets that link to other tables.
 
 ghost use Rattle.std.specs.Prelude.{◌≡◌, ◌<◌, ℕ, length, Some, IfErr, IfOk};
 ghost use Rattle.jc_program.specs.Called.{keyed_in};
@@ -10,7 +10,7 @@ use jc_entries::Called;
 use std::alloc::{AllocError, Global};
 use std::marker::Model;
 
-/// What numbers have at a place; none behind their end.
+/// The number at a place; none after the end.
 #[inline]
 pub(crate) fn number_at(numbers: &[Option<u16>], place: usize) -> Option<u16>
     ensures { result ≡ number_at numbers.now place }
@@ -18,8 +18,8 @@ pub(crate) fn number_at(numbers: &[Option<u16>], place: usize) -> Option<u16>
     numbers.get(place).copied().unwrap_or(None)
 }
 
-/// Tables with keys, and for each the number of the one that follows it, which stands before it. So lists of tables
-/// share what they have in common.
+/// Tables with keys. Each has the number of the next table in its list, which is smaller than its own. So lists of
+/// tables share their common ends.
 #[derive(Drop)]
 pub(crate) struct ChainedTables {
     tables: CalledTables,
@@ -37,7 +37,7 @@ impl Model for ChainedTables {
 }
 
 impl ChainedTables {
-    /// No table.
+    /// Creates a list without tables.
     pub(crate) fn new(alloc: Global) -> ChainedTables
         ensures { result ≡ none_chained }
     {
@@ -47,7 +47,7 @@ impl ChainedTables {
         }
     }
 
-    /// Puts a table behind the others, and gives its number. Where no memory is left they are as they were.
+    /// Appends a table and returns its number. On failure nothing changes.
     pub(crate) fn put(
         &mut self,
         key: u16,
@@ -67,7 +67,7 @@ impl ChainedTables {
         Ok(number)
     }
 
-    /// Keeps the first tables alone.
+    /// Keeps only the first tables.
     pub(crate) fn keep(&mut self, count: usize)
         ensures first { self.new ≡ first_chained count self.old }
         ensures chained { AreChained self.old }
@@ -76,7 +76,7 @@ impl ChainedTables {
         self.tables.keep(count);
     }
 
-    /// Where a list begins without its first table, if that has a key.
+    /// The first table of a list, after skipping a first table that has the key.
     pub(crate) fn behind(&self, head: Option<u16>, key: u16) -> Option<u16>
         ensures head { result ≡ number_behind self.now head key }
         ensures chained { AreChained self.now }
@@ -90,7 +90,7 @@ impl ChainedTables {
         }
     }
 
-    /// What the first table with a key has at a token, of a list.
+    /// The first table with a key in a list, at a token.
     #[inline]
     pub(crate) fn find(&self, head: Option<u16>, key: u16, token: u8) -> Option<Called>
         ensures { result ≡ keyed_in (tables_at self.now head) key token }

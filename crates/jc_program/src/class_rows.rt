@@ -1,4 +1,4 @@
-//! What is asked of a world's classes, by number: a row of 8 bytes each.
+//! What a machine needs to know of a world's classes, by number: a row of 8 bytes each.
 
 ghost use Rattle.std.specs.Prelude.{◌≡◌, ◌+◌, ◌<◌, ◌≤◌, ◌==◌, List, length, slice_get, take, Some, IfOk, IfSome};
 ghost use Rattle.jc_api.specs.declared.class.ApiClass.TheVariants.{Shareable};
@@ -22,30 +22,30 @@ use jc_names::ClassName;
 use std::alloc::{AllocError, Global};
 use std::marker::Model;
 
-/// How many classes and interfaces there are at most.
+/// The greatest number of classes and interfaces.
 pub(crate) const MOST_CLASSES: u16 = 17_085;
 
 /// The interface whose objects other applets may call.
 const SHAREABLE: ClassName = ClassName::Api(ApiClass::Shareable);
 
-/// What is asked of a class: 8 bytes.
+/// What a machine needs to know of a class: 8 bytes.
 #[derive(Clone, Copy, Debug)]
 pub struct ClassRow {
-    /// How many cells an object of it takes: what it and its superclasses declare.
+    /// How many cells an object of it takes: those that it and its superclasses declare.
     pub cells: u32,
     pub is_interface: bool,
     /// Whether it is Shareable or below it.
     pub is_shareable: bool,
 }
 
-/// The row of no class.
+/// The row of a number that no class has.
 const NO_ROW: ClassRow = ClassRow {
     cells: 0,
     is_interface: false,
     is_shareable: false,
 };
 
-/// How many cells of an object a class itself declares; none where it isn't there.
+/// How many cells of an object a class itself declares; none if there is no such class.
 fn size_of(table: &ClassTable, class: ClassName) -> u8
     ensures { result ≡ size_of table.now class }
 {
@@ -65,7 +65,7 @@ fn sum_of(cells: u32, more: u32) -> Result<u32, AllocError>
     }
 }
 
-/// How many cells an object of a class takes, if the class's row is made.
+/// How many cells an object of a class takes, if the class has a row already.
 #[tactic(auto, using(crate::proofs::Summing::cells_there))]
 fn cells_made(
     rows: &[ClassRow],
@@ -84,8 +84,8 @@ fn cells_made(
     }
 }
 
-/// How many cells an object of a class takes: its own, and those of its superclasses up to one whose row is made. A
-/// chain of more classes than there are has a cycle, which linking refuses.
+/// How many cells an object of a class takes: its own, and those of its superclasses, read from the first of them that
+/// has a row already. If the chain has more than MOST_CLASSES classes it has a cycle, which linking refuses.
 #[tactic(auto, using(crate::proofs::Summing::cells_alone, crate::proofs::Summing::cells_up))]
 fn cells_of(
     rows: &[ClassRow],
@@ -112,8 +112,8 @@ fn cells_of(
     Err(AllocError)
 }
 
-/// Whether the class with a number is Shareable or below it: read from its row. Where Shareable has no number it isn't
-/// there, and no class is below it.
+/// Whether the class with a number is Shareable or below it, read from its row. If Shareable has no number, the world
+/// has no Shareable, and no class is below it.
 fn is_shareable(classes: &Classes, supertypes: &Supertypes, number: ClassNumber) -> bool
     ensures { (world : List Shape) → IsSound world → classes.now ≡ class_names world
         → AreSupertypes world classes.now supertypes.now → (c : Name) → slice_get classes.now number ≡ Some c
@@ -126,7 +126,7 @@ fn is_shareable(classes: &Classes, supertypes: &Supertypes, number: ClassNumber)
     }
 }
 
-/// Whether an interface stands there.
+/// Whether there is an interface with this name.
 fn is_interface_at(table: &ClassTable, class: ClassName) -> bool
     ensures { result ≡ is_interface_at table.now class }
 {
@@ -136,7 +136,7 @@ fn is_interface_at(table: &ClassTable, class: ClassName) -> bool
     }
 }
 
-/// The row of the class with a number, with the rows of the classes before it.
+/// The row of the class with a number, from the rows of the classes before it.
 fn class_row_of(
     rows: &[ClassRow],
     table: &ClassTable,
@@ -160,7 +160,7 @@ fn class_row_of(
     })
 }
 
-/// Puts the rows of the other classes behind those of the first ones: each is made with those before it.
+/// Appends the rows of the remaining classes, each made from the rows before it.
 fn put_rows(
     rows: &mut Vec<ClassRow>,
     table: &ClassTable,
@@ -183,7 +183,7 @@ fn put_rows(
     Ok(())
 }
 
-/// For each class and interface of a world what a machine asks of it.
+/// What a machine needs to know of each class and interface of a world.
 #[derive(Drop)]
 pub struct ClassRows {
     rows: Vec<ClassRow>,
@@ -199,7 +199,7 @@ impl Model for ClassRows {
 }
 
 impl ClassRows {
-    /// The rows of these classes of a world, which have these supertypes.
+    /// Creates the rows of a world's classes, given their supertypes.
     #[tactic(auto, using(crate::proofs::Summing::are_rows))]
     pub(crate) fn new(
         alloc: Global,
@@ -213,7 +213,7 @@ impl ClassRows {
         ensures count { IfOk result (λ rows. length rows ≡ length classes.now) }
     {
         let table = world.table();
-        // Only its contract counts: what always holds of a table.
+        // Called only for its contract: what always holds of a table.
         let _count = table.len();
         built_worlds_are_sound();
         let mut rows = Vec::new(alloc);
@@ -221,7 +221,7 @@ impl ClassRows {
         Ok(ClassRows { rows })
     }
 
-    /// Puts the rows of the other classes of a world behind those of the first ones.
+    /// Appends the rows of the remaining classes of a world.
     #[tactic(auto, using(crate::proofs::Summing::are_rows))]
     pub(crate) fn grow(
         &mut self,
@@ -241,28 +241,28 @@ impl ClassRows {
         put_rows(&mut self.rows, table, classes, supertypes)
     }
 
-    /// Keeps those of the first classes alone.
+    /// Keeps only the rows of the first classes.
     pub(crate) fn keep(&mut self, count: usize)
         ensures { self.new ≡ take count self.old }
     {
         self.rows.truncate(count);
     }
 
-    /// For how many classes.
+    /// How many classes it has rows for.
     pub fn len(&self) -> usize
         ensures { result ≡ length self.now }
     {
         self.rows.len()
     }
 
-    /// Whether for none.
+    /// Whether it has no rows.
     pub fn is_empty(&self) -> bool
         ensures { result ≡ (length self.now == 0) }
     {
         self.rows.len() == 0
     }
 
-    /// The row of the class with a number: one without cells, and of no interface, where no class has it.
+    /// The row of the class with a number; if no class has it, a row without cells that isn't an interface's.
     #[inline]
     pub fn row(&self, number: ClassNumber) -> ClassRow
         ensures { result ≡ row_at self.now number }

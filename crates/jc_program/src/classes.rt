@@ -19,7 +19,7 @@ use jc_names::{ClassName, PackagePlace, name_in};
 use std::alloc::{AllocError, Global};
 use std::marker::Model;
 
-/// The number of a class or an interface of a world: its place among all of them.
+/// The number of a class or interface of a world: its place among all of them.
 #[derive(Clone, Copy, Debug)]
 pub struct ClassNumber {
     index: u16,
@@ -52,7 +52,7 @@ impl ClassNumber {
     }
 }
 
-/// Which table has a class.
+/// The table that has a class.
 #[inline]
 fn table_of(class: ClassName) -> usize
     ensures { result ≡ table_of class }
@@ -63,7 +63,7 @@ fn table_of(class: ClassName) -> usize
     }
 }
 
-/// Puts the name of a class behind others, if it has one.
+/// Appends the name of a class, if it has one.
 fn put_class(
     names: &mut Vec<ClassName>,
     home: PackagePlace,
@@ -78,7 +78,7 @@ fn put_class(
     Ok(())
 }
 
-/// Puts the names of classes behind others.
+/// Appends the names of classes.
 fn put_classes(
     names: &mut Vec<ClassName>,
     home: PackagePlace,
@@ -93,7 +93,7 @@ fn put_classes(
     Ok(())
 }
 
-/// Puts the names of the classes of the package that stands there behind others.
+/// Appends the names of the classes of the package at a place.
 fn put_package(
     names: &mut Vec<ClassName>,
     table: &ClassTable,
@@ -123,7 +123,7 @@ fn names_of(alloc: Global, table: &ClassTable) -> Result<Vec<ClassName>, AllocEr
     Ok(names)
 }
 
-/// Puts the number of a class, where none is there.
+/// Stores the number of a class, unless it has one already.
 fn put_name(
     alloc: Global,
     tables: &mut Vec<OffsetTable>,
@@ -140,7 +140,7 @@ fn put_name(
     put_number(alloc, tables, table_of(name), offset, number)
 }
 
-/// The classes and interfaces of a world, each with a number, and each by its name in one step.
+/// The classes and interfaces of a world, each with a number that its name leads to in one step.
 #[derive(Drop)]
 pub struct Classes {
     names: Vec<ClassName>,
@@ -160,7 +160,7 @@ impl Model for Classes {
 }
 
 impl Classes {
-    /// The classes of a world: for each package, in their order, those of its records.
+    /// Lists the classes of a world, package by package, in the order of their records.
     #[tactic(auto, using(crate::proofs::Naming::few_names))]
     pub fn new(alloc: Global, world: &World) -> Result<Classes, AllocError>
         ensures names { IfOk result (λ classes. classes ≡ class_names world.now.shapes) }
@@ -175,7 +175,7 @@ impl Classes {
         Ok(classes)
     }
 
-    /// Puts the classes of the last package of a world behind the others.
+    /// Appends the classes of a world's last package.
     #[tactic(auto, using(crate::proofs::Naming::few_names))]
     pub(crate) fn grow(&mut self, alloc: Global, table: &ClassTable) -> Result<(), AllocError>
         requires before { AreNamesBefore table.now self.old }
@@ -188,7 +188,7 @@ impl Classes {
         self.put_all(alloc, &more)
     }
 
-    /// Puts classes behind the others.
+    /// Appends classes.
     fn put_all(&mut self, alloc: Global, names: &[ClassName]) -> Result<(), AllocError>
         requires few { length self.old + length names.now < 0x10000 }
         ensures done { IfOk result (λ u. self.new ≡ self.old ++ names.now) }
@@ -200,7 +200,7 @@ impl Classes {
         Ok(())
     }
 
-    /// Puts a class behind the others. Where no memory is left they are as they were.
+    /// Appends a class. On failure nothing changes.
     fn push(&mut self, alloc: Global, name: ClassName) -> Result<(), AllocError>
         requires few { length self.old + 1 < 0x10000 }
         ensures done { IfOk result (λ u. self.new ≡ self.old ++ name ∷ []) }
@@ -212,7 +212,7 @@ impl Classes {
         Ok(())
     }
 
-    /// Keeps the first classes alone.
+    /// Keeps only the first classes.
     pub(crate) fn keep(&mut self, count: usize)
         ensures { self.new ≡ take count self.old }
     {

@@ -1,4 +1,4 @@
-//! Exception handlers, as a machine looks for them.
+//! Exception handlers, as a machine searches them.
 
 ghost use Rattle.std.specs.Prelude.{◌≡◌, ℕ, ◌-◌, ◌+◌, List, map, IfOk};
 ghost use Rattle.jc_cap_desc.specs.Shape.{Shape};
@@ -12,25 +12,25 @@ use jc_link::{LinkedBody, PoolTarget};
 use jc_names::ClassName;
 use std::alloc::{AllocError, Global};
 
-/// What a handler catches.
+/// What an exception handler catches.
 #[derive(Clone, Copy, Debug, PartialEq, Eq)]
 pub enum Caught {
-    /// All that may be thrown.
+    /// Every exception.
     All,
-    /// Objects of a class, and of those below it.
+    /// Objects of a class and its subclasses.
     OfClass(ClassName),
-    /// Nothing: its entry of the constant pool is no class. The check of packages refuses that.
+    /// Nothing: its constant pool entry isn't a class. The check of packages refuses that.
     Nothing,
 }
 
-/// A handler. Its pcs count in its method's code.
+/// An exception handler. Its pcs count from the start of its method's code.
 #[derive(Clone, Copy, Debug, PartialEq, Eq)]
 pub struct LoadedHandler {
     /// The first pc that it covers.
     pub start: u16,
-    /// The pc behind the last that it covers.
+    /// The pc after the last one that it covers.
     pub end: u32,
-    /// Where the method goes on.
+    /// The pc where the method continues.
     pub goes_on: u16,
     pub caught: Caught,
 }
@@ -45,10 +45,10 @@ impl LoadedHandler {
     }
 }
 
-/// The index of the constant pool that stands for all that may be thrown.
+/// The constant pool index of a handler that catches every exception.
 const CATCHES_ALL: u16 = 0;
 
-/// What a handler catches, by its index into the constant pool.
+/// What an exception handler catches, by its index into the constant pool.
 fn caught_in(targets: &[PoolTarget], index: u16) -> Caught
     ensures { result ≡ caught_in targets.now index }
 {
@@ -66,14 +66,14 @@ fn caught_in(targets: &[PoolTarget], index: u16) -> Caught
     }
 }
 
-/// The pc at an offset of the Method component, in code that begins at another.
+/// The pc of an offset of the Method component, in code that begins at `code_offset`.
 fn pc_at(offset: u16, code_offset: usize) -> u16
     ensures { result ≡ offset - code_offset }
 {
     usize::from(offset).saturating_sub(code_offset) as u16
 }
 
-/// The pc behind so many bytes from an offset on.
+/// The pc after `length` bytes from an offset on.
 fn pc_behind(offset: u16, length: u16, code_offset: usize) -> u32
     ensures { result ≡ offset + length - code_offset }
 {
@@ -81,7 +81,7 @@ fn pc_behind(offset: u16, length: u16, code_offset: usize) -> u32
     behind.saturating_sub(code_offset) as u32
 }
 
-/// A handler of a method of a package whose pool is resolved.
+/// An exception handler of a method, in a package whose constant pool is resolved.
 #[tactic(auto, using(crate::proofs::Catching::caught_there))]
 fn loaded_handler(body: &LinkedBody, code_offset: usize, row: &Handler) -> LoadedHandler
     ensures { (world : List Shape) (number : ℕ) → IsResolved world (home_at number) body.now
@@ -95,7 +95,7 @@ fn loaded_handler(body: &LinkedBody, code_offset: usize, row: &Handler) -> Loade
     }
 }
 
-/// The handlers of a method.
+/// The exception handlers of a method.
 pub(crate) fn loaded_handlers(
     alloc: Global,
     body: &LinkedBody,

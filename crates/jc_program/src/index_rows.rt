@@ -1,4 +1,4 @@
-//! Rows of interfaces: under which virtual tokens classes have their methods.
+//! Rows of interfaces: the virtual tokens under which classes have their methods.
 
 ghost use Rattle.std.specs.Prelude.{◌≡◌, ◌+◌, ◌≤◌, ◌++◌, ◌∷◌, [], length, take, IfOk, IfErr};
 ghost use Rattle.std.specs.Option.{option_map};
@@ -10,7 +10,7 @@ use crate::tables::{TableRow, entries_end, row_with, short_of};
 use std::alloc::{AllocError, Global};
 use std::marker::Model;
 
-/// Rows of interfaces one behind the other, each with the interface's number; the virtual tokens of all in one array.
+/// Rows of interfaces, each with the interface's number, and the virtual tokens of all rows in one array.
 #[derive(Drop)]
 pub(crate) struct IndexRows {
     rows: Vec<TableRow>,
@@ -31,7 +31,7 @@ impl Model for IndexRows {
 }
 
 impl IndexRows {
-    /// No row.
+    /// Creates a list without rows.
     pub(crate) fn new(alloc: Global) -> IndexRows
         ensures { result ≡ [] }
     {
@@ -48,7 +48,7 @@ impl IndexRows {
         self.rows.len()
     }
 
-    /// Puts a row behind the others. Where no memory is left they are as they were.
+    /// Appends a row. On failure nothing changes.
     pub(crate) fn put(&mut self, interface: u16, indexes: &[u8]) -> Result<(), AllocError>
         ensures done { IfOk result (λ u. self.new
             ≡ self.old ++ record { interface = interface; indexes = indexes.now } ∷ []) }
@@ -66,7 +66,7 @@ impl IndexRows {
         Ok(())
     }
 
-    /// Keeps the first rows alone.
+    /// Keeps only the first rows.
     pub(crate) fn keep(&mut self, count: usize)
         ensures { self.new ≡ take count self.old }
     {
@@ -74,7 +74,7 @@ impl IndexRows {
         self.tokens.truncate(entries_end(&self.rows));
     }
 
-    /// The virtual tokens of the first row for an interface, of so many rows from one on.
+    /// The virtual tokens of an interface, from the first row for it among `count` rows from `first` on.
     #[inline]
     pub(crate) fn find(&self, first: usize, count: usize, interface: u16) -> Option<&[u8]>
         requires within { first + count ≤ length self.now }

@@ -1,4 +1,4 @@
-//! The methods of interfaces that a world's classes have, by numbers and token.
+//! The methods of interfaces that a world's classes implement, by numbers and token.
 
 ghost use Rattle.std.specs.Prelude.{◌≡◌, ℕ, ◌+◌, ◌≤◌, ◌==◌, ◌++◌, ◌∷◌, [], Some, length, map, slice_get, take};
 ghost use Rattle.std.specs.Prelude.{IfErr, IfOk};
@@ -29,16 +29,16 @@ use jc_names::{ClassName, PackagePlace};
 use std::alloc::{AllocError, Global};
 use std::marker::Model;
 
-/// What a call of an interface's method leads to.
+/// The target of an interface call.
 #[derive(Clone, Copy)]
 pub enum InterfaceCall {
-    /// No class of the object's chain lists the interface: the object isn't of it.
+    /// No class of the object's chain lists the interface: the object doesn't implement it.
     NotListed,
-    /// The nearest class that lists it says which method it is.
+    /// The nearest class that lists it gives the method.
     Listed(Called),
 }
 
-/// Where the rows of a class begin among those of all, how many there are, and the number of its superclass: 12 bytes.
+/// Where a class's rows begin among those of all classes, how many it has, and the number of its superclass: 12 bytes.
 #[derive(Clone, Copy)]
 pub(crate) struct ListingClass {
     pub(crate) start: u32,
@@ -72,7 +72,7 @@ fn rows_end(classes: &[ListingClass]) -> usize
     end
 }
 
-/// The rows of a class's own record; none where no class stands there.
+/// The rows of a class's own record; none if there is no such class.
 fn own_rows(table: &ClassTable, class: ClassName) -> &[ImplementedInterface]
     ensures { result.now ≡ own_rows table.now class }
 {
@@ -82,7 +82,7 @@ fn own_rows(table: &ClassTable, class: ClassName) -> &[ImplementedInterface]
     }
 }
 
-/// The number of the class that a reference finds in the package that stands there.
+/// The number of the class that a reference in the package at a place resolves to.
 fn number_named(
     table: &ClassTable,
     classes: &Classes,
@@ -102,7 +102,7 @@ fn superclass_number(table: &ClassTable, classes: &Classes, class: ClassName) ->
     Some(number.index())
 }
 
-/// Puts the row for an interface behind others, if the interface has a number.
+/// Appends the row for an interface, if the interface has a number.
 fn put_row(
     rows: &mut IndexRows,
     table: &ClassTable,
@@ -120,7 +120,7 @@ fn put_row(
     }
 }
 
-/// Puts the rows of a class of the package that stands there behind others.
+/// Appends the rows of a class in the package at a place.
 fn put_rows(
     rows: &mut IndexRows,
     table: &ClassTable,
@@ -138,7 +138,7 @@ fn put_rows(
     Ok(())
 }
 
-/// The virtual tokens of an interface's methods, as a class's own rows have them.
+/// The virtual tokens of an interface's methods in a class's own rows.
 #[inline]
 fn own_indexes(rows: &IndexRows, class: ListingClass, interface: u16) -> Option<&[u8]>
     requires within { class.start + class.count ≤ length rows.now }
@@ -148,7 +148,7 @@ fn own_indexes(rows: &IndexRows, class: ListingClass, interface: u16) -> Option<
     rows.find(class.start as usize, usize::from(class.count), interface)
 }
 
-/// The same, as the nearest class has them on the way up from the class with a number.
+/// The same for a class or its nearest superclass with such a row.
 #[inline]
 fn indexes_at<'a>(
     rows: &'a IndexRows,
@@ -171,7 +171,8 @@ fn indexes_at<'a>(
     None
 }
 
-/// What a class has under the virtual token at an index; nothing where it is package-visible, or none stands there.
+/// The method of a class at the virtual token listed for an interface's token; nothing if none is listed, or it is
+/// package-visible.
 #[inline]
 fn called_under(
     virtual_methods: &VirtualMethods,
@@ -193,7 +194,7 @@ fn called_under(
     }
 }
 
-/// For each class of a world the interfaces that its own record lists, and its superclass.
+/// The interfaces that each class of a world lists in its own record, and its superclass.
 #[derive(Drop)]
 pub struct InterfaceMethods {
     rows: IndexRows,
@@ -213,7 +214,7 @@ impl Model for InterfaceMethods {
 }
 
 impl InterfaceMethods {
-    /// The interfaces that these classes of a world list.
+    /// Lists the interfaces of a world's classes.
     pub fn new(
         alloc: Global,
         world: &World,
@@ -230,7 +231,7 @@ impl InterfaceMethods {
         Ok(made)
     }
 
-    /// Puts a class behind the others. Where no memory is left they are as they were.
+    /// Appends a class. On failure nothing changes.
     fn put(
         &mut self,
         table: &ClassTable,
@@ -254,7 +255,7 @@ impl InterfaceMethods {
         Ok(())
     }
 
-    /// Puts the interfaces that the other classes of a world list behind those of the first ones.
+    /// Appends the interfaces of the remaining classes of a world.
     pub(crate) fn grow(&mut self, table: &ClassTable, classes: &Classes) -> Result<(), AllocError>
         requires first { self.old ≡ map (class_interfaces table.now classes.now) (take (length self.old) classes.now) }
         requires few { length self.old ≤ length classes.now }
@@ -269,7 +270,7 @@ impl InterfaceMethods {
         Ok(())
     }
 
-    /// Keeps those of the first classes alone.
+    /// Keeps only the interfaces of the first classes.
     pub(crate) fn keep(&mut self, count: usize)
         ensures { self.new ≡ take count self.old }
     {
@@ -277,22 +278,22 @@ impl InterfaceMethods {
         self.rows.keep(rows_end(&self.classes));
     }
 
-    /// For how many classes.
+    /// How many classes it has rows for.
     pub fn len(&self) -> usize
         ensures { result ≡ length self.now }
     {
         self.classes.len()
     }
 
-    /// Whether for none.
+    /// Whether it has no classes.
     pub fn is_empty(&self) -> bool
         ensures { result ≡ (length self.now == 0) }
     {
         self.classes.len() == 0
     }
 
-    /// What a call of the method with a token of the interface with a number leads to, for an object of the class with
-    /// a number. A number of no class lists nothing.
+    /// The target of a call of an interface's method by its token, for an object of the class with a number. A number
+    /// that no class has lists nothing.
     #[inline]
     pub fn interface_method(
         &self,

@@ -1,4 +1,4 @@
-//! What holds of a world's classes and of a program's tables.
+//! Theorems about a world's classes and a program's tables.
 
 ghost use Rattle.std.specs.Prelude.{◌≡◌, ◌||◌, ℕ, List, None, Some, false, slice_get};
 ghost use Rattle.jc_api.specs.declared.class.ApiClass.TheVariants.{Object};
@@ -21,16 +21,16 @@ ghost use Rattle.jc_names.specs.declared.name.ClassName.TheVariants.{Api};
 use jc_classes::found_subtypes_are_subtypes;
 use jc_link::{built_worlds_are_sound, built_worlds_stand_on_the_api};
 
-/// Handlers whose pcs count in the code cover what their rows cover.
+/// An exception handler, whose pcs count from the start of the code, covers what its row in the package covers.
 #[tactic(auto, using(crate::proofs::Covering::covers_same))]
 pub fn loaded_handlers_cover_the_same()
     ensures { (world : List Shape) (number : ℕ) (body : LinkedBody) (code_offset : ℕ) (h : Handler)
         → CoversSame world number body code_offset h }
 {}
 
-/// Each class that is looked up in a world has a number, and each number is that of a class that is there. A package
-/// behind the others leaves the numbers as they are. In a world that is built the number of Object is 0. In any list of
-/// names the one at a class's number is the class's.
+/// Each class of a world whose offset has 16 bits has a number, and each number is that of a class of the world.
+/// Appending a package keeps the numbers. In a built world, the number of Object is 0. In any list of names, a class's
+/// number leads to its name.
 pub fn classes_have_numbers()
     ensures numbers { (world : List Shape) → HaveNumbers world }
     ensures object { (world : List Shape) → IsBuilt world → class_number (class_names world) (Api Object) ≡ Some 0 }
@@ -39,7 +39,7 @@ pub fn classes_have_numbers()
         → class_number names c ≡ Some n → slice_get names n ≡ Some c }
 {}
 
-/// In a world that is built no member of the API has a package-visible token.
+/// In a built world, no member of the API has a package-visible token.
 #[tactic(auto, using(crate::proofs::Tokening::public_tokens))]
 pub fn api_tokens_are_public()
     ensures { (world : List Shape) → IsBuilt world → HavePublicTokens world }
@@ -47,14 +47,14 @@ pub fn api_tokens_are_public()
     built_worlds_stand_on_the_api();
 }
 
-/// What the tables of a world answer by number and name.
+/// The tables of a world answer look-ups by number and name correctly.
 #[tactic(auto, using(crate::proofs::Following::follows))]
 pub fn program_laws()
     ensures { (w : World) (p : Program) → IsProgramOf w p → AnswersFor w p }
 {}
 
-/// In a world that is built, what is above a class by its supertypes is above it by superclasses, unless it is an
-/// interface.
+/// In a built world, a class that isn't an interface is a supertype of another if and only if it is that class, one of
+/// its superclasses, or Object.
 pub fn class_subtypes_are_below()
     ensures { (world : List Shape) → IsSmall world → IsBuilt world → (c d : ClassName)
         → is_interface_at world d ≡ false → is_class_below world c d ≡ is_subtype world c d }
@@ -63,7 +63,7 @@ pub fn class_subtypes_are_below()
     found_subtypes_are_subtypes();
 }
 
-/// A class that isn't there is below itself and Object, and below no other.
+/// A name without a class is below itself and Object, and below no other class.
 pub fn unknown_classes_are_below_themselves()
     ensures { (world : List Shape) (c : ClassName) → class_at world c ≡ None → (d : ClassName)
         → is_subtype world c d ≡ (is_same_name (Api Object) d || is_same_name c d) }

@@ -1,4 +1,4 @@
-//! What a machine runs of loaded packages, one step from a name to what it names.
+//! The tables with which a machine runs loaded packages: methods, constant pools and classes, by number and by name.
 #![tactic(auto)]
 
 mod bit_row;

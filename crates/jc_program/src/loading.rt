@@ -1,4 +1,4 @@
-//! The methods of packages, put one behind the other.
+//! Loads the methods of packages into one list.
 
 ghost use Rattle.std.specs.Prelude.{◌≡◌, ◌≤◌, true, [], ◌∷◌, ◌++◌, length, map, take, is_some, Some, IfErr, IfOk};
 ghost use Rattle.jc_link.specs.Linked.{IsKnown, IsResolved};
@@ -22,7 +22,7 @@ fn header_at(table: &ClassTable, package: u8, offset: u16) -> Option<MethodHeade
     declared.method.header()
 }
 
-/// Puts a method behind others.
+/// Appends a method.
 fn put_method(
     alloc: Global,
     loaded: &mut Methods,
@@ -49,7 +49,7 @@ fn put_method(
     )
 }
 
-/// Puts methods of a package behind others.
+/// Appends methods of a package.
 fn put_methods(
     alloc: Global,
     loaded: &mut Methods,
@@ -70,7 +70,7 @@ fn put_methods(
     Ok(())
 }
 
-/// Puts the methods of a package behind others.
+/// Appends all methods of a package.
 #[tactic(auto, using(crate::proofs::Known::have_headers))]
 pub(crate) fn put_package(
     alloc: Global,
@@ -89,7 +89,7 @@ pub(crate) fn put_package(
     put_methods(alloc, loaded, table, package, body, &kept.methods)
 }
 
-/// Puts the methods of all loaded packages behind others.
+/// Loads the methods of all loaded packages into an empty list.
 pub(crate) fn put_all(alloc: Global, loaded: &mut Methods, world: &World) -> Result<(), AllocError>
     requires first { loaded.old ≡ [] }
     ensures { IfOk result (λ u. AreLoaded world.now loaded.new) }

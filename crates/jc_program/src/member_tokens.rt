@@ -11,10 +11,10 @@ use jc_names::ClassName;
 use std::alloc::{AllocError, Global};
 use std::marker::Model;
 
-/// One more than the greatest number of a member.
+/// One more than the greatest member number.
 const MEMBERS: u8 = 56;
 
-/// Where a member stands among the public methods of a class.
+/// The place of a member among the public methods of a class.
 fn place_in(found: &Class, member: u8) -> Option<usize>
     ensures { result ≡ place_in member found.now }
 {
@@ -25,7 +25,7 @@ fn place_in(found: &Class, member: u8) -> Option<usize>
         .position(|entry| *entry == number)
 }
 
-/// Where the member with a number stands among the public methods of its class.
+/// The place of the member with a number among the public methods of its class.
 fn member_place(table: &ClassTable, member: u8) -> Option<usize>
     ensures { result ≡ member_place table.now member }
 {
@@ -43,7 +43,8 @@ fn token_of(place: usize) -> Result<u8, AllocError>
     }
 }
 
-/// The token of the member with a number, if it has one: tables of the API's classes begin at token 0.
+/// The token of the member with a number, if it has one: it is the member's place, since tables of the API's classes
+/// begin at token 0.
 fn member_token(table: &ClassTable, member: u8) -> Result<Option<u8>, AllocError>
     ensures { IfOk result (λ token. token ≡ member_place table.now member) }
 {
@@ -65,7 +66,7 @@ fn tokens_of(alloc: Global, table: &ClassTable) -> Result<Vec<Option<u8>>, Alloc
     Ok(tokens)
 }
 
-/// For each member of the API its token among the virtual methods of its class.
+/// The token of each member of the API among the virtual methods of its class.
 #[derive(Drop)]
 pub struct MemberTokens {
     tokens: Vec<Option<u8>>,
@@ -90,7 +91,7 @@ impl MemberTokens {
         Ok(MemberTokens { tokens })
     }
 
-    /// The token of the member with a number; none where no member has the number, or it isn't virtual.
+    /// The token of the member with a number; none if no member has the number, or it isn't virtual.
     #[inline]
     pub fn token(&self, member: u16) -> Option<u8>
         ensures { result ≡ token_at self.now member }

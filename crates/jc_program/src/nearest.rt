@@ -1,4 +1,4 @@
-//! The nearest class above a class, of those that are known.
+//! The nearest superclass of a class among the known classes.
 
 ghost use Rattle.std.specs.Prelude.{◌≡◌, ◌≢◌, ℕ, true, IfOk};
 ghost use Rattle.jc_classes.specs.Methods.{FindsAbove};
@@ -12,15 +12,15 @@ use jc_classes::ClassTable;
 use jc_names::ClassName;
 use std::alloc::AllocError;
 
-/// The number of the nearest known class above a class, if there is one, and whether the class has its package-visible
-/// methods.
+/// The number of the nearest known superclass of a class, if it has one, and whether the class has the package-visible
+/// methods of this superclass.
 #[derive(Clone, Copy)]
 pub(crate) struct Nearest {
     pub(crate) number: Option<u16>,
     pub(crate) shares: bool,
 }
 
-/// Whether other packages than a class's own find the package-visible methods of a class of the same package by its
+/// Whether `at` is in the package of `class`, and packages other than this one find its package-visible methods in its
 /// superclass.
 fn passes_others(table: &ClassTable, class: ClassName, at: ClassName) -> bool
     ensures { result ≡ true → (asker : ℕ) → home_of class ≢ asker → FindsAbove table.now at asker }
@@ -28,7 +28,7 @@ fn passes_others(table: &ClassTable, class: ClassName, at: ClassName) -> bool
     at.home().index() == class.home().index() && table.others_find_above(at)
 }
 
-/// Whether classes share their package-visible methods, and one more does so with its superclass.
+/// Whether `shares` is true, and every package finds the package-visible methods of `at` in its superclass.
 fn still_shares(table: &ClassTable, at: ClassName, shares: bool) -> bool
     ensures before { result ≡ true → shares ≡ true }
     ensures all { result ≡ true → (asker : ℕ) → FindsAbove table.now at asker }
@@ -36,8 +36,8 @@ fn still_shares(table: &ClassTable, at: ClassName, shares: bool) -> bool
     shares && table.all_find_above(at)
 }
 
-/// The nearest class above a class, of so many classes, the first. It is the superclass, unless that stands behind
-/// them: then it is found from the superclass on, which is of the same package.
+/// The nearest superclass of a class among the first `count` classes: the superclass itself, unless its number is
+/// greater. Then the search continues from the superclass, which is in the same package.
 pub(crate) fn nearest_above(
     table: &ClassTable,
     classes: &Classes,

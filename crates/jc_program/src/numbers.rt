@@ -1,4 +1,4 @@
-//! Tables of the numbers of methods, by their names.
+//! Tables of the numbers of methods and classes, by their names.
 
 ghost use Rattle.std.specs.Prelude.{◌≡◌, ℕ, ◌==◌, ◌&&◌, ◌<◌, None, Some, is_some, if◌then◌else◌, length, IfErr, IfOk};
 ghost use Rattle.std.specs.Option.{option_or};
@@ -41,7 +41,7 @@ impl NumberCell {
         NumberCell { held: number + 1 }
     }
 
-    /// Whether it is a number below another one.
+    /// Whether it is a number below `count`.
     fn is_below(&self, count: usize) -> bool
         ensures { result ≡ is_some (below count self.now) }
     {
@@ -51,7 +51,7 @@ impl NumberCell {
         }
     }
 
-    /// Takes the number away, if it isn't below another one.
+    /// Removes the number, unless it is below `count`.
     fn forget(&mut self, count: usize)
         ensures { self.new ≡ below count self.old }
     {
@@ -73,7 +73,7 @@ impl NumberCell {
     }
 }
 
-/// The numbers of the methods of one package, by their offsets.
+/// The numbers of the methods or classes of one package, by their offsets.
 #[derive(Drop)]
 pub(crate) struct OffsetTable {
     places: Vec<NumberCell>,
@@ -87,7 +87,7 @@ impl Model for OffsetTable {
     ghost view = { λ t. t.places.items };
 }
 
-/// Makes room for an offset.
+/// Extends a table so that it has the offset.
 fn make_room(places: &mut Vec<NumberCell>, offset: usize) -> Result<(), AllocError>
     ensures long { IfOk result (λ u. offset < length places.new.items) }
     ensures same { (i : ℕ) → place_at places.new.items i ≡ place_at places.old.items i }
@@ -98,7 +98,7 @@ fn make_room(places: &mut Vec<NumberCell>, offset: usize) -> Result<(), AllocErr
     Ok(())
 }
 
-/// Puts a number at an offset, where none is there.
+/// Stores a number at an offset, unless it has one already.
 fn put_first(places: &mut Vec<NumberCell>, offset: usize, number: u32) -> Result<(), AllocError>
     requires few { number < 0xFFFF_FFFF }
     ensures done { IfOk result (λ u. (i : ℕ) → place_at places.new.items i
@@ -113,7 +113,7 @@ fn put_first(places: &mut Vec<NumberCell>, offset: usize, number: u32) -> Result
     Ok(())
 }
 
-/// Takes away the numbers from one on.
+/// Removes the numbers from `count` on.
 fn forget_places(places: &mut Vec<NumberCell>, count: usize)
     ensures { (i : ℕ) → place_at places.new.items i ≡ below count (place_at places.old.items i) }
 {
@@ -123,7 +123,7 @@ fn forget_places(places: &mut Vec<NumberCell>, count: usize)
 }
 
 impl OffsetTable {
-    /// No number.
+    /// Creates a table without numbers.
     fn new(alloc: Global) -> OffsetTable
         ensures { (i : ℕ) → place_at result i ≡ None }
     {
@@ -140,7 +140,7 @@ impl OffsetTable {
         self.places.get(offset)?.number()
     }
 
-    /// Puts a number at an offset, where none is there.
+    /// Stores a number at an offset, unless it has one already.
     fn put(&mut self, offset: usize, number: u32) -> Result<(), AllocError>
         requires few { number < 0xFFFF_FFFF }
         ensures done { IfOk result (λ u. (i : ℕ) → place_at self.new i
@@ -150,7 +150,7 @@ impl OffsetTable {
         put_first(&mut self.places, offset, number)
     }
 
-    /// Takes away the numbers from one on.
+    /// Removes the numbers from `count` on.
     fn forget(&mut self, count: usize)
         ensures { (i : ℕ) → place_at self.new i ≡ below count (place_at self.old i) }
     {
@@ -158,7 +158,7 @@ impl OffsetTable {
     }
 }
 
-/// The number of the method at an offset of a package.
+/// The number at an offset of a package.
 #[inline]
 pub(crate) fn number_in(tables: &[OffsetTable], package: usize, offset: usize) -> Option<u32>
     ensures { result ≡ number_in tables.now «package» offset }
@@ -166,7 +166,7 @@ pub(crate) fn number_in(tables: &[OffsetTable], package: usize, offset: usize) -
     tables.get(package)?.at(offset)
 }
 
-/// Makes room for a package.
+/// Adds tables until the package has one.
 fn make_package(
     alloc: Global,
     tables: &mut Vec<OffsetTable>,
@@ -181,7 +181,7 @@ fn make_package(
     Ok(())
 }
 
-/// Puts a number at an offset of a package, where none is there.
+/// Stores a number at an offset of a package, unless it has one already.
 pub(crate) fn put_number(
     alloc: Global,
     tables: &mut Vec<OffsetTable>,
@@ -200,7 +200,7 @@ pub(crate) fn put_number(
     Ok(())
 }
 
-/// Takes away the numbers from one on.
+/// Removes the numbers from `count` on.
 pub(crate) fn forget_numbers(tables: &mut Vec<OffsetTable>, count: usize)
     ensures { (p i : ℕ) → number_in tables.new.items p i ≡ below count (number_in tables.old.items p i) }
 {

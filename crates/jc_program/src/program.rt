@@ -17,7 +17,7 @@ use jc_classes::growing_keeps_lookups;
 use jc_link::{World, built_worlds_are_sound, growing_keeps_linking};
 use std::alloc::{AllocError, Global};
 
-/// What a machine runs of a world: its methods and entries by number, and what it asks of a class by its number.
+/// All that a machine uses of a world: its methods and constant pool entries by number, and its classes by number.
 #[derive(Drop)]
 pub struct Program {
     pub methods: Methods,
@@ -31,7 +31,7 @@ pub struct Program {
     pub member_tokens: MemberTokens,
 }
 
-/// How many methods, pools of constants and classes a program has.
+/// How many methods, constant pools and classes a program has.
 #[derive(Clone, Copy, Debug)]
 pub struct ProgramSize {
     pub methods: usize,
@@ -40,7 +40,7 @@ pub struct ProgramSize {
 }
 
 impl Program {
-    /// All tables of a world.
+    /// Creates all tables of a world.
     #[tactic(auto, using(crate::proofs::Interfacing::are_interface_calls))]
     pub fn new(alloc: Global, world: &World) -> Result<Program, AllocError>
         ensures { IfOk result (λ program. IsProgramOf world.now program) }
@@ -67,7 +67,7 @@ impl Program {
         })
     }
 
-    /// How large it is.
+    /// Its size.
     pub fn size(&self) -> ProgramSize
         ensures { result ≡ program_size self.now }
     {
@@ -78,8 +78,8 @@ impl Program {
         }
     }
 
-    /// Puts the tables of the last package of a world behind these, which are those of the world without it. Where no
-    /// memory is left they begin with what they were: so much of it can be kept.
+    /// Appends the tables of a world's last package to those of the world without it. On failure, the tables still
+    /// begin with those of before, so `take_back` restores them.
     pub fn grow(&mut self, alloc: Global, world: &World) -> Result<(), AllocError>
         requires grown { IsGrownFrom self.old world.now }
         ensures done { IfOk result (λ u. IsProgramOf world.now self.new) }
@@ -89,7 +89,7 @@ impl Program {
         growing_keeps_linking();
         built_worlds_are_sound();
         let table = world.table();
-        // Only its contract counts: what always holds of a table.
+        // Called only for its contract: what always holds of a table.
         let _count = table.len();
         let bodies = world.bodies();
         let body = &bodies[bodies.len() - 1];
@@ -106,7 +106,7 @@ impl Program {
         Ok(())
     }
 
-    /// Keeps so much of it, the first.
+    /// Reduces it to the first methods, pools and classes.
     pub fn take_back(&mut self, size: ProgramSize)
         ensures { self.new ≡ first_tables self.old size }
     {

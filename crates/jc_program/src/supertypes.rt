@@ -1,4 +1,4 @@
-//! What the classes of a world are below, by number.
+//! The supertypes of a world's classes, by number.
 
 ghost use Rattle.std.specs.Prelude.{◌≡◌, ℕ, ◌+◌, ◌<◌, ◌≤◌, ◌==◌, ◌&&◌, ◌||◌, ◌++◌, length, map};
 ghost use Rattle.std.specs.Prelude.{take, Some, IfOk};
@@ -27,10 +27,10 @@ use jc_names::ClassName;
 use std::alloc::{AllocError, Global};
 use std::marker::Model;
 
-/// What is above all classes and interfaces.
+/// The supertype of all classes and interfaces.
 const OBJECT: ClassName = ClassName::Api(ApiClass::Object);
 
-/// The number of a class. Of the classes of a world, and of those right above them, each has one.
+/// The number of a class. Each class of a world has one, as do its superclass and its interfaces.
 pub(crate) fn number_of(classes: &Classes, class: ClassName) -> Result<u16, AllocError>
     ensures { IfOk result (λ number. class_number classes.now class ≡ Some number) }
 {
@@ -40,7 +40,7 @@ pub(crate) fn number_of(classes: &Classes, class: ClassName) -> Result<u16, Allo
     }
 }
 
-/// Puts the number of a class behind others, if there is one.
+/// Appends the number of a class, if there is a class.
 fn put_above(
     numbers: &mut Vec<u16>,
     classes: &Classes,
@@ -58,7 +58,7 @@ fn put_above(
     }
 }
 
-/// The interface that a reference of a class's record finds.
+/// The interface that a reference of a class's record resolves to.
 fn interface_named(
     table: &ClassTable,
     lister: ClassName,
@@ -81,7 +81,7 @@ fn listed_count(found: &Class) -> usize
     }
 }
 
-/// Puts the numbers of the interfaces that a class's record lists behind others.
+/// Appends the numbers of the interfaces that a class's record lists.
 #[tactic(auto, using(crate::proofs::Climbing::numbers_more, crate::proofs::Climbing::numbers_all))]
 fn put_listed(
     numbers: &mut Vec<u16>,
@@ -101,7 +101,7 @@ fn put_listed(
     Ok(())
 }
 
-/// Puts the numbers of the interfaces that a class lists behind others.
+/// Appends the numbers of the interfaces that a class lists.
 #[tactic(auto, using(crate::proofs::Climbing::none_listed))]
 fn put_interfaces(
     numbers: &mut Vec<u16>,
@@ -118,7 +118,7 @@ fn put_interfaces(
     }
 }
 
-/// The numbers of a class, and of what stands right above it: its superclass and the interfaces that it lists.
+/// The numbers of a class, its superclass and the interfaces that it lists.
 fn above_of(
     alloc: Global,
     table: &ClassTable,
@@ -134,7 +134,7 @@ fn above_of(
     Ok(NumberList::new(numbers))
 }
 
-/// The numbers of what stands right above each class from one on.
+/// The same numbers for each class from `first` on.
 fn lists_above(
     alloc: Global,
     table: &ClassTable,
@@ -154,7 +154,7 @@ fn lists_above(
     Ok(lists)
 }
 
-/// Puts a number into a row, if it is to be put there.
+/// Puts a number into a row, if `passes` is true.
 fn put_if(row: &mut BitRow, passes: bool, number: u16) -> Result<(), AllocError>
     ensures { IfOk result (λ u. (m : ℕ) → has_bit row.new m ≡ (has_bit row.old m || (passes && m == number))) }
 {
@@ -164,7 +164,7 @@ fn put_if(row: &mut BitRow, passes: bool, number: u16) -> Result<(), AllocError>
     Ok(())
 }
 
-/// The numbers of Object.
+/// The row with the numbers of Object.
 #[tactic(auto, using(crate::proofs::Climbing::objects_none))]
 fn objects_of(alloc: Global, classes: &Classes) -> Result<BitRow, AllocError>
     ensures { IfOk result (HasObjects classes.now (length classes.now)) }
@@ -187,7 +187,7 @@ fn copy_of(alloc: Global, row: &BitRow) -> Result<BitRow, AllocError>
     Ok(copy)
 }
 
-/// So many rows with the same numbers.
+/// `count` rows with the same numbers.
 fn copies_of(alloc: Global, row: &BitRow, count: usize) -> Result<Vec<BitRow>, AllocError>
     ensures count { IfOk result (λ rows. length rows.items ≡ count) }
     ensures alike { IfOk result (λ rows. (k m : ℕ) → k < count → is_listed rows.items k m ≡ has_bit row.now m) }
@@ -199,7 +199,7 @@ fn copies_of(alloc: Global, row: &BitRow, count: usize) -> Result<Vec<BitRow>, A
     Ok(rows)
 }
 
-/// Puts a number into the row of a class, if it is among these. The first row is that of the class with a number.
+/// Puts a number into the row of a class, if it is among these rows, whose first is that of class `first`.
 fn put_own(rows: &mut [BitRow], first: usize, class: u16, number: u16) -> Result<(), AllocError>
     ensures { IfOk result (λ u. IsPut first class number rows.old rows.new) }
 {
@@ -210,7 +210,7 @@ fn put_own(rows: &mut [BitRow], first: usize, class: u16, number: u16) -> Result
     Ok(())
 }
 
-/// The rows of the classes from one on, as they begin: with Object and themselves.
+/// The initial rows of the classes from `first` on: each has Object's and its own number.
 fn begun_rows(alloc: Global, classes: &Classes, first: usize) -> Result<Vec<BitRow>, AllocError>
     requires { first ≤ length classes.now }
     ensures { IfOk result (λ rows. AreBegun classes.now first (length classes.now) rows.items) }
@@ -224,7 +224,7 @@ fn begun_rows(alloc: Global, classes: &Classes, first: usize) -> Result<Vec<BitR
     Ok(rows)
 }
 
-/// The rows of the classes behind those whose rows are made: from what stands right above each.
+/// The rows of the classes after those with rows in `made`, from their superclasses and interfaces.
 fn rows_behind(
     alloc: Global,
     table: &ClassTable,
@@ -246,7 +246,7 @@ fn rows_behind(
     Ok(rows)
 }
 
-/// For each class and interface of a world those that it is below: a bit for each number.
+/// The supertypes of each class and interface of a world: a bit for each class number.
 #[derive(Drop)]
 pub struct Supertypes {
     rows: Vec<BitRow>,
@@ -261,7 +261,7 @@ impl Model for Supertypes {
 }
 
 impl Supertypes {
-    /// What these classes of a world are below.
+    /// Computes the supertypes of a world's classes.
     #[tactic(auto, using(crate::proofs::Enlarging::none_right, crate::proofs::Enlarging::none_within))]
     pub fn new(alloc: Global, world: &World, classes: &Classes) -> Result<Supertypes, AllocError>
         ensures above { IfOk result (λ rows. AreSupertypes world.now.shapes classes.now rows) }
@@ -269,14 +269,14 @@ impl Supertypes {
         ensures known { IfOk result (AreWithin (length classes.now)) }
     {
         let table = world.table();
-        // Only its contract counts: what always holds of a table.
+        // Called only for its contract: what always holds of a table.
         let _count = table.len();
         let rows = rows_behind(alloc, table, classes, &[])?;
         Ok(Supertypes { rows })
     }
 
-    /// Puts the rows of the other classes of a world behind those of the first ones: it has one package more than that
-    /// whose rows these are. Where no memory is left they are as they were.
+    /// Appends the rows of the remaining classes of a world, which has one package more than when these rows were made.
+    /// On failure nothing changes.
     pub(crate) fn grow(
         &mut self,
         alloc: Global,
@@ -291,34 +291,34 @@ impl Supertypes {
     {
         found_subtypes_are_subtypes();
         growing_keeps_lookups();
-        // Only its contract counts: what always holds of a table.
+        // Called only for its contract: what always holds of a table.
         let _count = table.len();
         let mut made = rows_behind(alloc, table, classes, &self.rows)?;
         self.rows.append(&mut made)
     }
 
-    /// Keeps those of the first classes alone.
+    /// Keeps only the rows of the first classes.
     pub(crate) fn keep(&mut self, count: usize)
         ensures { self.new ≡ take count self.old }
     {
         self.rows.truncate(count);
     }
 
-    /// For how many classes.
+    /// How many classes it has rows for.
     pub fn len(&self) -> usize
         ensures { result ≡ length self.now }
     {
         self.rows.len()
     }
 
-    /// Whether for none.
+    /// Whether it has no rows.
     pub fn is_empty(&self) -> bool
         ensures { result ≡ (length self.now == 0) }
     {
         self.rows.len() == 0
     }
 
-    /// Whether the class with a number is the other one, or below it; false where no class has it.
+    /// Whether the class with a number is the other one or below it; false if no class has the number.
     #[inline]
     #[tactic(auto, using(crate::proofs::Rowing::empty_row))]
     pub fn is_subtype(&self, number: ClassNumber, other: ClassNumber) -> bool

@@ -18,8 +18,8 @@ use jc_names::{ClassName, PackagePlace};
 use std::alloc::{AllocError, Global};
 use std::marker::Model;
 
-/// Puts a class's table for its own package behind others, and gives its number. The tables for other packages are
-/// those of a class above.
+/// Appends a class's table for its own package, and returns its number. For other packages the class has the tables of
+/// a superclass.
 fn put_table(
     alloc: Global,
     tables: &mut ChainedTables,
@@ -43,8 +43,8 @@ fn put_table(
     Ok(number)
 }
 
-/// Where the list of a class begins: it is that of a class above if it shares that one's methods, and else begins with
-/// a table of its own.
+/// The first table of a class's list: the list of a superclass, if the class shares its methods, or else one that
+/// begins with the class's own table.
 fn head_made(
     alloc: Global,
     tables: &mut ChainedTables,
@@ -69,14 +69,14 @@ fn head_made(
     Ok(Some(number))
 }
 
-/// Where the list of the class with a number begins.
+/// The first table of a class's list, by the class's number.
 fn head_of(heads: &[Option<u16>], number: Option<u16>) -> Option<u16>
     ensures { result ≡ head_of heads.now number }
 {
     number_at(heads, usize::from(number?))
 }
 
-/// How many tables there are up to the last with which a list begins.
+/// How many tables there are up to the last one that begins a list.
 fn heads_end(heads: &[Option<u16>]) -> usize
     ensures { AreHeads result heads.now }
 {
@@ -89,15 +89,15 @@ fn heads_end(heads: &[Option<u16>]) -> usize
     end
 }
 
-/// For each class of a world what its package-visible methods are: for each package in which it or a superclass
-/// declares some, by their tokens. A class has one table, for its own package, if its record declares such methods or
-/// stands in front of that of a superclass which does: at most 128 entries. All else it shares with its superclass. So
-/// memory grows with the records of classes alone, however long their chains are. A call passes at most one table for
-/// each package of the chain.
+/// The package-visible methods of each class of a world, by token, for each package in which the class or a superclass
+/// declares some. A class has one table, for its own package, if its record declares such methods or precedes that of a
+/// superclass that does: at most 128 entries. It shares all other tables with its superclass. So memory grows only with
+/// the records of classes, however long their chains are. A call visits at most one table for each package of the
+/// chain.
 #[derive(Drop)]
 pub struct VisibleMethods {
     tables: ChainedTables,
-    /// With which table the list of each class begins.
+    /// The first table of each class's list.
     heads: Vec<Option<u16>>,
 }
 
@@ -114,7 +114,7 @@ impl Model for VisibleMethods {
 }
 
 impl VisibleMethods {
-    /// The package-visible methods of these classes in a world, with these methods with code.
+    /// Looks up the package-visible methods of a world's classes, given the methods with code.
     #[tactic(auto, using(crate::proofs::Calling::none_listed_yet))]
     pub fn new(
         alloc: Global,
@@ -133,7 +133,7 @@ impl VisibleMethods {
         Ok(made)
     }
 
-    /// Puts a class behind the others.
+    /// Appends a class.
     fn put(
         &mut self,
         alloc: Global,
@@ -164,7 +164,7 @@ impl VisibleMethods {
         Ok(())
     }
 
-    /// Puts the package-visible methods of the other classes of a world behind those of the first ones.
+    /// Appends the package-visible methods of the remaining classes of a world.
     #[tactic(auto, using(crate::proofs::Showing::are_visible))]
     pub(crate) fn grow(
         &mut self,
@@ -186,7 +186,7 @@ impl VisibleMethods {
         Ok(())
     }
 
-    /// Keeps those of the first classes alone.
+    /// Keeps only the lists of the first classes.
     pub(crate) fn keep(&mut self, count: usize)
         ensures { self.new ≡ take count self.old }
     {
@@ -194,22 +194,22 @@ impl VisibleMethods {
         self.tables.keep(heads_end(&self.heads));
     }
 
-    /// For how many classes.
+    /// How many classes it has lists for.
     pub fn len(&self) -> usize
         ensures { result ≡ length self.now }
     {
         self.heads.len()
     }
 
-    /// Whether for none.
+    /// Whether it has no lists.
     pub fn is_empty(&self) -> bool
         ensures { result ≡ (length self.now == 0) }
     {
         self.heads.len() == 0
     }
 
-    /// What a call of the method with a package-visible token, from 128 on, leads to for an object of the class with a
-    /// number, where a method of the loaded package with a number makes it; nothing where no class has its number.
+    /// The target of a call at a package-visible token (from 128 on) that the loaded package with a number makes, for
+    /// an object of the class with a number; nothing if no class has the number.
     #[inline]
     #[tactic(auto, using(crate::proofs::Sharing::list_at))]
     pub fn visible_method(&self, number: ClassNumber, token: u8, package: u8) -> Called

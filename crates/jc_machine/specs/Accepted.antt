@@ -1,4 +1,4 @@
--- The worlds whose packages a machine runs: each loaded package was linked, and its code was checked.
+-- The worlds that a machine runs: each loaded package was linked, and its code was checked.
 use Rattle.std.specs.Prelude.{◌≡◌, ℕ, suc, ◌<◌, List, [], slice_get, take, false, Some, IsSome}
 use Rattle.jc_api.specs.Bound.{Bound}
 use Rattle.jc_cap.specs.declared.method_header.MethodHeader.{MethodHeader}
@@ -14,20 +14,20 @@ use Rattle.jc_names.specs.Names.{home_at}
 use Rattle.jc_machine.specs.Lookup.{body_at, code_at, declared_at}
 use Rattle.jc_machine.specs.Machine.{MethodPlace}
 
--- the world of the API's packages alone
+-- the world with only the API's packages
 abbrev pub api_alone : Bound → World
 api_alone bound = record { shapes = api_world bound; bodies = [] }
 
--- a loaded package as it was linked: the last of the world of those before it
+-- a loaded package as it was linked: the last one in a world of the packages up to it
 abbrev pub linked_as : World → ℕ → LinkedBody → Linked
 linked_as w number body = record { world = take (suc (home_at number)) w.shapes; body = body }
 
--- tokens of virtual methods in a constant pool are bytes, as they are spelled
+-- tokens of virtual methods in a constant pool are bytes
 abbrev pub HaveByteTokens : List PoolEntry → Type 0
 HaveByteTokens pool = (index : ℕ) (ref : MemberRef) → slice_get pool index ≡ Some (VirtualMethodref ref)
     → ref.token < 256
 
--- a loaded package that some certificate carries, and whose methods with code are well typed, as it was linked
+-- a loaded package that some certificate carries, and whose methods with code are well typed, as linked
 pub record IsAcceptedPackage (w : World) (number : ℕ) (body : LinkedBody) : Type 0 where
   pub tokens : HaveByteTokens body.kept.pool
   pub carried : IsPackageCarried (linked_as w number body)
@@ -38,7 +38,7 @@ abbrev pub HaveCode : World → Type 0
 HaveCode w = (place : MethodPlace) (d : DeclaredMethod) (header : MethodHeader) → declared_at w place ≡ Some d
     → d.method.header ≡ Some header → header.is_abstract ≡ false → IsSome (code_at w place)
 
--- the packages are linked, they are no more than a card holds, and each loaded one is accepted
+-- the packages are linked and within a card's limits, and each loaded package is accepted
 pub record IsAccepted (w : World) : Type 0 where
   pub world : IsWorld w
   pub small : IsSmall w.shapes

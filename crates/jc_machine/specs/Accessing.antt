@@ -1,7 +1,7 @@
 -- Which object an instruction accesses, and by which access (Java Card Virtual Machine Specification, Instruction Set;
--- Java Card Runtime Environment Specification, Class and Object Access Behavior). A table gives an instruction its row:
+-- Java Card Runtime Environment Specification, Class and Object Access Behavior). A table gives each instruction a row:
 -- the access, and the place of the reference to the object. The law says that a step lists the access of its
--- instruction's row, and behind it only those of native members that it calls, or the runtime's own.
+-- instruction's row, followed only by those of native members that it calls, or the runtime's own.
 use Rattle.std.specs.Prelude.{◌≡◌, ℕ, ◌-◌, true, List, [], ◌∷◌, ◌++◌, length, Option, Some, None, slice_get}
 use Rattle.std.specs.List.{AllByRecursion}
 use Rattle.std.specs.Option.{option_and_then}
@@ -38,7 +38,7 @@ use Rattle.jc_words.specs.Values.{Null, Ref, TaggedValue}
 
 -- ---- the table
 
--- a place in a frame: an operand by its number, where the top operand is number 0; or a local variable
+-- a place in a frame: an operand by number, where the top operand is number 0; or a local variable
 pub data FramePlace : Type 0 where
   Operand : (number : ℕ) → FramePlace
   Local : (number : ℕ) → FramePlace
@@ -72,13 +72,13 @@ names access object wanted = Some (record { access = access; object = object; st
 abbrev pub class_named : World → ℕ → ℕ → Option ClassName
 class_named w number index = option_and_then class_target (target_at w number index)
 
--- aastore, and bastore and sastore: the array lies below the index and the value
+-- aastore, bastore and sastore: the array is below the index and the value
 abbrev pub store_row : Form → Option Row
 store_row Forms.Reference = stores accesses.StoreReference (Operand 2)
 store_row Forms.Byte = uses accesses.StoreComponent (Operand 2)
 store_row Forms.Short = uses accesses.StoreComponent (Operand 2)
 
--- getfield and putfield: the object is an operand, below the value of a putfield; or it is this, in local variable 0.
+-- getfield and putfield: the object is an operand, below the value of a putfield, or `this` in local variable 0.
 -- getstatic accesses no object. putstatic accesses the object whose reference it stores
 abbrev pub field_row : FieldAction → Holder → Form → Option Row
 field_row Get Holders.Operand form = uses accesses.GetField (Operand 0)
@@ -94,12 +94,12 @@ field_row Put Holders.Class Forms.Reference = stores accesses.PutStaticReference
 field_row Put Holders.Class Forms.Byte = None
 field_row Put Holders.Class Forms.Short = None
 
--- invokevirtual: the object lies below the arguments, which are as many as the method's type has parameters
+-- invokevirtual: the object is below the arguments, one for each parameter of the method's type
 abbrev pub virtual_row : VirtualTarget → Option Row
 virtual_row target = uses accesses.InvokeVirtual (Operand (length target.signature.parameters))
 
--- the calls. invokeinterface counts its arguments, the object among them, and names the interface. The firewall has no
--- rule for invokespecial and invokestatic
+-- calls. invokeinterface counts its arguments, the object included, and names the interface. The firewall has no rule
+-- for invokespecial and invokestatic
 abbrev pub call_row : World → ℕ → Invocation → Option Row
 call_row w number (Virtual index) =
     option_and_then virtual_row (option_and_then virtual_target (target_at w number index))
@@ -114,7 +114,7 @@ cast_row w number access (Tested.Class index) = names access (Operand 0) (class_
 cast_row w number access (Tested.WordArray kind) = uses access (Operand 0)
 cast_row w number access (Tested.ReferenceArray index) = uses access (Operand 0)
 
--- the instructions on references, in the code of the package with a number
+-- the instructions on references in the code of the package with a number
 abbrev pub object_row : World → ℕ → ObjectOperation → Option Row
 object_row w number objects.PushNull = None
 object_row w number (objects.Load local) = None
@@ -132,14 +132,14 @@ object_row w number objects.Throw = uses accesses.Throw (Operand 0)
 object_row w number objects.ReturnReference = None
 object_row w number objects.ReturnVoid = None
 
--- all instructions: one on words accesses no object
+-- all instructions: those on words access no object
 abbrev pub row_of : {C : Type 0} → Surroundings C → Machine C → Operation → Option Row
 row_of s m (operations.Word operation) = None
 row_of s m (operations.Object operation) = object_row s.world m.top.method.number operation
 
 -- ---- the accesses of a step
 
--- an access is by a row: the code makes it, it is the row's access, to the object whose reference is at the row's
+-- an access matches a row: the code makes it, it is the row's access, to the object whose reference is at the row's
 -- place, and it stores and names what the row says
 pub record IsByRow (f : Frame) (row : Row) (t : Touch) : Type 0 where
   pub by : t.by ≡ ByCode
@@ -148,16 +148,16 @@ pub record IsByRow (f : Frame) (row : Row) (t : Touch) : Type 0 where
   pub stored : t.stored ≡ option_and_then (value_at f) row.stored
   pub wanted : t.wanted ≡ row.wanted
 
--- the accesses of what a native member calls, by how that native member ends: it calls nothing, or a method of a
--- package; or it calls a native member of an object, which accesses that object alone
+-- the accesses of what a native member calls: none if it calls nothing, or a method of a package; if it calls a native
+-- member of an object, that one accesses only that object
 pub data AreCalledBack (ends : NativeEnd) : List Touch → Type 0 where
   no_native : AreCalledBack ends []
   of_receiver : (callback : Callback) (touches : List Touch) → ends ≡ Calls callback
       → AllByRecursion (IsOfReceiver callback.object) touches → AreCalledBack ends touches
 
--- the accesses behind the one by the instruction's row: none; of an instruction that creates an object, the runtime's
--- own, to its SystemException; of a call, those of a native member that may begin, and behind them those of what this
--- member calls. That the instruction calls this member isn't said
+-- the accesses after the one of the instruction's row: none; for an instruction that creates an object, the runtime's
+-- own, to its SystemException; for a call, those of a native member that may begin, followed by those of what this
+-- member calls. That the instruction calls this member isn't stated
 pub data AreFurther {C : Type 0} (s : Surroundings C) (m : Machine C) : Operation → List Touch → Type 0 where
   none : (operation : Operation) → AreFurther s m operation []
   by_runtime : (creation : Creation)
@@ -169,8 +169,8 @@ pub data AreFurther {C : Type 0} (s : Surroundings C) (m : Machine C) : Operatio
       → AreFurther s m (operations.Object (objects.Invoke invocation))
       ((frame_answer s m member arguments).touches ++ called)
 
--- the accesses of a step with an outcome: first the one by the instruction's row. It is missing only where the
--- instruction has no row, where the reference is null, and where the machine is stuck
+-- the accesses of a step with an outcome: first, the one of the instruction's row. It is missing only if the
+-- instruction has no row, the reference is null, or the machine is stuck
 pub data AreOwn {C : Type 0} (s : Surroundings C) (m : Machine C) (outcome : Outcome C) : List Touch → Type 0 where
   by_row : (operation : Operation) (row : Row) (t : Touch) (further : List Touch) → StandsAt s m operation
       → row_of s m operation ≡ Some row → IsByRow m.top row t → AreFurther s m operation further
@@ -181,6 +181,6 @@ pub data AreOwn {C : Type 0} (s : Surroundings C) (m : Machine C) (outcome : Out
       → value_at m.top row.object ≡ Some Null → AreOwn s m outcome []
   where_stuck : outcome ≡ Stuck → AreOwn s m outcome []
 
--- the law, of one step
+-- the law for one step
 abbrev pub AccessesAreOwn : {C : Type 0} → Surroundings C → Machine C → Type 0
 AccessesAreOwn s m = AreOwn s m (defensive_step s m).outcome (defensive_step s m).touches

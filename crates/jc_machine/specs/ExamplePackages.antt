@@ -1,5 +1,5 @@
--- Two packages for the examples of the defensive machine: a server with a shareable interface, and a client that calls
--- it.
+-- Packages for the examples of the defensive machine: among them, a server with a shareable interface, and a client
+-- that calls it.
 use Rattle.std.specs.Prelude.{ℕ, ◌+◌, Bool, true, false, List, [], ◌∷◌, Some, None}
 use Rattle.jc_api.specs.Bound.{default_framework, default_lang}
 use Rattle.jc_base.specs.Signature.{Signature}
@@ -35,7 +35,7 @@ shareable_ref = External 0 0
 abbrev pub takes : List (DeclaredType ClassRef) → Signature ClassRef
 takes parameters = record { parameters = parameters; result = Value Short }
 
--- a method that gives a short, with so many locals beside its arguments, and operands
+-- a method that returns a short, with this many locals beside its arguments, and operands
 abbrev pub a_method : ℕ → ℕ → Bool → List (DeclaredType ClassRef) → ℕ → ℕ → ℕ → MethodShape
 a_method offset token is_static parameters nargs max_locals max_stack = record {
   token = token;
@@ -80,8 +80,8 @@ a_package number imports exports classes pool methods = record {
   };
 }
 
--- ---- the server: the shareable interface Service with a method; Base with a field and the method value; and below it
--- Derived, which overrides it, and Failing, whose value divides by zero in a method that it calls
+-- ---- the server: the shareable interface Service with a method; Base with a field and the method value; its
+-- subclasses Derived, which overrides value, and Failing, whose value calls a method that divides by zero
 
 abbrev pub service : ClassShape
 service = record {
@@ -107,11 +107,11 @@ abbrev pub failing : ClassShape
 failing =
     a_class 50 (Internal 10) 0 (40 ∷ []) serves [] (a_method 40 1 false [] 1 0 1 ∷ a_method 60 0 true [] 0 0 2 ∷ [])
 
--- Owning, below Base too, whose value is its own field
+-- Owning, another subclass of Base, whose value is its own field
 abbrev pub owning : ClassShape
 owning = a_class 90 (Internal 10) 0 (140 ∷ []) serves [] (a_method 140 1 false [] 1 0 1 ∷ [])
 
--- a class of static methods on a Base
+-- a class of static methods that take a Base
 abbrev pub callers : ClassShape
 callers = a_class 70 object_ref 0 [] [] [] (
     a_method 80 0 true (Reference (Internal 10) ∷ []) 1 0 1 ∷ a_method 100 1 true (Reference (Internal 10) ∷ []) 1 0 1
@@ -126,15 +126,15 @@ server = a_package 1 (default_framework ∷ default_lang ∷ [])
     ∷ StaticMethodref (places.Internal 60) ∷ StaticMethodref (places.Internal 120) ∷ [])
     (code 1 (0x04 ∷ 0x78 ∷ []) []  -- Base.value: 1
     ∷ code 20 (0x05 ∷ 0x78 ∷ []) []  -- Derived.value: 2
-    ∷ code 40 (0x8D ∷ 0 ∷ 2 ∷ 0x78 ∷ []) []  -- Failing.value: what the next gives
+    ∷ code 40 (0x8D ∷ 0 ∷ 2 ∷ 0x78 ∷ []) []  -- Failing.value: the result of the next method
     ∷ code 60 (0x04 ∷ 0x03 ∷ 0x47 ∷ 0x78 ∷ []) []  -- 1 / 0
-    ∷ code 80 (0x18 ∷ 0x8B ∷ 0 ∷ 0 ∷ 0x78 ∷ []) []  -- value of the argument
-    ∷ code 100 (0x18 ∷ 0x85 ∷ 1 ∷ 0x78 ∷ []) []  -- its field
+    ∷ code 80 (0x18 ∷ 0x8B ∷ 0 ∷ 0 ∷ 0x78 ∷ []) []  -- the argument's value
+    ∷ code 100 (0x18 ∷ 0x85 ∷ 1 ∷ 0x78 ∷ []) []  -- the argument's field
     ∷ code 120 (0x8D ∷ 0 ∷ 3 ∷ 0x78 ∷ []) []  -- calls itself without end
     ∷ code 140 (0xAF ∷ 1 ∷ 0x78 ∷ []) []  -- Owning.value: its field
     ∷ [])
 
--- ---- the client: static methods on an object of another package
+-- ---- the client: static methods that take an object of another package
 
 abbrev pub clients : ClassShape
 clients = a_class 0 (External 0 0) 0 [] [] [] (
@@ -145,24 +145,24 @@ clients = a_class 0 (External 0 0) 0 [] [] [] (
 abbrev pub client : Package
 client = a_package 2 (default_lang ∷ info 1 ∷ []) [] (clients ∷ [])
     (Classref (External 1 0) ∷ InstanceFieldref (record { class = External 1 1; token = 0 }) ∷ [])
-    (code 1 (0x18 ∷ 0x8E ∷ 1 ∷ 0 ∷ 0 ∷ 0 ∷ 0x78 ∷ []) []  -- the service of the argument
-    ∷ code 20 (0x18 ∷ 0x8E ∷ 1 ∷ 0 ∷ 0 ∷ 0 ∷ 0x78 ∷ 0x3B ∷ 0x08 ∷ 0x78 ∷ [])  -- the same, or 5 where it throws
+    (code 1 (0x18 ∷ 0x8E ∷ 1 ∷ 0 ∷ 0 ∷ 0 ∷ 0x78 ∷ []) []  -- the argument's service
+    ∷ code 20 (0x18 ∷ 0x8E ∷ 1 ∷ 0 ∷ 0 ∷ 0 ∷ 0x78 ∷ 0x3B ∷ 0x08 ∷ 0x78 ∷ [])  -- the same, or 5 if it throws
     (record { start = 22; active_length = 7; handler = 29; catch_type = 0 } ∷ [])
-    ∷ code 40 (0x18 ∷ 0x85 ∷ 1 ∷ 0x78 ∷ []) []  -- its field
-    -- the service, or its field where that throws
+    ∷ code 40 (0x18 ∷ 0x85 ∷ 1 ∷ 0x78 ∷ []) []  -- the argument's field
+    -- the service, or its field if the service throws
     ∷ code 60 (0x18 ∷ 0x8E ∷ 1 ∷ 0 ∷ 0 ∷ 0 ∷ 0x78 ∷ 0x3B ∷ 0x18 ∷ 0x85 ∷ 1 ∷ 0x78 ∷ [])
     (record { start = 62; active_length = 7; handler = 69; catch_type = 0 } ∷ [])
     ∷ [])
 
--- ---- a package of code that no check would accept, and of code that throws: Probe's static methods, each for one end,
--- and Open, whose method is abstract; and Mistaken, whose row for the interface Asked leads to Object's equals, which
--- takes no short
+-- ---- a package with code that no check would accept, and code that throws: Probe's static methods, one for each end;
+-- Open, whose method is abstract; and Mistaken, whose row for the interface Asked leads to Object's equals, which
+-- doesn't take a short
 
 abbrev pub probes : List ℕ → List MethodShape
 probes [] = []
 probes (offset ∷ offsets) = a_method offset 0 true [] 0 1 4 ∷ probes offsets
 
--- one that takes an object
+-- a probe that takes an object
 abbrev pub probe_of : ℕ → MethodShape
 probe_of offset = a_method offset 0 true (Reference object_ref ∷ []) 1 0 2
 
@@ -202,37 +202,38 @@ probe = a_package 1 (default_framework ∷ default_lang ∷ []) []
     (Classref (Internal 0) ∷ VirtualMethodref (record { class = Internal 30; token = 1 })
     ∷ StaticMethodref (places.Internal 230) ∷ StaticMethodref (places.Internal 140) ∷ Classref (Internal 50)
     ∷ StaticMethodref (places.Internal 270) ∷ [])
-    (code 1 (0x04 ∷ 0x04 ∷ 0x78 ∷ []) []  -- an operand more than the one that it may have
+    (code 1 (0x04 ∷ 0x04 ∷ 0x78 ∷ []) []  -- one operand more than it may have
     ∷ code 10 (0x78 ∷ []) []  -- an operand is missing
     ∷ code 20 (0x1C ∷ 0x78 ∷ []) []  -- local 0 was never written
     ∷ code 30 (0x70 ∷ 1 ∷ []) []  -- a branch into itself
-    ∷ code 40 (0x8D ∷ 0 ∷ 9 ∷ 0x78 ∷ []) []  -- no entry of the pool
-    ∷ code 50 (0x01 ∷ 0x77 ∷ []) []  -- a reference from a method that gives a short
+    ∷ code 40 (0x8D ∷ 0 ∷ 9 ∷ 0x78 ∷ []) []  -- a missing entry of the pool
+    ∷ code 50 (0x01 ∷ 0x77 ∷ []) []  -- a method that returns a short returns a reference
     ∷ code 60 (0x02 ∷ 0x90 ∷ 11 ∷ 0x92 ∷ 0x78 ∷ []) []  -- an array of -1 bytes
     ∷ code 70 (0x04 ∷ 0x90 ∷ 11 ∷ 0x04 ∷ 0x25 ∷ 0x78 ∷ []) []  -- component 1 of an array of 1
     ∷ code 80 (0x11 ∷ 0x7F ∷ 0xFF ∷ 0x90 ∷ 12 ∷ 0x92 ∷ 0x78 ∷ []) []  -- an array that is too long for the card
     -- 12FF as a byte
     ∷ code 100 (0x04 ∷ 0x90 ∷ 11 ∷ 0x3D ∷ 0x03 ∷ 0x11 ∷ 0x12 ∷ 0xFF ∷ 0x38 ∷ 0x03 ∷ 0x25 ∷ 0x78 ∷ []) []
     ∷ code 120 (0x02 ∷ 0x04 ∷ 0x51 ∷ 0x78 ∷ []) []  -- -1 shifted by one, zeros before it
-    ∷ code 130 (0x8D ∷ 0 ∷ 3 ∷ 0x7A ∷ 0x3B ∷ 0x7A ∷ [])  -- a call whose exception is caught, where no operand has room
+    ∷ code 130 (0x8D ∷ 0 ∷ 3 ∷ 0x7A ∷ 0x3B ∷ 0x7A ∷ [])  -- a call whose exception is caught with no room for an operand
     (record { start = 132; active_length = 3; handler = 136; catch_type = 0 } ∷ [])
     ∷ code 140 (0x04 ∷ 0x03 ∷ 0x47 ∷ 0x78 ∷ []) []  -- 1 / 0
-    ∷ code 160 (0x04 ∷ 0x03 ∷ 0x47 ∷ 0x78 ∷ 0x3B ∷ 0x04 ∷ 0x78 ∷ [])  -- 1 / 0, in the range of a handler of no class
+    ∷ code 160 (0x04 ∷ 0x03 ∷ 0x47 ∷ 0x78 ∷ 0x3B ∷ 0x04 ∷ 0x78 ∷ [])  -- 1 / 0, in the range of a handler with no class
     (record { start = 162; active_length = 4; handler = 166; catch_type = 9 } ∷ [])
-    ∷ code 180 (0x03 ∷ 0x3B ∷ 0x04 ∷ 0x78 ∷ []) []  -- an operand is pushed, and taken away
-    ∷ code 200 (0x18 ∷ 0x78 ∷ []) []  -- a short is given that is a reference
-    ∷ code 210 (0x18 ∷ 0x03 ∷ 0x25 ∷ 0x78 ∷ []) []  -- a component of what is no array
+    ∷ code 180 (0x03 ∷ 0x3B ∷ 0x04 ∷ 0x78 ∷ []) []  -- pushes an operand and pops it
+    ∷ code 200 (0x18 ∷ 0x78 ∷ []) []  -- returns a reference as a short
+    ∷ code 210 (0x18 ∷ 0x03 ∷ 0x25 ∷ 0x78 ∷ []) []  -- a component of an object that isn't an array
     ∷ code 220 (0x18 ∷ 0x8D ∷ 0 ∷ 2 ∷ 0x78 ∷ []) []  -- an argument of another class
     ∷ code 230 (0x04 ∷ 0x78 ∷ []) []
-    ∷ code 240 (0x18 ∷ 0x8B ∷ 0 ∷ 1 ∷ 0x78 ∷ []) []  -- a method that is abstract, or another class's
+    ∷ code 240 (0x18 ∷ 0x8B ∷ 0 ∷ 1 ∷ 0x78 ∷ []) []  -- a method that is abstract, or of another class
     ∷ code 250 (0x18 ∷ 0x94 ∷ 0 ∷ 0 ∷ 0 ∷ 0x3B ∷ 0x04 ∷ 0x78 ∷ []) []  -- a cast
     ∷ code 260 (0x18 ∷ 0x03 ∷ 0x8E ∷ 2 ∷ 0 ∷ 4 ∷ 0 ∷ 0x78 ∷ []) []  -- a method of Asked, on 0
-    ∷ code 270 (0x04 ∷ 0x78 ∷ []) []  -- a header that counts an argument more than its method takes
+    ∷ code 270 (0x04 ∷ 0x78 ∷ []) []  -- a header with one argument more than its method takes
     ∷ code 280 (0x8D ∷ 0 ∷ 5 ∷ 0x78 ∷ []) []  -- a call of it
     ∷ code 290 (0x18 ∷ 0x03 ∷ 0x25 ∷ 0x78 ∷ []) []  -- component 0 of an array of bytes
     ∷ [])
 
--- ---- a package that asks the runtime for the shareable object of an applet: a static method of JCSystem, and then 1
+-- ---- a package that asks the runtime for an applet's shareable object: its method calls a static method of JCSystem,
+-- and then returns 1
 
 abbrev pub asker : Package
 asker =

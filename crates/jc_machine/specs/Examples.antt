@@ -1,4 +1,4 @@
--- What the examples of the defensive machine are run with: packages, objects, and natives that do next to nothing.
+-- Packages, objects and native members for the examples of the defensive machine. The native members do almost nothing.
 use Rattle.std.specs.Prelude.{ℕ, Bool, true, false, ◌==◌, if◌then◌else◌, List, [], ◌∷◌, ◌++◌, length, map, Option, Some}
 use Rattle.std.specs.Prelude.{None}
 use Rattle.std.specs.List.{list_all}
@@ -38,11 +38,11 @@ use Rattle.jc_words.specs.Values.{Null, Ref, TaggedValue, Unset, Word}
 
 -- ---- worlds
 
--- a package as the machine looks things up in it
+-- a package's body, as the machine uses it
 abbrev pub body_in : Package → LinkedBody
 body_in p = record { kept = kept_of p.body; targets = [] }
 
--- packages behind those of the API
+-- packages after those of the API
 abbrev pub world_with : List Package → World
 world_with packages =
     record {
@@ -50,7 +50,7 @@ world_with packages =
       bodies = map body_in packages;
     }
 
--- natives that give nothing, and keep all as it is
+-- native members that return nothing and change nothing
 abbrev pub quiet : Natives (Unit {0})
 quiet = record {
   answer = λ w call. record { touches = []; heap = call.heap; runtime = call.runtime; ends = Gives None };
@@ -58,7 +58,8 @@ quiet = record {
   registers = λ runtime. None;
 }
 
--- natives of which the one that asks for a shareable object has that of object 11 called, and that one is accessed
+-- native members that return nothing, except that the one that asks for a shareable object calls that of object 11, and
+-- this one accesses the object
 abbrev pub asked_natives : ℕ → NativeCall (Unit {0}) → NativeAnswer (Unit {0})
 asked_natives member call =
     if member == 44 then record {
@@ -135,7 +136,7 @@ end_of (Threw m object at) = an_object object
 end_of (RanOut m spent at) = used_up
 end_of WasStuck = stuck
 
--- what is shown of an access: from which context, what, to which object, and the verdict on it
+-- the shown part of an access: from which context, the access, to which object, and the verdict on it
 pub record ShownTouch : Type 0 where
   pub active : ℕ
   pub access : Access
@@ -145,7 +146,7 @@ pub record ShownTouch : Type 0 where
 abbrev pub shown_touch : Touch → ShownTouch
 shown_touch t = record { active = t.active; access = t.access; object = t.object; verdict = t.verdict }
 
--- what is shown of a call: its accesses, and its end
+-- the shown part of a call: its accesses, and its end
 pub record Shown : Type 0 where
   pub touches : List ShownTouch
   pub end : End
@@ -153,7 +154,7 @@ pub record Shown : Type 0 where
 abbrev pub shown : List ShownTouch → End → Shown
 shown touches end = record { touches = touches; end = end }
 
--- what is shown where nothing was accessed
+-- a call without accesses
 abbrev pub untouched : End → Shown
 untouched end = shown [] end
 
@@ -169,22 +170,22 @@ run_with natives packages steps start =
 abbrev pub run : List Package → ℕ → Start (Unit {0}) → Shown
 run packages steps start = run_with quiet packages steps start
 
--- ---- objects of the server, of its own, behind the runtime's
+-- ---- objects of the server, after the runtime's
 
 abbrev pub served : ℕ → Object TaggedValue
 served offset = object (Instance (classes.Loaded 1 offset)) Plain (owner 1 1) (Word 7 ∷ [])
 
--- the runtime's, and an object of the class at an offset of the server, which is number 11
+-- the runtime's objects, and an object of the server's class at an offset, which is number 11
 abbrev pub with_served : ℕ → Heap TaggedValue
 with_served offset = exceptions ++ served offset ∷ []
 
--- a call of a method of the server or of the client with so many steps, on the server's object of the class at an
+-- a call of a method of the server or the client with at most `steps` steps, on the server's object of the class at an
 -- offset
 abbrev pub served_run : ℕ → ℕ → Owner → MethodName → Shown
 served_run steps class of method =
     run (server ∷ client ∷ []) steps (start_of (with_served class) of method (Ref 11 ∷ []))
 
--- a probe without an argument, and one on an object of the class at an offset
+-- a probe without arguments, and one with an object of the class at an offset
 abbrev pub probed : ℕ → Shown
 probed offset = run (probe ∷ []) 20 (start_of exceptions (owner 1 1) (Loaded 1 offset) [])
 
@@ -199,9 +200,9 @@ with_component v = exceptions ++ object ByteArray Plain (owner 1 1) (v ∷ []) �
 abbrev pub probed_with : TaggedValue → Shown
 probed_with v = run (probe ∷ []) 20 (start_of (with_component v) (owner 1 1) (Loaded 1 290) (Ref 11 ∷ []))
 
--- ---- machines that stand somewhere
+-- ---- machines at an instruction
 
--- the probe's method at 180, behind its first instruction, with an operand
+-- the probe's method at 180, after its first instruction, with one operand
 abbrev pub behind_push : TaggedValue → Machine (Unit {0})
 behind_push v = record {
   heap = exceptions;
@@ -231,8 +232,8 @@ is_stuck_with v = is_stuck (defensive_step (around quiet (probe ∷ [])) (behind
 
 -- ---- the runtime's objects
 
--- whether such an object has as many components as its class says, where the API's packages are loaded; an array may
--- have any number
+-- whether an object of the runtime has as many components as its class says, if only the API's packages are loaded; an
+-- array may have any number
 abbrev pub has_its_size : List Shape → RuntimeObject → Bool
 has_its_size world wanted = of_type wanted.type
   where
@@ -246,6 +247,6 @@ has_its_size world wanted = of_type wanted.type
 unfoldable pub have_their_sizes : Bool
 have_their_sizes = list_all (has_its_size (api_world default_binding)) runtime_objects
 
--- an exception handler that covers so many bytes from one on
+-- an exception handler that covers `length` bytes from `start` on
 abbrev pub handler_from : ℕ → ℕ → Handler
 handler_from start length = record { start = start; active_length = length; handler = 0; catch_type = 0 }

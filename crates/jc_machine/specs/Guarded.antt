@@ -1,5 +1,5 @@
--- What the firewall guards in a step, whatever runs: it judges each access, none is made that it denies, and no
--- component changes without one.
+-- What the firewall guarantees in any step: it judges each access, no denied access takes effect, and no component
+-- changes without an access.
 use Rattle.std.specs.Prelude.{◌≡◌, ◌⊎◌, ℕ, ◌==◌, ◌&&◌, ◌||◌, Bool, true, false, not, List, [], ◌∷◌, ◌++◌, Option, Some}
 use Rattle.std.specs.Prelude.{None, slice_get}
 use Rattle.std.specs.List.{AllByRecursion, list_all}
@@ -37,10 +37,10 @@ use Rattle.jc_machine.specs.Runtime.{apdu_buffer, apdu_exception, iso_exception,
 use Rattle.jc_machine.specs.Step.{defensive_step, settled}
 use Rattle.jc_words.specs.Values.{Null, Ref, TaggedValue, Unset, Word}
 
--- ---- an access, and what it is judged by
+-- ---- an access, and how it is judged
 
--- where accesses are made: the packages, the context of the applet that is selected, the objects, the context that is
--- active, and the AID object of the instance that is being installed
+-- the setting of accesses: the packages, the context of the selected applet, the objects, the active context, and the
+-- AID object of the instance being installed
 pub record Setting : Type 0 where
   pub shapes : List Shape
   pub selected : Option ℕ
@@ -48,7 +48,7 @@ pub record Setting : Type 0 where
   pub active : ℕ
   pub registers : Option ℕ
 
--- where a step makes its accesses: the context is that of the frame that runs
+-- the setting of a step's accesses: the context is that of the running frame
 abbrev pub setting_of : {C : Type 0} → Surroundings C → Machine C → Setting
 setting_of s m = record {
   shapes = s.world.shapes;
@@ -58,23 +58,23 @@ setting_of s m = record {
   registers = s.natives.registers m.runtime;
 }
 
--- the objects that the runtime accesses in its own name in a step: its exceptions with a reason, the APDU buffer, and
--- the AID object of the instance that is being installed
+-- the objects that the runtime accesses in its own name during a step: its exceptions with a reason, the APDU buffer,
+-- and the AID object of the instance being installed
 abbrev pub is_runtimes : Option ℕ → ℕ → Bool
 is_runtimes registers number =
     number == iso_exception || number == system_exception || number == apdu_exception || number == apdu_buffer
     || option_map_or (λ n. n == number) registers false
 
--- the context that is active in an access: the one of the code, or the runtime's, for objects of its own
+-- the active context of an access: that of the code, or the runtime's for its own objects
 abbrev pub IsActive : Setting → Touch → By → Type 0
 IsActive g t ByCode = t.active ≡ g.active
 IsActive g t ByRuntime = (t.active ≡ runtime_context) × (is_runtimes g.registers t.object ≡ true)
 
--- what was asked
+-- what the access asked for
 abbrev pub asked_by : Touch → Asked
 asked_by t = record { access = t.access; object = t.object; stored = t.stored; wanted = t.wanted }
 
--- an access is to an object that is there, and its verdict is the firewall's on that object
+-- an access is to an existing object, and its verdict is the firewall's for this object
 pub record IsJudged (g : Setting) (t : Touch) : Type 0 where
   pub active : IsActive g t t.by
   pub object : Object TaggedValue
@@ -88,12 +88,11 @@ is_allowed (Denied rule) = false
 
 -- ---- the accesses of a step
 
--- where an object's owner is active
+-- the setting in which an object's owner is active
 abbrev pub as_owner : Setting → Object TaggedValue → Setting
 as_owner g object = record g { active = object.owner.context }
 
--- a native member was called on this very object, as the object's owner: what it accesses is that object, of which a
--- member is called
+-- an access by a native member called on this object as its owner: it accesses the object as the receiver of a member
 pub record IsCalledBack (g : Setting) (number : ℕ) (t : Touch) : Type 0 where
   pub object : Object TaggedValue
   pub found : object_at g.heap number ≡ Some object
@@ -102,14 +101,14 @@ pub record IsCalledBack (g : Setting) (number : ℕ) (t : Touch) : Type 0 where
   pub by : t.by ≡ ByCode
   pub judged : IsJudged (as_owner g object) t
 
--- what a native member answers that the frame calls
+-- the answer of a native member that the frame calls
 abbrev pub frame_answer : {C : Type 0} → Surroundings C → Machine C → ℕ → List TaggedValue → NativeAnswer C
 frame_answer s m member arguments =
     s.natives.answer s.world (native_call s m m.top.active m.top.previous member arguments)
 
--- each access of a step is made in the context of the frame that runs, or by the runtime. One of another context stands
--- only behind those of a native member that may begin there and has a member of another object called. That the
--- instruction calls this member isn't said
+-- each access of a step is made in the context of the running frame, or by the runtime. Accesses in another context
+-- only follow those of a native member that may begin there and calls back a member of another object. That the
+-- instruction calls this member isn't stated
 pub data AreMade {C : Type 0} (s : Surroundings C) (m : Machine C) : List Touch → Type 0 where
   by_frame : (touches : List Touch) → AllByRecursion (IsJudged (setting_of s m)) touches → AreMade s m touches
   by_callback : (member : ℕ) (arguments : List TaggedValue) (callback : Callback) (before called : List Touch)
@@ -129,14 +128,14 @@ is_last_denied [] = false
 is_last_denied (t ∷ []) = not (is_allowed t.verdict)
 is_last_denied (t ∷ u ∷ touches) = is_allowed t.verdict && is_last_denied (u ∷ touches)
 
--- each access is allowed, or the last is denied, and then this holds
+-- each access is allowed; or the last is denied, and then `Refused` holds
 pub data AreGuarded (touches : List Touch) (Refused : Type 0) : Type 0 where
   allowed : are_allowed touches ≡ true → AreGuarded touches Refused
   denied : is_last_denied touches ≡ true → Refused → AreGuarded touches Refused
 
 -- ---- what changes
 
--- components change by these: fields and components that are stored, and native members that are called of an object
+-- the accesses that may change components: stores to fields and components, and calls of native members on an object
 abbrev pub may_change : Access → Bool
 may_change PutStaticReference = false
 may_change PutReferenceField = true
@@ -152,8 +151,8 @@ may_change Throw = false
 may_change CheckCast = false
 may_change InstanceOf = false
 
--- in the list stands an access to an object by which it may change, and that is allowed: it was made in this context,
--- or by the runtime; and a plain object is of this context, if the runtime didn't access it
+-- the list has an allowed access to the object that may change it: it was made in this context, or by the runtime; and
+-- a plain object belongs to this context, unless the runtime made the access
 pub record IsAccessed (active : ℕ) (touches : List Touch) (number : ℕ) (object : Object TaggedValue) : Type 0 where
   pub place : ℕ
   pub touch : Touch
@@ -164,13 +163,13 @@ pub record IsAccessed (active : ℕ) (touches : List Touch) (number : ℕ) (obje
   pub who : (touch.active ≡ active) ⊎ (touch.active ≡ runtime_context)
   pub own : object.kind.mark ≡ Plain → (active ≡ object.owner.context) ⊎ (touch.active ≡ runtime_context)
 
--- of the objects that were there, only those that were so accessed have other components
+-- of the existing objects, only those so accessed have changed components
 abbrev pub ChangesAccessed : ℕ → List Touch → Heap TaggedValue → Heap TaggedValue → Type 0
 ChangesAccessed active touches before after = (number : ℕ) (o p : Object TaggedValue)
     → object_at before number ≡ Some o → object_at after number ≡ Some p
     → (p.cells ≡ o.cells) ⊎ IsAccessed active touches number o
 
--- what the components of a new object hold: zero, or null
+-- whether a value is what the components of a new object hold: zero, or null
 abbrev pub is_blank : TaggedValue → Bool
 is_blank (Word n) = n == 0
 is_blank (Ref n) = false
@@ -183,14 +182,14 @@ pub record IsNewOf (owner : Owner) (o : Object TaggedValue) : Type 0 where
   pub plain : o.kind.mark ≡ Plain
   pub blank : AllByRecursion (λ (v : TaggedValue). is_blank v ≡ true) o.cells
 
--- objects that weren't there are new ones of an owner
+-- all objects that didn't exist before are new objects of an owner
 abbrev pub AddsFor : Owner → Heap TaggedValue → Heap TaggedValue → Type 0
 AddsFor owner before after = (number : ℕ) (o : Object TaggedValue) → object_at after number ≡ Some o
     → object_at before number ≡ None → IsNewOf owner o
 
 -- ---- a step
 
--- the machine that a step leaves, if it isn't stuck
+-- the machine after a step, unless it is stuck
 abbrev pub machine_of : {C : Type 0} → Outcome C → Option (Machine C)
 machine_of (Next m) = Some m
 machine_of (Throws m object) = Some m
@@ -198,11 +197,11 @@ machine_of (Ends m value) = Some m
 machine_of (UsedUp m) = Some m
 machine_of Stuck = None
 
--- the security exception is thrown, from the machine as it was
+-- the step throws the security exception, with the machine unchanged
 abbrev pub IsRefused : {C : Type 0} → Surroundings C → Machine C → Stepped C → Type 0
 IsRefused s m stepped = stepped.outcome ≡ settled s (Throws m security_exception)
 
--- a machine stands at an instruction
+-- the machine is at an instruction
 pub record StandsAt {C : Type 0} (s : Surroundings C) (m : Machine C) (operation : Operation) : Type 0 where
   pub body : MethodBody
   pub instr : Instr
@@ -210,7 +209,7 @@ pub record StandsAt {C : Type 0} (s : Surroundings C) (m : Machine C) (operation
   pub stands : instruction_at body.code m.top.pc ≡ Some instr
   pub is : instr.operation ≡ operation
 
--- it stands at a putstatic, and the entry of the constant pool that this has names a static field
+-- the machine is at a putstatic whose constant pool entry names this static field
 pub record PutsStatic {C : Type 0} (s : Surroundings C) (m : Machine C) (place : StaticPlace) : Type 0 where
   pub access : FieldAccess
   pub index : ℕ
@@ -220,13 +219,13 @@ pub record PutsStatic {C : Type 0} (s : Surroundings C) (m : Machine C) (place :
   pub of_class : access.holder ≡ Class
   pub named : target_at s.world m.top.method.number index ≡ Some (StaticField place declared)
 
--- static fields are what they were, or a putstatic gives the one that it names another value
+-- static fields don't change, or a putstatic gives the one that it names another value
 pub data KeepsStatics {C : Type 0} (s : Surroundings C) (m after : Machine C) : Type 0 where
   as_they_were : m.statics ≡ after.statics → KeepsStatics s m after
   one_written : (place : StaticPlace) (v : TaggedValue) → PutsStatic s m place
       → with_static m.statics place.home place.offset v ≡ after.statics → KeepsStatics s m after
 
--- the law of accesses, of one step
+-- the law of accesses for one step
 pub record IsGuarded {C : Type 0} (s : Surroundings C) (m : Machine C) : Type 0 where
   pub made : AreMade s m (defensive_step s m).touches
   pub accesses : AreGuarded (defensive_step s m).touches (IsRefused s m (defensive_step s m))
@@ -238,7 +237,7 @@ pub record IsGuarded {C : Type 0} (s : Surroundings C) (m : Machine C) : Type 0 
 
 -- ---- what follows
 
--- a plain object has the components that it had, or its owner's context is this one
+-- a plain object keeps its components, or its owner's context is this one
 abbrev pub KeepsPlain : ℕ → Heap TaggedValue → Heap TaggedValue → Type 0
 KeepsPlain active before after = (number : ℕ) (o p : Object TaggedValue) → object_at before number ≡ Some o
     → object_at after number ≡ Some p → o.kind.mark ≡ Plain → (p.cells ≡ o.cells) ⊎ (active ≡ o.owner.context)

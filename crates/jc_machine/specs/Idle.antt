@@ -1,5 +1,5 @@
--- Native members that do nothing: they make no access, change nothing, and give 0, or null, where they are declared to
--- give something.
+-- Native members that do nothing: they make no access, change nothing, and return 0, or null, if they are declared to
+-- return something.
 use Rattle.std.specs.Prelude.{ℕ, true, [], Option, Some, None}
 use Rattle.std.specs.Option.{option_and_then}
 use Rattle.jc_api.specs.Member.{ApiMember, member_of}
@@ -11,7 +11,7 @@ use Rattle.jc_base.specs.declared.declared_type.ReturnType.TheVariants.{Void, Va
 use Rattle.jc_machine.specs.Machine.{Gives, Natives}
 use Rattle.jc_words.specs.Values.{Null, TaggedValue, Word}
 
--- the 0 of a type
+-- the zero or null value of a type
 abbrev pub zero_of : DeclaredType ApiClass → TaggedValue
 zero_of types.Boolean = Word 0
 zero_of types.Byte = Word 0
@@ -22,12 +22,12 @@ zero_of types.ByteArray = Null
 zero_of types.ShortArray = Null
 zero_of (types.ReferenceArray c) = Null
 
--- what is given where this is declared
+-- the result for a declared return type
 abbrev pub idle_value : ReturnType ApiClass → Option TaggedValue
 idle_value Void = None
 idle_value (Value type) = Some (zero_of type)
 
--- what the member with a number gives
+-- the result of the member with a number
 abbrev pub idle_result : ℕ → Option TaggedValue
 idle_result member = option_and_then (λ (m : ApiMember). idle_value m.signature.result) (member_of member)
 

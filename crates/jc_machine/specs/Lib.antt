@@ -11,7 +11,7 @@ pub mod Fields
 pub mod Calls
 pub mod Objects
 pub mod Step
--- what its laws say
+-- statements of its laws
 pub mod Reading
 pub mod Accepted
 pub mod Typed

@@ -1,5 +1,5 @@
--- The law of native members: what a machine relies on, whatever they do (Java Card API Specification; Java Card
--- Runtime Environment Specification, Applet Isolation and Object Sharing).
+-- The law of native members: what the machine requires of all of them (Java Card API Specification; Java Card Runtime
+-- Environment Specification, Applet Isolation and Object Sharing).
 use Rattle.std.specs.Prelude.{◌≡◌, ℕ, ◌≤◌, ◌∷◌, length, List, Some, true}
 use Rattle.std.specs.List.{AllByRecursion}
 use Rattle.jc_api.specs.Member.{ApiMember, member_of}
@@ -23,7 +23,7 @@ use Rattle.jc_words.specs.Values.{Ref, TaggedValue}
 
 -- ---- objects stay
 
--- an object is there, and is what it was: of the same kind, of the same owner, with as many components
+-- an object still exists, with the same kind, the same owner and the same number of components
 pub record IsStill (heap : Heap TaggedValue) (number : ℕ) (o : Object TaggedValue) : Type 0 where
   pub object : Object TaggedValue
   pub found : object_at heap number ≡ Some object
@@ -31,19 +31,19 @@ pub record IsStill (heap : Heap TaggedValue) (number : ℕ) (o : Object TaggedVa
   pub owner : object.owner ≡ o.owner
   pub size : length object.cells ≡ length o.cells
 
--- each object that was there is there still
+-- each object still exists
 abbrev pub KeepsObjects : Heap TaggedValue → Heap TaggedValue → Type 0
 KeepsObjects before after =
     (number : ℕ) (o : Object TaggedValue) → object_at before number ≡ Some o → IsStill after number o
 
--- ---- accesses: of any call
+-- ---- accesses of any call
 
 -- nothing changed
 pub record IsUnchanged {C : Type 0} (call : NativeCall C) (a : NativeAnswer C) : Type 0 where
   pub heap : a.heap ≡ call.heap
   pub runtime : a.runtime ≡ call.runtime
 
--- where an access is denied the security exception is thrown, and nothing has changed
+-- after a denied access, the security exception is thrown and nothing has changed
 pub record IsRefusedAnswer {C : Type 0} (call : NativeCall C) (a : NativeAnswer C) : Type 0 where
   pub unchanged : IsUnchanged call a
   pub throws : a.ends ≡ ThrowsObject security_exception
@@ -63,24 +63,24 @@ pub record IsWithin (limits : Limits) (heap : Heap TaggedValue) : Type 0 where
   pub objects : length heap ≤ limits.objects
   pub cells : cells_in heap ≤ limits.cells
 
--- the virtual member of Applet that a native member has called: getShareableInterfaceObject
+-- the virtual member of Applet that native members call: getShareableInterfaceObject
 abbrev pub shareable_member : ℕ
 shareable_member = 40
 
--- an access of a member that is called on an object, to that object alone
+-- an access by a member called on an object: it is to that object only
 pub record IsOfReceiver (number : ℕ) (t : Touch) : Type 0 where
   pub is : t.object ≡ number
   pub access : t.access ≡ InvokeVirtual
   pub by : t.by ≡ ByCode
 
--- called on an object, it accesses that object alone, and changes nothing
+-- a member called on an object accesses only that object, and changes nothing
 pub record IsModest {C : Type 0} (number : ℕ) (call : NativeCall C) (a : NativeAnswer C) : Type 0 where
   pub touches : AllByRecursion (IsOfReceiver number) a.touches
   pub unchanged : IsUnchanged call a
 
--- each access is its caller's, or the runtime's own, and judged; each is allowed, or it is refused at the last; only
--- objects change that it accessed, and what it makes is its caller's; it makes none where there is no room. One that
--- makes a call has changed nothing, and calls the one member that others call, which is modest
+-- each access is judged, and made by the caller or the runtime; each is allowed, or the last is denied; objects change
+-- only by these accesses; new objects belong to the caller, and are made only if there is room. A native member that
+-- calls another changes nothing, and calls only getShareableInterfaceObject, which is modest
 pub record IsGuardedAnswer {C : Type 0} (natives : Natives C) (w : World) (call : NativeCall C) (a : NativeAnswer C)
     : Type 0 where
   pub touches : AllByRecursion (IsJudged (setting_for natives w call)) a.touches
@@ -94,30 +94,29 @@ pub record IsGuardedAnswer {C : Type 0} (natives : Natives C) (w : World) (call 
   pub modest : (number : ℕ) (rest : List TaggedValue) → call.member ≡ shareable_member
       → call.arguments ≡ Ref number ∷ rest → IsModest number call a
 
--- each answer is guarded, in any world, to any call
+-- each answer is guarded, in any world and for any call
 abbrev pub AreNativesGuarded : {C : Type 0} → Natives C → Type 0
 AreNativesGuarded {C} natives =
     (w : World) (call : NativeCall C) → IsGuardedAnswer natives w call (natives.answer w call)
 
--- ---- types: of a call that is as it should be
+-- ---- types of a valid call
 
--- it is of a native member on arguments of its types; the objects are typed, the runtime's own are there, and what it
--- keeps fits them
+-- a valid call is of a native member, on arguments of its types; the objects are typed, the runtime's own exist, and
+-- what the runtime keeps fits them
 pub record IsFitCall {C : Type 0} (natives : Natives C) (w : World) (call : NativeCall C) : Type 0 where
   pub begins : native_may_begin w.shapes call.heap call.member call.arguments ≡ true
   pub heap : HeapTyped w.shapes call.heap
   pub runtime_objects : HasRuntimeObjects call.heap
   pub fits : natives.fits w call.heap call.runtime ≡ true
 
--- an object that is thrown is there, and may be thrown
+-- a thrown object exists and may be thrown
 pub record IsThrown (w : World) (heap : Heap TaggedValue) (number : ℕ) : Type 0 where
   pub object : Object TaggedValue
   pub found : object_at heap number ≡ Some object
   pub throwable : is_throwable w.shapes object.kind.object_type ≡ true
 
--- a call that a native member makes: only a static one makes any. It calls the one member that others call, which is
--- virtual, of an object that is there and of the member's class, on arguments of its types, and that gives what the
--- native member is declared to give
+-- a valid call by a native member, which must be static. It calls getShareableInterfaceObject, which is virtual, on an
+-- existing object of its class with arguments of its types, and the result has the type that the native member returns
 pub record IsFitCallback {C : Type 0} (w : World) (call : NativeCall C) (a : NativeAnswer C)
     (given : Signature ClassName) (callback : Callback) : Type 0 where
   pub caller : ApiMember
@@ -135,14 +134,15 @@ pub record IsFitCallback {C : Type 0} (w : World) (call : NativeCall C) (a : Nat
   pub arguments : are_of_types w.shapes a.heap signature.parameters callback.arguments ≡ true
   pub result : is_same_return given.result signature.result ≡ true
 
--- how it ends: with what it is declared to give, with an object that may be thrown, or with a call; never stuck
+-- how a native member ends: with a result of its declared type, with an object that may be thrown, or with a call;
+-- never stuck
 abbrev pub EndsFit : {C : Type 0} → World → NativeCall C → NativeAnswer C → Signature ClassName → NativeEnd → Type 0
 EndsFit w call a given (Gives value) = is_given w.shapes a.heap given.result value ≡ true
 EndsFit w call a given (ThrowsObject number) = IsThrown w a.heap number
 EndsFit w call a given (Calls callback) = IsFitCallback w call a given callback
 EndsFit w call a given IsStuck = ⊥
 
--- the objects are typed behind it, and what the runtime keeps fits them; and it ends as it is declared to
+-- after the call, the objects are typed, and what the runtime keeps fits them; and it ends as declared
 pub record IsFitAnswer {C : Type 0} (natives : Natives C) (w : World) (call : NativeCall C) (a : NativeAnswer C)
     : Type 0 where
   pub heap : HeapTyped w.shapes a.heap
@@ -153,8 +153,8 @@ pub record IsFitAnswer {C : Type 0} (natives : Natives C) (w : World) (call : Na
 
 -- ---- the law
 
--- each answer is guarded; of a fit call in an accepted world it is fit; and what the runtime keeps fits as long as the
--- objects stay
+-- each answer is guarded; the answer to a valid call in an accepted world is valid; and what the runtime keeps fits as
+-- long as the objects stay
 pub record IsLawful {C : Type 0} (natives : Natives C) : Type 0 where
   pub guarded : AreNativesGuarded natives
   pub fit : (w : World) (call : NativeCall C) → IsAccepted w → IsFitCall natives w call

@@ -1,7 +1,6 @@
--- As whom code runs, and what becomes of the frames that wait: a step changes the owner that is active by calls,
--- returns and catches alone. A call that switches switches to the owner that the verdict on its access names, or to the
--- owner of the object that a native member asks for a shareable object (Java Card Runtime Environment Specification,
--- Contexts and Context Switching).
+-- The owners of frames: a step changes the active owner only by calls, returns and catches. A call that switches does
+-- so to the owner that the verdict on its access names, or to the owner of the object that a native member asks for a
+-- shareable object (Java Card Runtime Environment Specification, Contexts and Context Switching).
 use Rattle.std.specs.Prelude.{⊤, ◌≡◌, ℕ, List, [], ◌∷◌, drop, Option, Some, None, unwrap_or}
 use Rattle.jc_firewall.specs.declared.access.Verdict.{Verdict}
 use Rattle.jc_firewall.specs.declared.access.Verdict.TheVariants.{Allowed, AllowedSwitch, Denied}
@@ -16,13 +15,13 @@ use Rattle.jc_words.specs.Values.{TaggedValue}
 
 -- ---- frames
 
--- a frame of the same call: its method and its owners are what they were
+-- a frame of the same call: its method and its owners are unchanged
 pub record IsOfCall (before after : Frame) : Type 0 where
   pub method : after.method ≡ before.method
   pub active : after.active ≡ before.active
   pub previous : after.previous ≡ before.previous
 
--- the frame waits at its call: no more has changed than that operands are taken off
+-- the frame waits at its call: only operands were popped
 pub record Waits (before after : Frame) : Type 0 where
   pub call : IsOfCall before after
   pub pc : after.pc ≡ before.pc
@@ -30,14 +29,14 @@ pub record Waits (before after : Frame) : Type 0 where
   pub taken : ℕ
   pub operands : after.operands ≡ drop taken before.operands
 
--- the frame that waited goes on, behind its call or at a handler, with its locals
+-- the waiting frame continues, after its call or at an exception handler, with its locals
 pub record GoesOn (before after : Frame) : Type 0 where
   pub call : IsOfCall before after
   pub locals : after.locals ≡ before.locals
 
 -- ---- owners of a called frame
 
--- the owner to which the access of a call switches, if it has one and switches
+-- the owner to which a call's access switches, if it switches
 abbrev pub switch_of : Verdict → Option Owner
 switch_of Allowed = None
 switch_of (AllowedSwitch owner) = Some owner
@@ -47,7 +46,8 @@ abbrev pub switch_in : List Touch → Option Owner
 switch_in [] = None
 switch_in (t ∷ touches) = switch_of t.verdict
 
--- a called frame has its caller's owners, or this one is active and the caller's is the one before
+-- a called frame has its caller's owners; or, after a switch, the new active owner, with the caller's as the previous
+-- one
 abbrev pub previous_by : Frame → Option Owner → Option Owner
 previous_by f None = f.previous
 previous_by f (Some owner) = Some f.active
@@ -58,7 +58,7 @@ pub record IsCalledBy (caller called : Frame) (switch : Option Owner) : Type 0 w
 
 -- ---- a step
 
--- a native member that the frame may call asks an object for a shareable object
+-- a native member that the frame may call asks an object for its shareable object
 pub record AsksFor {C : Type 0} (s : Surroundings C) (m : Machine C) (owner : Owner) : Type 0 where
   pub member : ℕ
   pub arguments : List TaggedValue
@@ -69,9 +69,9 @@ pub record AsksFor {C : Type 0} (s : Surroundings C) (m : Machine C) (owner : Ow
   pub there : object_at m.heap callback.object ≡ Some object
   pub whose : object.owner ≡ owner
 
--- the frames behind a step, the innermost first: the one that runs goes on, and those that wait are what they were;
--- or it waits, and one more is called, by the verdict on the first access or as the owner of an object that is asked;
--- or those within one that waits are gone, by a return or a catch
+-- the frames after a step, innermost first: the running frame continues and the waiting ones are unchanged; or it waits
+-- and another frame is called, by the verdict on the first access, or as the owner of the object asked; or a return or
+-- a catch drops the frames inside a waiting one
 pub data FramesGo {C : Type 0} (s : Surroundings C) (m : Machine C) (touches : List Touch) : List Frame → Type 0 where
   runs : (top : Frame) → IsOfCall m.top top → FramesGo s m touches (top ∷ m.waiting)
   called : (top caller : Frame) → Waits m.top caller → IsCalledBy m.top top (switch_in touches)
@@ -81,7 +81,7 @@ pub data FramesGo {C : Type 0} (s : Surroundings C) (m : Machine C) (touches : L
   back : (k : ℕ) (f top : Frame) (waiting : List Frame) → drop k (m.top ∷ m.waiting) ≡ f ∷ waiting → GoesOn f top
       → FramesGo s m touches (top ∷ waiting)
 
--- frames change so in a step that goes on; a step that throws leaves them as they were
+-- frames change this way in a step that continues; a step that throws doesn't change them
 abbrev pub OwnersGo : {C : Type 0} → Surroundings C → Machine C → List Touch → Outcome C → Type 0
 OwnersGo s m touches (Next after) = FramesGo s m touches (after.top ∷ after.waiting)
 OwnersGo s m touches (Throws after object) = (after.top ∷ after.waiting) ≡ (m.top ∷ m.waiting)

@@ -1,5 +1,5 @@
--- The runtime's own objects, which it makes when a card is new, and keeps (Java Card Runtime Environment
--- Specification, JCRE Entry Point Objects, Global Arrays; Java Card API Specification, AID, APDU, Applet.install).
+-- The runtime's own objects, which it creates for a new card and keeps (Java Card Runtime Environment Specification,
+-- JCRE Entry Point Objects, Global Arrays; Java Card API Specification, AID, APDU, Applet.install).
 use Rattle.std.specs.Prelude.{◌≡◌, ℕ, List, ◌∷◌, length, map, replicate, Some, None}
 use Rattle.std.specs.List.{AllByRecursion, range_with_len}
 use Rattle.jc_api.specs.declared.class.ApiClass.{ApiClass}
@@ -49,7 +49,7 @@ system_exception = 9
 abbrev pub apdu_exception : ℕ
 apdu_exception = 10
 
--- the APDU object, the APDU buffer, and the array that an install method is given
+-- the APDU object, the APDU buffer, and the array that an install method gets
 abbrev pub apdu_object : ℕ
 apdu_object = 11
 
@@ -59,7 +59,7 @@ apdu_buffer = 12
 abbrev pub install_array : ℕ
 install_array = 13
 
--- the AID objects of applet instances: the first, and how many there are
+-- the AID objects of applet instances: the number of the first, and how many there are
 abbrev pub first_aid_object : ℕ
 first_aid_object = 14
 
@@ -68,19 +68,19 @@ most_instances = 32
 
 -- ---- what they are
 
--- an object of the runtime's: its number, what it is, its mark, and how many components it has
+-- an object of the runtime: its number, type and mark, and how many components it has
 pub record RuntimeObject : Type 0 where
   pub number : ℕ
   pub type : ObjectType
   pub mark : Mark
   pub size : ℕ
 
--- an object of a class, to which no reference may be stored
+-- an instance of a class; a reference to it may not be stored
 abbrev pub temporary : ℕ → ApiClass → ℕ → RuntimeObject
 temporary number class size =
     record { number = number; type = Instance (classes.Api class); mark = TemporaryEntryPoint; size = size }
 
--- an array of bytes for all contexts
+-- a global array of bytes, which all contexts may access
 abbrev pub global_bytes : ℕ → ℕ → RuntimeObject
 global_bytes number size = record { number = number; type = ByteArray; mark = GlobalArray; size = size }
 
@@ -100,7 +100,7 @@ runtime_objects =
     ∷ global_bytes apdu_buffer 261 ∷ global_bytes install_array 127
     ∷ map aid_object (range_with_len first_aid_object most_instances)
 
--- one of them as it is made: it is the runtime's, and all its components are 0
+-- a new object of the runtime: it belongs to the runtime, and all its components are 0
 abbrev pub made : RuntimeObject → Object TaggedValue
 made wanted = record {
   kind = record { object_type = wanted.type; mark = wanted.mark; clears = None };
@@ -108,13 +108,13 @@ made wanted = record {
   cells = replicate wanted.size (Word 0);
 }
 
--- the objects of a new card: these, and no others
+-- the objects of a new card: only these
 abbrev pub new_heap : Heap TaggedValue
 new_heap = map made runtime_objects
 
--- ---- that they are there
+-- ---- presence of the runtime's objects
 
--- such an object is there: it is the runtime's, and no event clears it
+-- such an object exists, belongs to the runtime, and no event clears it
 pub record HasRuntimeObject (heap : Heap TaggedValue) (wanted : RuntimeObject) : Type 0 where
   pub object : Object TaggedValue
   pub found : object_at heap wanted.number ≡ Some object
@@ -124,6 +124,6 @@ pub record HasRuntimeObject (heap : Heap TaggedValue) (wanted : RuntimeObject) :
   pub owner : object.owner ≡ firewall.runtime
   pub size : length object.cells ≡ wanted.size
 
--- all of them are
+-- all of them exist
 abbrev pub HasRuntimeObjects : Heap TaggedValue → Type 0
 HasRuntimeObjects heap = AllByRecursion (HasRuntimeObject heap) runtime_objects

@@ -1,5 +1,4 @@
--- When a defensive machine is well typed: what it holds is of the types by which its code was checked, and of declared
--- types elsewhere.
+-- Well-typed defensive machines: values have the types with which the code was checked, and declared types elsewhere.
 use Rattle.std.specs.Prelude.{⊤, ◌≡◌, ℕ, ◌<◌, Bool, true, false, List, [], ◌∷◌, length, Option, Some, None, IsSome, Ok}
 use Rattle.std.specs.List.{AllByRecursion}
 use Rattle.std.specs.Option.{option_and_then, option_map_or}
@@ -41,7 +40,7 @@ use Rattle.jc_words.specs.Values.{TaggedValue, is_written}
 
 -- ---- values
 
--- a value of a verification type. A value of which nothing is known may be unset
+-- whether a value has a verification type. Any value, even an unset one, has the type Top
 abbrev pub has_type : List Shape → Heap TaggedValue → TaggedValue → Ty → Bool
 has_type world heap v types.Top = true
 has_type world heap v types.Word = is_word v
@@ -58,7 +57,7 @@ has_type world heap v (types.ReferenceArray c) =
 abbrev pub HaveTypes : List Shape → Heap TaggedValue → List TaggedValue → List Ty → Type 0
 HaveTypes world heap vs ts = Pointwise (λ v t. has_type world heap v t ≡ true) vs ts
 
--- an operand of a type: it was written, whatever the type says
+-- an operand of a type: it was written, whatever the type
 pub record IsOperand (world : List Shape) (heap : Heap TaggedValue) (v : TaggedValue) (t : Ty) : Type 0 where
   pub type : has_type world heap v t ≡ true
   pub written : is_written v ≡ true
@@ -69,13 +68,13 @@ HoldTypes world heap vs ts = Pointwise (IsOperand world heap) vs ts
 
 -- ---- objects and static fields
 
--- what a cell of an object holds: of a field a value that it may hold; without one a word
+-- whether a cell of an object may hold a value: the cell of a field a value of the field's type, any other cell a word
 abbrev pub is_cell : List Shape → Heap TaggedValue → Option (DeclaredType ClassName) → TaggedValue → Bool
 is_cell world heap None v = is_word v
 is_cell world heap (Some declared) v = is_kept_as world heap declared v
 
--- components of booleans and bytes are low bytes; those of an array of references are null, or of its class or
--- interface
+-- cells hold what the object's type says: components of booleans and bytes are low bytes; components of an array of
+-- references are null or references to instances of its class or interface
 abbrev pub CellsTyped : List Shape → Heap TaggedValue → List TaggedValue → ObjectType → Type 0
 CellsTyped world heap cells (Instance c) =
     Pointwise (λ v field. is_cell world heap field v ≡ true) cells (fields_of world c)
@@ -85,7 +84,7 @@ CellsTyped world heap cells ShortArray = AllByRecursion (λ v. is_word v ≡ tru
 CellsTyped world heap cells (ReferenceArray c) =
     AllByRecursion (λ v. leads_to heap (is_instance world c) v ≡ true) cells
 
--- an object of a class is of one that has objects: it is there, and isn't abstract
+-- an object may have this type: an instance's class exists and isn't abstract
 abbrev pub may_be_made : List Shape → ObjectType → Bool
 may_be_made world (Instance c) = has_objects world c
 may_be_made world BooleanArray = true
@@ -93,7 +92,7 @@ may_be_made world ByteArray = true
 may_be_made world ShortArray = true
 may_be_made world (ReferenceArray c) = true
 
--- an object whose cells are typed; how many components an array has is a word
+-- an object whose cells are typed; the length of an array is a word
 pub record ObjectTyped (world : List Shape) (heap : Heap TaggedValue) (o : heaps.Object TaggedValue) : Type 0 where
   pub made : may_be_made world o.kind.object_type ≡ true
   pub cells : CellsTyped world heap o.cells o.kind.object_type
@@ -102,13 +101,13 @@ pub record ObjectTyped (world : List Shape) (heap : Heap TaggedValue) (o : heaps
 abbrev pub HeapTyped : List Shape → Heap TaggedValue → Type 0
 HeapTyped world heap = AllByRecursion (ObjectTyped world heap) heap
 
--- the value of a static field is one that the field may hold, by the type that it is declared with
+-- the value of a static field is one that the field may hold, by its declared type
 pub record StaticTyped (world : List Shape) (heap : Heap TaggedValue) (home : ℕ) (s : StaticValue) : Type 0 where
   pub declared : DeclaredType ClassName
   pub found : static_type_of world (record { home = home; offset = s.offset }) ≡ Some declared
   pub typed : is_kept_as world heap declared s.value ≡ true
 
--- each loaded package has its static fields, and each that is declared has a value
+-- each loaded package has its static fields, and each declared field has a value
 pub record StaticsTyped (w : World) (heap : Heap TaggedValue) (statics : List (List StaticValue)) : Type 0 where
   pub count : length statics ≡ length w.bodies
   pub typed : (number : ℕ) (fields : List StaticValue) → of_package statics number ≡ Some fields
@@ -118,8 +117,8 @@ pub record StaticsTyped (w : World) (heap : Heap TaggedValue) (statics : List (L
 
 -- ---- frames
 
--- a frame's method as the check sees it, with a typing of it whose states are of the method's shape, and which has a
--- state at the frame's pc, of whose types the frame's locals are
+-- a frame's method as the check sees it, with a typing whose states have the method's shape and include one at the
+-- frame's pc, which types the frame's locals
 pub record IsPlaced (w : World) (heap : Heap TaggedValue) (f : Frame) : Type 0 where
   pub body : LinkedBody
   pub loaded : body_at w f.method.number ≡ Some body
@@ -133,29 +132,29 @@ pub record IsPlaced (w : World) (heap : Heap TaggedValue) (f : Frame) : Type 0 w
   pub stated : typing f.pc ≡ Some state
   pub locals_typed : HaveTypes w.shapes heap f.locals state.locals
 
--- the frame that runs
+-- the running frame: its operands also have the types of this state
 pub record RunsTyped (w : World) (heap : Heap TaggedValue) (f : Frame) : Type 0 where
   pub placed : IsPlaced w heap f
   pub operands_typed : HoldTypes w.shapes heap f.operands placed.state.operands
 
--- what a frame's method is declared to give
+-- the declared result of a frame's method
 abbrev pub given_by : World → Frame → Option Ty
 given_by w f = option_and_then (result_of w.shapes) (declared_at w f.method)
 
--- a result on operands, if there is one
+-- operand types with a result on top, if there is one
 abbrev pub with_result_type : Option Ty → List Ty → List Ty
 with_result_type None ts = ts
 with_result_type (Some t) ts = t ∷ ts
 
--- an instruction of a frame's method leaves a state behind it, as the check sees it
+-- an instruction of a frame's method leads from one state to another, as the check sees it
 abbrev pub IsEffect : World → Frame → LinkedBody → MethodBody → Instr → Types → Types → Type 0
 IsEffect w f body code instr before after =
     let linked = linked_as w f.method.number body in
     let method = method_of linked code in
     (package_rules linked).effect method.max_stack method.returned instr.operation before ≡ Ok after
 
--- a frame that waits for a result stands at a call. What is left of its operands is of types that, with the result on
--- top, are those of the state after the call, which leads on to the pc behind it
+-- a frame that waits for a result is at a call. Its remaining operands have types that, with the result on top, are
+-- those of a state after the call, from which the call leads to the next pc
 pub record WaitsTyped (w : World) (heap : Heap TaggedValue) (result : Option Ty) (f : Frame) : Type 0 where
   pub placed : IsPlaced w heap f
   pub call : Instr
@@ -169,22 +168,22 @@ pub record WaitsTyped (w : World) (heap : Heap TaggedValue) (result : Option Ty)
   pub leads : Leads (package_rules (linked_as w f.method.number placed.body)) placed.typing after call.next_pc
   pub operands_typed : HoldTypes w.shapes heap f.operands left
 
--- those that wait, each for what the method of the one within gives
+-- waiting frames, each waiting for the result of the frame inside it
 abbrev pub WaitTyped : World → Heap TaggedValue → Option Ty → List Frame → Type 0
 WaitTyped w heap result [] = ⊤
 WaitTyped w heap result (f ∷ waiting) = WaitsTyped w heap result f × WaitTyped w heap (given_by w f) waiting
 
 -- ---- machines
 
--- what a machine has beside its frames: the objects and the static fields are typed, the runtime's own objects are
--- there, and what the runtime keeps fits the objects
+-- all of a machine but its frames is typed: the objects and the static fields are typed, the runtime's own objects
+-- exist, and what the runtime keeps fits the objects
 pub record IsTypedBeside {C : Type 0} (s : Surroundings C) (m : Machine C) : Type 0 where
   pub heap : HeapTyped s.world.shapes m.heap
   pub statics : StaticsTyped s.world m.heap m.statics
   pub runtime_objects : HasRuntimeObjects m.heap
   pub fits : s.natives.fits s.world m.heap m.runtime ≡ true
 
--- a machine is typed: what it has beside its frames, the frame that runs, and those that wait
+-- a machine is typed: all but its frames, the running frame, and the waiting frames
 pub record IsTyped {C : Type 0} (s : Surroundings C) (m : Machine C) : Type 0 where
   pub beside : IsTypedBeside s m
   pub top : RunsTyped s.world m.heap m.top

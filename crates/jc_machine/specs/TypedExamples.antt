@@ -1,4 +1,4 @@
--- Machines that are well typed, as examples: one that was just made, and one that begins an applet's install.
+-- Examples of well-typed machines: a new one, and one that begins an applet's install.
 use Rattle.std.specs.Prelude.{[], ◌∷◌, List, None}
 use Rattle.jc_api.specs.Bound.{default_binding}
 use Rattle.jc_base.specs.declared.declared_type.ReturnType.TheVariants.{Void}
@@ -15,19 +15,20 @@ use Rattle.jc_machine.specs.Machine.{Frame, Machine, StaticValue, Surroundings}
 use Rattle.jc_machine.specs.Runtime.{install_array, new_heap}
 use Rattle.jc_words.specs.Values.{Ref, Word}
 
--- ---- a machine that was just made
+-- ---- a new machine
 
 -- a machine with these objects, static fields and one frame
 abbrev pub new_machine : List (List StaticValue) → Frame → Machine (Unit {0})
 new_machine statics frame = record { heap = new_heap; statics = statics; runtime = tt; top = frame; waiting = [] }
 
--- a world, with native members that do nothing
+-- a world with native members that do nothing
 abbrev pub idle_in : World → Surroundings (Unit {0})
 idle_in world = record { world = world; natives = idle; limits = bounds; selected = None }
 
 -- ---- the frame that begins an applet's install
 
--- the applet's package as it is linked behind the API's packages: its pool leads to its class, and to register of it
+-- the applet's package linked after the API's packages: its pool leads to its class, and to the register method of its
+-- class
 abbrev pub applet_body : LinkedBody
 applet_body = record {
   kept = kept_of applet.body;
@@ -37,7 +38,7 @@ applet_body = record {
 abbrev pub applet_world : World
 applet_world = record { shapes = grown (api_world default_binding) applet.shape; bodies = applet_body ∷ [] }
 
--- install, at its first instruction, with the array of the runtime's for it, and an offset and a length of 0
+-- the install method at its first instruction, with the runtime's array for installs, and an offset and length of 0
 abbrev pub install_frame : Frame
 install_frame = record {
   method = record { number = 1; offset = 1 };

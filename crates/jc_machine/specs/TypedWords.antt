@@ -1,4 +1,4 @@
--- What an operation on words comes to where its effect on types is known.
+-- What an operation on words does, given its effect on types.
 use Rattle.std.specs.Prelude.{◌≡◌, ℕ, ℤ, ◌<◌, List, Bool, true, Option, Some, Ok}
 use Rattle.std.specs.Int.{w16}
 use Rattle.std.specs.Int.RustNames.{FitsSigned}
@@ -22,8 +22,9 @@ use Rattle.jc_machine.specs.Typed.{HaveTypes, HoldTypes}
 use Rattle.jc_machine.specs.Words.{act_word}
 use Rattle.jc_words.specs.Values.{TaggedValue, Word}
 
--- the frame goes on with values of the types behind the operation: at the next instruction if it falls through, or
--- where one of its offsets leads; it throws the arithmetic exception; or it returns a word, where its method gives one
+-- the frame continues with values of the types after the operation: at the next instruction if the operation falls
+-- through, or at one of its branch targets; it throws the arithmetic exception; or it returns a word, if its method
+-- returns one
 pub data LeavesTyped {C : Type 0} (world : List Shape) (heap : Heap TaggedValue) (h : StepContext C)
     (returned : Option Ty) (operation : WordOperation) (after : Types) : Stepped C → Type 0 where
   going : (locals operands : List TaggedValue) → falls_of (OnWords operation) ≡ true
@@ -36,8 +37,8 @@ pub data LeavesTyped {C : Type 0} (world : List Shape) (heap : Heap TaggedValue)
   returning : (word : ℕ) → word < 65536 → returned ≡ Some types.Word
       → LeavesTyped world heap h returned operation after (returns_value h (Word word))
 
--- each operation whose effect leads from the types of a frame's values to these types leaves such values, in any world
--- and by any order of classes; a constant that is pushed is a short
+-- if the effect of an operation leads from the types of a frame's values to other types, the operation leaves values of
+-- these types, in any world and for any order of classes; a pushed constant is a short
 abbrev pub KeepWordsTyped : (C : Type 0) → Type 0
 KeepWordsTyped C =
     (world : List Shape) (heap : Heap TaggedValue) (below : ClassName → ClassName → Bool) (h : StepContext C)

@@ -1,4 +1,4 @@
--- What the look-ups of instructions and of cells come to, said without the counts by which they end.
+-- What the look-ups of instructions and cells find, without the counters that end them.
 use Rattle.std.specs.Prelude.{◌≡◌, ℕ, ◌+◌, ◌++◌, List, [], length, true, Some, Ok, slice_get}
 use Rattle.std.specs.Option.{option_map_or}
 use Rattle.jc_base.specs.declared.declared_type.DeclaredType.{DeclaredType}
@@ -16,14 +16,14 @@ use Rattle.jc_link.specs.declared.target.PoolTarget.TheVariants as To
 use Rattle.jc_names.specs.declared.name.ClassName.{ClassName}
 use Rattle.jc_machine.specs.Lookup.{fields_of, own_fields}
 
--- instructions stand one behind the other from the first byte up to a pc, and this one begins there
+-- consecutive instructions lead from the first byte to a pc, and this one begins there
 pub record IsInstructionAt (code : List ℕ) (pc : ℕ) (instr : Instr) : Type 0 where
   pub before : List PlacedInstr
   pub stand : StandBetween instr_at code 0 before pc
   pub there : instr_at code pc ≡ Ok instr
 
--- the cells of a class are those of its superclass, and behind them its own; they are as many as its chain declares.
--- What an entry of a pool leads to as a field is, for a class or one below it, the cell of that number, with its type
+-- the cells of a class are those of its superclass, followed by its own; there are as many as its chain declares. If a
+-- pool entry leads to a field, an object of its class or below has a cell of that number with its type
 pub record HaveCells (world : List Shape) : Type 0 where
   pub follow : (c : ClassName)
       → fields_of world c ≡ option_map_or (fields_of world) (superclass_of world c) [] ++ own_fields world c

@@ -1,6 +1,6 @@
--- What a step doesn't see: two machines that differ in the components of plain objects of one context alone make the
--- same accesses and come to the same, but for these components, as long as no step runs in that context (Java Card
--- Runtime Environment Specification, Applet Isolation and Object Sharing).
+-- What a step doesn't see: two machines that differ only in the components of plain objects of one context make the
+-- same accesses and have the same outcome, except for these components, as long as no step runs in that context (Java
+-- Card Runtime Environment Specification, Applet Isolation and Object Sharing).
 use Rattle.std.specs.Prelude.{◌≡◌, ◌≢◌, ℕ, ◌==◌, ◌&&◌, Bool, true, false, not, List, length, Option, Some}
 use Rattle.std.specs.List.{list_all}
 use Rattle.jc_store.specs.Heap.{Heap, Object, object_at}
@@ -27,11 +27,11 @@ is_plain PermanentEntryPoint = false
 is_plain TemporaryEntryPoint = false
 is_plain GlobalArray = false
 
--- a plain object of a context: what it holds is hidden from every other context
+-- a plain object of a context: its components are hidden from all other contexts
 abbrev pub is_hidden : ℕ → Object TaggedValue → Bool
 is_hidden context o = o.owner.context == context && is_plain o.kind.mark
 
--- objects that are the same, or differ in the components of a hidden object
+-- objects that are the same, except for the components of a hidden object
 pub record IsAlike (context : ℕ) (o p : Object TaggedValue) : Type 0 where
   pub kind : o.kind ≡ p.kind
   pub owner : o.owner ≡ p.owner
@@ -45,9 +45,9 @@ AreAlike context os ps = Pointwise (IsAlike context) os ps
 abbrev pub IsSeen : ℕ → Heap TaggedValue → ℕ → Type 0
 IsSeen context heap number = (o : Object TaggedValue) → object_at heap number ≡ Some o → is_hidden context o ≡ false
 
--- ---- what a step comes to
+-- ---- the outcome of a step
 
--- the same, but for hidden components. An object that is thrown isn't hidden: the runtime reads its reason
+-- the same outcome, except for hidden components. A thrown object isn't hidden: the runtime reads its reason
 pub data ComesAlike {C : Type 0} (context : ℕ) : Outcome C → Outcome C → Type 0 where
   next : (m : Machine C) (heap : Heap TaggedValue) → AreAlike context m.heap heap
       → ComesAlike context (Next m) (Next (with_heap m heap))
@@ -59,14 +59,14 @@ pub data ComesAlike {C : Type 0} (context : ℕ) : Outcome C → Outcome C → T
       → ComesAlike context (UsedUp m) (UsedUp (with_heap m heap))
   stuck_both : ComesAlike context Stuck Stuck
 
--- the same accesses, and the same but for hidden components
+-- the same accesses and outcome, except for hidden components
 pub record StepsAlike {C : Type 0} (context : ℕ) (s t : Stepped C) : Type 0 where
   pub touches : s.touches ≡ t.touches
   pub outcome : ComesAlike context s.outcome t.outcome
 
 -- ---- native members
 
--- the same accesses and end, and the same but for hidden components; an object that is thrown isn't hidden
+-- the same accesses and end, and objects that differ only in hidden components; a thrown object isn't hidden
 pub record IsBlindAnswer {C : Type 0} (context : ℕ) (a b : NativeAnswer C) : Type 0 where
   pub touches : a.touches ≡ b.touches
   pub heap : AreAlike context a.heap b.heap
@@ -78,8 +78,8 @@ pub record IsBlindAnswer {C : Type 0} (context : ℕ) (a b : NativeAnswer C) : T
 abbrev pub with_objects : {C : Type 0} → NativeCall C → Heap TaggedValue → NativeCall C
 with_objects call heap = record call { heap = heap }
 
--- answers don't depend on hidden components: those to calls by applets of other contexts, and those of the one member
--- that native members have called (getShareableInterfaceObject), whoever calls it
+-- hidden components don't affect the answers to calls by applets of other contexts, nor those of the one member that
+-- native members call back (getShareableInterfaceObject), whoever calls it
 pub record AreNativesBlind {C : Type 0} (natives : Natives C) : Type 0 where
   pub members : (context : ℕ) (w : World) (call : NativeCall C) (heap : Heap TaggedValue)
       → HasRuntimeObjects call.heap → is_applets call.active ≡ true → call.active.context ≢ context
@@ -95,11 +95,11 @@ pub record AreNativesBlind {C : Type 0} (natives : Natives C) : Type 0 where
 abbrev pub from_objects : {C : Type 0} → Start C → Heap TaggedValue → Start C
 from_objects start heap = record start { heap = heap }
 
--- none of the contexts that ran is this one
+-- whether this context isn't among those that ran
 abbrev pub stays_out : ℕ → List ℕ → Bool
 stays_out context ran = list_all (λ n. not (n == context)) ran
 
--- the same end, but for hidden components
+-- the same end, except for hidden components
 pub data EndsAlike {C : Type 0} (context : ℕ) : CallEnd C → CallEnd C → Type 0 where
   gave : (m : Machine C) (heap : Heap TaggedValue) (value : Option TaggedValue) → AreAlike context m.heap heap
       → EndsAlike context (Gave m value) (Gave (with_heap m heap) value)
@@ -110,7 +110,7 @@ pub data EndsAlike {C : Type 0} (context : ℕ) : CallEnd C → CallEnd C → Ty
       → AreAlike context m.heap heap → EndsAlike context (RanOut m spent at) (RanOut (with_heap m heap) spent at)
   were_stuck : EndsAlike context WasStuck WasStuck
 
--- the same accesses, the same contexts in the same order, and the same end, but for hidden components
+-- the same accesses, the same contexts in the same order, and the same end, except for hidden components
 pub record CallsAlike {C : Type 0} (context : ℕ) (c d : Called C) : Type 0 where
   pub touches : c.touches ≡ d.touches
   pub ran : c.ran ≡ d.ran

@@ -74,7 +74,7 @@ pub fn calls_run()
         ≡ untouched used_up }
 {}
 
-/// A native member calls back a member of an object, with the object's owner active. It does nothing.
+/// A native member calls back a member of an object, as the object's owner. It does nothing.
 pub fn callback_runs()
     ensures { run_with asking (applet ∷ server ∷ asker ∷ []) 20 (start_of (with_served 0) (owner 3 1) (Loaded 3 1) [])
         ≡ shown (touch 1 InvokeVirtual 11 Allowed ∷ []) (a_value (Some (Word 1))) }
@@ -101,8 +101,8 @@ pub fn runtime_objects_fit()
     ensures { have_their_sizes ≡ true }
 {}
 
-/// Operands were written: an unset value has no type as an operand, and a step that drops one gets stuck. It does
-/// nothing.
+/// Operands must have been written: an unset value has no type as an operand, and a step that drops one gets stuck. It
+/// does nothing.
 pub fn operands_are_written()
     ensures a_word_is_dropped { is_stuck_with (Word 0) ≡ false }
     ensures an_unset_operand_is_stuck { is_stuck_with Unset ≡ true }
@@ -148,9 +148,9 @@ pub fn throws_run()
     ensures a_cast_fails { probed_on 30 250 ≡ shown (touch 1 CheckCast 11 Allowed ∷ []) (an_object 3) }
 {}
 
-/// A new machine has the runtime's own objects alone: all of them are there, and they are typed in each built world. If
-/// a binding has no clash, the machine is well typed in the world of the API alone, beside any frame, and it may run
-/// there with native members that do nothing. It does nothing.
+/// A new machine has only the runtime's own objects: all of them exist, and they are typed in each built world. If a
+/// binding has no clash, the machine is well typed, apart from its frame, in the world with only the API's packages,
+/// and it may run there with native members that do nothing. It does nothing.
 pub fn new_machines_are_typed()
     ensures there { HasRuntimeObjects new_heap }
     ensures objects { (world : List Shape) → IsBuilt world → HeapTyped world new_heap }
@@ -162,7 +162,7 @@ pub fn new_machines_are_typed()
     api_classes_have_objects();
 }
 
-/// A new machine that begins an applet's install is well typed, in a world with the applet's package, whose pool is
+/// A new machine that begins an applet's install is well typed in a world with the applet's package, whose pool is
 /// resolved. It may run there with native members that do nothing. It does nothing.
 pub fn first_frames_are_typed()
     ensures resolved { IsResolved applet_world.shapes 2 applet_body }
@@ -172,8 +172,8 @@ pub fn first_frames_are_typed()
     an_applet_is_well_formed();
 }
 
-/// A component or field of bytes keeps the low byte of a word, and a load extends its sign; one of shorts keeps the
-/// word. It does nothing.
+/// A component or field of bytes keeps the low byte of a word, and a load extends its sign; a component or field of
+/// shorts keeps the word. It does nothing.
 pub fn bytes_are_kept()
     ensures the_low_byte { stored_as forms.Byte (Word 0x1FF) ≡ Word 0xFF }
     ensures the_least { loaded_as forms.Byte (Word 0x80) ≡ Some (Word 0xFF80) }

@@ -53,10 +53,10 @@ pub fn accepted_methods_are_typed()
         → IsMethodTyped (linked_as w place.number body) code }
 {}
 
-/// The world of the API alone is accepted, if its binding has no clash. An accepted world grows by a linked package to
-/// an accepted world, if the package was bound to it as it stands, the new world is within the limits of a world, the
-/// tokens of virtual methods in the package's pool are bytes, some certificate carries the package, and its methods are
-/// well typed. It does nothing.
+/// The world with only the API's packages is accepted, if its binding has no clash. If a package is linked to an
+/// accepted world, the grown world is accepted too, provided that the package was bound to this world, the new world is
+/// within the limits of a world, the tokens of virtual methods in the package's pool are bytes, some certificate
+/// carries the package, and its methods are well typed. It does nothing.
 pub fn accepted_worlds_grow()
     ensures api { (bound : Bound) → HasNoClash bound → IsAccepted (api_alone bound) }
     ensures grown { (w : World) (l : Linked) → IsAccepted w → IsBoundTo w l → IsLast l → IsSmall l.world
@@ -66,22 +66,22 @@ pub fn accepted_worlds_grow()
     growing_keeps_linking();
 }
 
-/// If each object stays, as it does after a native member, the runtime's own objects stay. It does nothing.
+/// If each object stays, as after a native member, the runtime's own objects stay. It does nothing.
 pub fn runtime_objects_stay()
     ensures { (before after : Heap TaggedValue) → KeepsObjects before after → HasRuntimeObjects before
         → HasRuntimeObjects after }
 {}
 
-/// The law of accesses, of each step of each machine, well typed or not, if its native members keep theirs. Each access
-/// is made in the context of the running frame, or by the runtime to one of its named objects. If a native member calls
-/// a member of another object, that call may also access that very object, in its owner's context. The firewall judges
-/// each access, by the value that it stores and the class that it wants. Each access is allowed; or only the last is
-/// denied, and then the security exception is thrown from the machine as it was. Components change only in objects with
-/// a listed and allowed access by which they may change; in a plain object only if the frame runs in its owner's
-/// context, or the runtime makes the access. Each object stays, with its kind, owner and size. A new object is plain
-/// and belongs to the active owner, and its components are zero or null. Static fields stay too, except the one that a
-/// putstatic names by its package's constant pool: its own, or one that another package exports. What the runtime keeps
-/// may be of any type. It does nothing.
+/// The law of accesses. It holds for each step of each machine, well typed or not, if its native members keep their
+/// law. Each access is made in the context of the running frame, or by the runtime to one of its named objects. If a
+/// native member calls a member of another object, that call may also access that object, in its owner's context. The
+/// firewall judges each access, by the value that it stores and the class that it wants. Each access is allowed; or
+/// only the last is denied, and then the security exception is thrown with the machine unchanged. Components change
+/// only in objects with a listed and allowed access that may change them; in a plain object only if the frame runs in
+/// its owner's context, or the runtime makes the access. Each object stays, with its kind, owner and size. A new object
+/// is plain and belongs to the active owner, and its components are zero or null. Static fields don't change, except
+/// the one that a putstatic names by its package's constant pool: its own, or one that another package exports. What
+/// the runtime keeps may be of any type. It does nothing.
 pub fn accesses_are_guarded<N: Natives>(_natives: &N)
     ensures guarded { (s : Surroundings N.Kept) → AreNativesGuarded s.natives → (m : Machine N.Kept) → IsGuarded s m }
     ensures denied { (s : Surroundings N.Kept) → AreNativesGuarded s.natives → (m : Machine N.Kept)
@@ -91,12 +91,12 @@ pub fn accesses_are_guarded<N: Natives>(_natives: &N)
 {}
 
 /// Only the runtime acts in its own name. If no frame is active as the runtime, no object in its context has code of a
-/// package, and each object that isn't plain belongs to it, then this also holds after each step, and the step's
-/// accesses in the runtime's name spare plain objects. So the components of a plain object change only if its owner's
-/// context is that of the running frame. No field or component holds a reference to a temporary entry point or a global
-/// array, except that a static field may hold one to an array of a library. Objects are still set apart if each stays,
-/// new ones are plain and belong to an owner in the context of a package, and components hold no other references. What
-/// the runtime keeps may be of any type, with any test that the native members keep. It does nothing.
+/// package, and each object that isn't plain belongs to it, then this also holds after each step, and the step accesses
+/// no plain object in the runtime's name. So the components of a plain object change only if its owner's context is
+/// that of the running frame. No field or component holds a reference to a temporary entry point or a global array,
+/// except that a static field may hold one to an array of a library. Objects are still set apart if each stays, new
+/// ones are plain and belong to an owner in the context of a package, and components hold no other references. What the
+/// runtime keeps may be of any type, with any test that the native members preserve. It does nothing.
 pub fn steps_stay_apart<N: Natives>(_natives: &N)
     ensures steps { (keeps : N.Kept → Bool) (s : Surroundings N.Kept) → AreNativesGuarded s.natives
         → AreNativesApart keeps s.natives → HaveApiMembers s.world.shapes → (m : Machine N.Kept) → IsApart keeps m
@@ -105,27 +105,27 @@ pub fn steps_stay_apart<N: Natives>(_natives: &N)
         → is_applets owner ≡ true → AddsFor owner before after → HoldStorable after → IsSetApart after }
 {}
 
-/// The owners of frames. After each step, the running frame goes on with its owners, and the waiting ones are as they
-/// were; or it waits, and one more frame is called; or a waiting frame goes on, and those within it are gone. The
-/// called frame has its caller's owners, or the active owner is the one to which the verdict on the call's access
+/// The owners of frames. After each step, the running frame continues with its owners and the waiting frames don't
+/// change; or it waits, and a new frame runs; or a waiting frame continues, and the frames inside it are dropped. The
+/// new frame has its caller's owners, or the active owner is the one to which the verdict on the call's access
 /// switches, or the owner of an object that is asked for a shareable object. It does nothing.
 pub fn owners_go_by_calls<N: Natives>(_natives: &N)
     ensures { (s : Surroundings N.Kept) → AreNativesGuarded s.natives → (m : Machine N.Kept) → StepsOwned s m }
 {}
 
-/// The accesses of each step are its instruction's. A table gives an instruction an access, and the place of the
+/// The accesses of each step are those of its instruction. A table gives an instruction an access, and the place of the
 /// reference to the object that it accesses. The step's first access is this one, to that object, and it stores and
 /// names what the table says. It is missing only if the instruction has no row, the reference is null, or the machine
-/// gets stuck. Further accesses of an invoke instruction are those of a native member, and of the one that this calls
-/// back. A further access of an instruction that creates an object is the runtime's own. It does nothing.
+/// gets stuck. Further accesses of an invoke instruction are those of a native member, and of the member that this one
+/// calls back. A further access of an instruction that creates an object is the runtime's own. It does nothing.
 pub fn accesses_are_the_instructions<N: Natives>(_natives: &N)
     ensures { (s : Surroundings N.Kept) → AreNativesGuarded s.natives → (m : Machine N.Kept) → AccessesAreOwn s m }
 {}
 
-/// A thrown object is caught in the innermost frame with a handler that covers the frame's pc and catches objects of
-/// its class, by the first such handler. The frame goes on there, with the object as its only operand. The frames
-/// within it are dropped, and nothing else changes. If no frame has such a handler, the object is thrown out of the
-/// call. A machine that isn't well typed may be stuck instead. It does nothing.
+/// A thrown object is caught in the innermost frame with an exception handler that covers the frame's pc and catches
+/// objects of its class; the first such handler catches it. The frame continues there, with the object as its only
+/// operand. The frames inside it are dropped, and nothing else changes. If no frame has such a handler, the object is
+/// thrown out of the call. A machine that isn't well typed may get stuck instead. It does nothing.
 pub fn throws_are_caught<N: Natives>(_natives: &N)
     ensures { (s : Surroundings N.Kept) → (m : Machine N.Kept) → (object : ℕ) → (o : Object TaggedValue)
         → object_at m.heap object ≡ Some o
@@ -133,8 +133,8 @@ pub fn throws_are_caught<N: Natives>(_natives: &N)
 {}
 
 /// No step of a frame in another package's context sees the components of a context's plain objects. Nor does a runtime
-/// call, if none of its steps runs in that context. On objects that differ only there, it makes the same accesses, and
-/// has the same result except for these components. It does nothing.
+/// call, if none of its steps runs in that context. On objects that differ only in these components, it makes the same
+/// accesses, and has the same result except for them. It does nothing.
 pub fn contents_are_unseen<N: Natives>(_natives: &N)
     ensures steps { (context : ℕ) (s : Surroundings N.Kept) → AreNativesGuarded s.natives → AreNativesBlind s.natives
         → (m : Machine N.Kept) → HasRuntimeObjects m.heap → is_applets m.top.active ≡ true
@@ -148,15 +148,16 @@ pub fn contents_are_unseen<N: Natives>(_natives: &N)
         → CallsAlike context (runtime_call s steps start) (runtime_call s steps (from_objects start heap)) }
 {}
 
-/// If a test is kept by the native members, and what the runtime keeps passes it, then what each runtime call leaves
-/// passes it too: nothing else changes what the runtime keeps. It does nothing.
+/// If the native members preserve a test of what the runtime keeps, each runtime call preserves it: nothing else
+/// changes what the runtime keeps. It does nothing.
 pub fn calls_keep_what_members_keep<N: Natives>(_natives: &N)
     ensures { (keeps : N.Kept → Bool) (s : Surroundings N.Kept) → AreNativesGuarded s.natives
         → MembersKeep keeps s.natives → (steps : ℕ) (start : Start N.Kept) → keeps start.runtime ≡ true
         → LeavesKept keeps (runtime_call s steps start).ends }
 {}
 
-/// A value that a component or a static field may hold, it may hold as long as objects stay. It does nothing.
+/// As long as objects stay, a component or a static field may still hold each value that it could hold before. It does
+/// nothing.
 pub fn held_values_stay()
     ensures held { (before after : Heap TaggedValue) → KeepsObjects before after → (v : TaggedValue)
         → may_be_held before v ≡ true → may_be_held after v ≡ true }
@@ -164,9 +165,8 @@ pub fn held_values_stay()
         → FieldsHoldStorable before statics → FieldsHoldStorable after statics }
 {}
 
-/// An instruction is found at a pc of code if and only if it begins there, after instructions that follow one another
-/// from the first byte on. If the code is a list of instructions, the one found is the listed one at that pc. It does
-/// nothing.
+/// An instruction is found at a pc of code if and only if it begins there, after consecutive instructions from the
+/// first byte on. If the code is a list of instructions, the one found is the listed one at that pc. It does nothing.
 pub fn instructions_begin_in_turn()
     ensures begin { (code : List ℕ) (pc : ℕ) (instr : Instr)
         → (instruction_at code pc ≡ Some instr) ↔ IsInstructionAt code pc instr }
@@ -176,8 +176,9 @@ pub fn instructions_begin_in_turn()
     listing_laws();
 }
 
-/// In a small built world, the cells of a class follow those of its superclass, and are as many as its chain declares.
-/// Each instance field that an entry of a pool leads to is at its cell, with its type. It does nothing.
+/// In a small built world, the cells of a class are those of its superclass, followed by its own, and there are as many
+/// as its chain declares. Each instance field that a pool entry leads to is at its cell, with its type. It does
+/// nothing.
 pub fn cells_follow_superclasses()
     ensures { (world : List Shape) → IsSmall world → IsBuilt world → HaveCells world }
 {
@@ -185,10 +186,10 @@ pub fn cells_follow_superclasses()
     built_worlds_have_the_api();
 }
 
-/// If an operation on words has an effect on the types of a frame's values, the frame goes on with values of the types
-/// after it, at the next instruction or where one of the operation's offsets leads; or it throws the arithmetic
-/// exception; or it returns a word. This holds in any world, with any objects, and for any order of classes. What the
-/// runtime keeps may be of any type. It does nothing.
+/// If an operation on words has an effect on the types of a frame's values, the frame continues with values of the
+/// types after it, at the next instruction or at one of the operation's branch targets; or the operation throws the
+/// arithmetic exception; or it returns a word. This holds in any world, with any objects, and for any order of classes.
+/// What the runtime keeps may be of any type. It does nothing.
 pub fn operations_on_words_keep_types<N: Natives>(_natives: &N)
     ensures { KeepWordsTyped N.Kept }
 {

@@ -1,4 +1,4 @@
-//! Where a call that doesn't end normally stopped, and which budget it used up.
+//! Where a call that doesn't end normally stops, and which budget it used up.
 
 /// A place in the code of a loaded package.
 #[derive(Clone, Copy, Debug, PartialEq, Eq)]
@@ -7,7 +7,7 @@ pub struct CodePoint {
     pub package: u8,
     /// The offset of the method's header in the package's Method component.
     pub method: u16,
-    /// The pc: it counts from the first byte of the method's code.
+    /// The pc, counted from the first byte of the method's code.
     pub pc: u16,
 }
 
@@ -18,6 +18,6 @@ pub enum Budget {
     Steps,
     /// Frames.
     Frames,
-    /// Words that the locals and the operands of frames take.
+    /// Words of the frames' locals and operands.
     FrameWords,
 }

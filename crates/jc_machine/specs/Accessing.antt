@@ -49,14 +49,14 @@ value_at f (Operand number) = slice_get f.operands number
 value_at f (Local number) = slice_get f.locals number
 
 -- a row of the table: the access; the place of the reference to the object that the instruction accesses; the place of
--- the value that it stores, if it stores one; and the class or interface that it calls or casts to, if it names one
+-- the stored value, if the access names it; and the class or interface that it calls or casts to, if it names one
 pub record Row : Type 0 where
   pub access : Access
   pub object : FramePlace
   pub stored : Option FramePlace
   pub wanted : Option ClassName
 
--- an access that stores no value
+-- an access that stores no reference and names no class
 abbrev pub uses : Access → FramePlace → Option Row
 uses access object = Some (record { access = access; object = object; stored = None; wanted = None })
 
@@ -64,7 +64,7 @@ uses access object = Some (record { access = access; object = object; stored = N
 abbrev pub stores : Access → FramePlace → Option Row
 stores access object = Some (record { access = access; object = object; stored = Some (Operand 0); wanted = None })
 
--- an access that stores no value, and names a class or an interface
+-- an access that stores no reference, and names a class or an interface
 abbrev pub names : Access → FramePlace → Option ClassName → Option Row
 names access object wanted = Some (record { access = access; object = object; stored = None; wanted = wanted })
 

@@ -235,7 +235,7 @@ pub record IsGuarded {C : Type 0} (s : Surroundings C) (m : Machine C) : Type 0 
       → AddsFor m.top.active m.heap after.heap
   pub statics : (after : Machine C) → machine_of (defensive_step s m).outcome ≡ Some after → KeepsStatics s m after
 
--- ---- what follows
+-- ---- consequences
 
 -- a plain object keeps its components, or its owner's context is this one
 abbrev pub KeepsPlain : ℕ → Heap TaggedValue → Heap TaggedValue → Type 0

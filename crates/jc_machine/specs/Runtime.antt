@@ -66,7 +66,7 @@ first_aid_object = 14
 abbrev pub most_instances : ℕ
 most_instances = 32
 
--- ---- what they are
+-- ---- the objects
 
 -- an object of the runtime: its number, type and mark, and how many components it has
 pub record RuntimeObject : Type 0 where

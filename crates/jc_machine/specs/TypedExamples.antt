@@ -17,7 +17,7 @@ use Rattle.jc_words.specs.Values.{Ref, Word}
 
 -- ---- a new machine
 
--- a machine with these objects, static fields and one frame
+-- a machine with the objects of a new card, these static fields and one frame
 abbrev pub new_machine : List (List StaticValue) → Frame → Machine (Unit {0})
 new_machine statics frame = record { heap = new_heap; statics = statics; runtime = tt; top = frame; waiting = [] }
 

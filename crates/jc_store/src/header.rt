@@ -3,11 +3,9 @@
 ghost use Rattle.std.specs.Prelude.{◌≡◌, ◌+◌, ◌-◌, ◌<◌, ◌≤◌, Some, length, slice_get, unwrap_or};
 ghost use Rattle.jc_store.specs.PrivateLaid.{fast_in, null_head};
 
+use crate::context::NONE;
 use crate::kind::{ClearingEvent, ObjectKind};
 use jc_names::Owner;
-
-/// The context number that no context has.
-const NONE: u8 = 255;
 
 /// The data that each access to an object needs, in eight bytes: where its components begin among the cells, and how
 /// many it has; the number of its class; and the context that may access it in every way.

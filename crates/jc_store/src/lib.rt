@@ -3,9 +3,11 @@
 
 mod block;
 mod clearing;
+mod context;
 mod header;
 mod kind;
 mod store;
 
+pub use context::AppletContext;
 pub use kind::{ClearingEvent, Mark, ObjectKind, ObjectType};
 pub use store::Store;

@@ -1,15 +1,18 @@
+use Rattle.std.proofs.Common.{◌∙◌, ◌<◌, ℕ, subst, sym}
 use Rattle.std.proofs.lemmas.Bool.{eqb-false, eqb-true}
 use Rattle.jc_store.proofs.Rows.{not_own, own}
 use Rattle.jc_store.proofs.store.Store.is_own.Goals as goal
 
 pub returns-clause-own : goal.returns-clause-own
-returns-clause-own c is below =
+returns-clause-own c is =
+    let number = c.number.ensures.number in
     own c.self.invariant c.self.view_is c.args.number c.args.context c.deref.result.now c.head_at.result
     c.requires.there c.deref.ensures.value c.head_at.ensures
-    (eqb-true c.head_at.result.fast c.args.context is) below
+    (eqb-true c.head_at.result.fast c.number.result is ∙ number)
+    (subst (λ (n : ℕ). n < 255) number c.number.ensures.known)
 
 pub returns-clause-other : goal.returns-clause-other
 returns-clause-other c is =
     not_own c.self.invariant c.self.view_is c.args.number c.args.context c.deref.result.now c.head_at.result
     c.deref.ensures.value c.head_at.ensures
-    (eqb-false c.head_at.result.fast c.args.context is)
+    (λ e. eqb-false c.head_at.result.fast c.number.result is (e ∙ sym c.number.ensures.number))

@@ -32,7 +32,6 @@ mod Fetching
 mod Telling
 mod Running
 mod WordRoom
-mod WordScenes
 mod Leafing
 mod QuickReady
 mod SceneSteps

@@ -1,6 +1,6 @@
 //! The static fields of loaded packages, as words.
 
-ghost use Rattle.std.specs.Prelude.{◌≡◌, ◌++◌, ◌∷◌, [], is_some, length, List, ℕ, Some, IfErr, IfOk};
+ghost use Rattle.std.specs.Prelude.{◌≡◌, ◌++◌, ◌∷◌, [], length, List, ℕ, Some, IfErr, IfOk};
 ghost use Rattle.std.specs.Borrow.{sem};
 ghost use Rattle.jc_interp.specs.PrivateStatics.{HasImage, LendsAll, LendsImage, with_left};
 ghost use Rattle.jc_interp.specs.Statics.{static_in, with_static};
@@ -104,15 +104,7 @@ impl Statics {
         }
     }
 
-    /// Whether there are static fields of the package with a number.
-    #[inline]
-    pub(crate) fn has(&self, package: u8) -> bool
-        ensures { result ≡ is_some (of_package self.now «package») }
-    {
-        usize::from(package).wrapping_sub(1) < self.images.len()
-    }
-
-    /// The words of that package, for writing.
+    /// The words of the package with a number, for writing.
     #[inline]
     pub(crate) fn image_mut(&mut self, package: u8) -> &mut [u16]
         requires there { HasImage self.old «package» }

@@ -1,7 +1,7 @@
 //! Members that are done at once, on scalars: short ones, and those that move bytes. Their objects have to be the
 //! active context's own, and ranges have to lie within them. Everything else is left to the tests of a call.
 
-ghost use Rattle.std.specs.Prelude.{◌≡◌, ◌<◌, true, Some};
+ghost use Rattle.std.specs.Prelude.{◌≡◌, true, Some};
 ghost use Rattle.jc_api.specs.Numbered.{numbered};
 ghost use Rattle.jc_machine.specs.declared.natives.AtOnce.TheVariants.{NotAtOnce};
 ghost use Rattle.jc_natives.specs.Members.{natives};
@@ -17,12 +17,10 @@ use jc_firewall::own_is_allowed;
 use jc_machine::AtOnce;
 use jc_store::Store;
 
-// Whether an object is a context's own, so the context may use it in every way. No context is 255. Null is no context's
-// own.
+// Whether an object is a context's own, so the context may use it in every way. Null is no context's own.
 #[inline(always)]
 #[tactic(auto, using(crate::proofs::Owning::own_passes, crate::proofs::Owning::reference_within))]
 fn is_own(store: &Store, number: u16, context: u8) -> bool
-    requires known { context < 255 }
     ensures { result ≡ true → MayBeUsed store.now number context }
 {
     own_is_allowed();
@@ -32,7 +30,6 @@ fn is_own(store: &Store, number: u16, context: u8) -> bool
 // Whether an array is a context's own, and has `count` components from an index on.
 #[inline(always)]
 fn has_own_part(store: &Store, number: u16, from: u16, count: u16, context: u8) -> bool
-    requires known { context < 255 }
     ensures { result ≡ true → HasOwnPart store.now number from count context }
 {
     is_own(store, number, context) && is_within(store.len(number), from, count)
@@ -41,7 +38,6 @@ fn has_own_part(store: &Store, number: u16, from: u16, count: u16, context: u8) 
 // Whether both arrays of a member are a context's own, and the ranges lie within them.
 #[inline(never)]
 fn has_own_parts(store: &Store, arguments: &[u16], context: u8) -> bool
-    requires known { context < 255 }
     ensures { result ≡ true → HasOwnParts store.now arguments.now context }
 {
     let count = argument(arguments, 4);
@@ -63,7 +59,6 @@ fn has_own_parts(store: &Store, arguments: &[u16], context: u8) -> bool
 // A constructor that sets nothing.
 #[inline(always)]
 fn construct(store: &Store, arguments: &[u16], context: u8) -> AtOnce
-    requires known { context < 255 }
     ensures { WorksAtOnce (Some (OfObject objects.Construct)) arguments.now context store.now store.now result }
 {
     if is_own(store, argument(arguments, 0), context) {
@@ -75,7 +70,6 @@ fn construct(store: &Store, arguments: &[u16], context: u8) -> AtOnce
 
 #[inline(always)]
 fn get_short(store: &Store, arguments: &[u16], context: u8) -> AtOnce
-    requires known { context < 255 }
     ensures { WorksAtOnce (Some (OfUtility utilities.GetShort)) arguments.now context store.now store.now result }
 {
     let array = argument(arguments, 0);
@@ -89,7 +83,6 @@ fn get_short(store: &Store, arguments: &[u16], context: u8) -> AtOnce
 
 #[inline(always)]
 fn set_short(store: &mut Store, arguments: &[u16], context: u8) -> AtOnce
-    requires known { context < 255 }
     ensures works { WorksAtOnce (Some (OfUtility utilities.SetShort)) arguments.now context store.old store.new result }
     ensures asks { result ≡ NotAtOnce → store.new ≡ store.old }
 {
@@ -113,7 +106,6 @@ fn make_short(store: &Store, arguments: &[u16], context: u8) -> AtOnce
 
 #[inline(always)]
 fn array_copy(store: &mut Store, arguments: &[u16], context: u8) -> AtOnce
-    requires known { context < 255 }
     ensures works { WorksAtOnce (Some (OfUtility utilities.ArrayCopy)) arguments.now context store.old store.new
         result }
     ensures asks { result ≡ NotAtOnce → store.new ≡ store.old }
@@ -132,7 +124,6 @@ fn array_copy(store: &mut Store, arguments: &[u16], context: u8) -> AtOnce
 
 #[inline(always)]
 fn array_fill(store: &mut Store, arguments: &[u16], context: u8) -> AtOnce
-    requires known { context < 255 }
     ensures works { WorksAtOnce (Some (OfUtility utilities.ArrayFill)) arguments.now context store.old store.new
         result }
     ensures asks { result ≡ NotAtOnce → store.new ≡ store.old }
@@ -149,7 +140,6 @@ fn array_fill(store: &mut Store, arguments: &[u16], context: u8) -> AtOnce
 
 #[inline(always)]
 fn array_compare(store: &Store, arguments: &[u16], context: u8) -> AtOnce
-    requires known { context < 255 }
     ensures { WorksAtOnce (Some (OfUtility utilities.ArrayCompare)) arguments.now context store.now store.now result }
 {
     if !has_own_parts(store, arguments, context) {
@@ -163,16 +153,13 @@ fn array_compare(store: &Store, arguments: &[u16], context: u8) -> AtOnce
     AtOnce::Gives(compare_bytes(store, one, one_from, other, other_from, count))
 }
 
-/// Executes the member with a number at once, in the context of an applet, if it is one that can be done so. It is
-/// selected by its number and its number of arguments, so all its arguments are there.
+/// Executes the member with a number at once, in a context, if it is one that can be done so. It is selected by its
+/// number and its number of arguments, so all its arguments are there.
 #[inline(always)]
 pub(crate) fn done_at_once(store: &mut Store, member: u16, arguments: &[u16], context: u8) -> AtOnce
     ensures works { WorksAtOnce (numbered natives member) arguments.now context store.old store.new result }
     ensures asks { result ≡ NotAtOnce → store.new ≡ store.old }
 {
-    if context == 0 || context == 255 {
-        return AtOnce::NotAtOnce;
-    }
     match member {
         1 | 3 | 4 | 5 | 6 | 7 | 8 | 9 | 10 | 11 | 12 | 13 | 33 if arguments.len() == 1 => {
             construct(store, arguments, context)

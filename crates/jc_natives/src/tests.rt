@@ -89,14 +89,13 @@ fn thrown_by(verdict: Verdict) -> Option<u16>
     }
 }
 
-// Whether an object is the active context's own, and isn't cleared on deselect. Then every use of it is allowed. No
-// context is 255.
+// Whether an object is the active context's own, and isn't cleared on deselect. Then every use of it is allowed.
 #[inline(always)]
 fn is_own(store: &Store, call: &WordCall<'_>, number: u16) -> bool
     requires { IsThere store.now number }
     ensures { result ≡ true → IsOwn store.now number call.now.active.context }
 {
-    call.active.context < 255 && store.is_own(number, call.active.context)
+    store.is_own(number, call.active.context)
 }
 
 // Tests a use of any object with the firewall.

@@ -127,7 +127,7 @@ is_deselected (Some Reset) = 0
 is_deselected (Some Deselect) = 1
 
 fast_own : (clears : Option ClearingEvent) (owner : Owner) (context : ℕ) → fast_in clears owner ≡ context
-    → context < 255 → (owner.context ≡ context) × (clears ≡ Some Deselect → ⊥)
+    → context < 256 → (owner.context ≡ context) × (clears ≡ Some Deselect → ⊥)
 fast_own None owner context e below = (e, λ f. none-some Deselect f)
 fast_own (Some Reset) owner context e below = (e, λ f. let t : 0 ≡ 1 = ap is_deselected f in absurd (omega (arith, t)))
 fast_own (Some Deselect) owner context e below = absurd (omega (arith, e, below))
@@ -230,7 +230,7 @@ module _ {heads : List Head} {rests : List Rest} {cells : List ℕ} {s : Sizes}
       ap (λ (o : Object ℕ). fast_in o.kind.clears o.owner) (sym f.is) ∙ ap (λ (x : Head). x.fast) f.head_is
 
   null_fast : (number : ℕ) (lent : List Head) (head : Head) → number ≡ 0 → lent ≡ heads
-      → slice_get lent number ≡ Some head → head.fast ≡ 255
+      → slice_get lent number ≡ Some head → head.fast ≡ 256
   null_fast number lent head null same at =
       let read : slice_get (null_head ∷ map head_of (headers_of heads rests)) 0 ≡ Some head =
       ap (λ (xs : List Head). slice_get xs 0) (sym (same ∙ stored.rows.heads_are)) ∙ ap (slice_get lent) (sym null)
@@ -238,7 +238,7 @@ module _ {heads : List Head} {rests : List Rest} {cells : List ℕ} {s : Sizes}
       ap (λ (x : Head). x.fast) (sym (same_Some null_head head read))
 
   pub own : (number context : ℕ) (lent : List Head) (head : Head) → IsReference now number → lent ≡ heads
-      → slice_get lent number ≡ Some head → head.fast ≡ context → context < 255
+      → slice_get lent number ≡ Some head → head.fast ≡ context → context < 256
       → IsOwn now number context
   own number context lent head (inl null) same at is below = let f = null_fast number lent head null same at in
       absurd (omega (arith, f, is, below))

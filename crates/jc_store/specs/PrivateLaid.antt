@@ -21,11 +21,11 @@ pub record Header : Type 0 where
 
 -- ---- the two rows of an object
 
--- the context that may access the object in every way: the owner's, or 255 if it is cleared on deselect
+-- the context that may access the object in every way: the owner's, or 256 if it is cleared on deselect
 abbrev pub fast_in : Option ClearingEvent → Owner → ℕ
 fast_in None owner = owner.context
 fast_in (Some Reset) owner = owner.context
-fast_in (Some Deselect) owner = 255
+fast_in (Some Deselect) owner = 256
 
 abbrev pub head_of : Header → Head
 head_of h = record { start = h.start; len = h.len; class = h.class; fast = fast_in h.kind.clears h.owner }
@@ -34,7 +34,7 @@ abbrev pub rest_of : Header → Rest
 rest_of h = record { kind = h.kind; owner = h.owner }
 
 abbrev pub null_head : Head
-null_head = record { start = 0; len = 0; class = 0; fast = 255 }
+null_head = record { start = 0; len = 0; class = 0; fast = 256 }
 
 abbrev pub header_in : Head → Rest → Header
 header_in head rest = record {

@@ -3,9 +3,11 @@
 ghost use Rattle.std.specs.Prelude.{◌≡◌, ◌+◌, ◌-◌, ◌<◌, ◌≤◌, Some, length, slice_get, unwrap_or};
 ghost use Rattle.jc_store.specs.PrivateLaid.{fast_in, null_head};
 
-use crate::context::NONE;
 use crate::kind::{ClearingEvent, ObjectKind};
 use jc_names::Owner;
+
+/// What no context's number is: they have eight bits.
+const NONE: u16 = 256;
 
 /// The data that each access to an object needs, in eight bytes: where its components begin among the cells, and how
 /// many it has; the number of its class; and the context that may access it in every way.
@@ -14,7 +16,7 @@ pub(crate) struct Head {
     pub(crate) start: u16,
     pub(crate) len: u16,
     pub(crate) class: u16,
-    pub(crate) fast: u8,
+    pub(crate) fast: u16,
 }
 
 impl Head {
@@ -36,12 +38,12 @@ pub(crate) struct Rest {
 
 /// The context that may access an object in every way: its owner's, or `NONE` if the object is cleared on deselect.
 #[inline]
-pub(crate) fn fast_of(clears: Option<ClearingEvent>, owner: Owner) -> u8
+pub(crate) fn fast_of(clears: Option<ClearingEvent>, owner: Owner) -> u16
     ensures { result ≡ fast_in clears owner }
 {
     match clears {
         Some(ClearingEvent::Deselect) => NONE,
-        Some(ClearingEvent::Reset) | None => owner.context,
+        Some(ClearingEvent::Reset) | None => u16::from(owner.context),
     }
 }
 

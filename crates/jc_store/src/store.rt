@@ -10,7 +10,6 @@ ghost use Rattle.jc_store.specs.PrivateLaid.{HasRoom};
 
 use crate::block::{copy_part, fill_part, part_of, put_part, some_of};
 use crate::clearing::clear_objects;
-use crate::context::AppletContext;
 use crate::header::{Head, Rest, cell_at, fast_of, head_at, head_or_null, rest_at};
 use crate::kind::{ClearingEvent, ObjectKind};
 use jc_names::Owner;
@@ -152,12 +151,12 @@ impl Store {
     /// Whether an object is a context's own: its owner's context is that one, and it isn't cleared on deselect. Then
     /// the context may access it in every way. Null is no context's own.
     #[inline]
-    pub fn is_own(&self, number: u16, context: AppletContext) -> bool
+    pub fn is_own(&self, number: u16, context: u8) -> bool
         requires there { IsReference self.now number }
         ensures own { result ≡ true → IsOwn self.now number context }
         ensures other { result ≡ false → IsOwn self.now number context → ⊥ }
     {
-        head_at(&self.heads, number).fast == context.number()
+        head_at(&self.heads, number).fast == u16::from(context)
     }
 
     /// How many components an object has.

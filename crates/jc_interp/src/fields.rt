@@ -185,13 +185,9 @@ impl WordMachine {
     {
         match here.program.entries.at(here.frame.method.package, index) {
             Some(Entry::Field { cell }) => self.use_field(here, access, cell),
-            Some(
-                Entry::StaticField {
-                    package,
-                    offset,
-                    is_byte: _,
-                },
-            ) => self.use_static(here, access, package, offset),
+            Some(Entry::StaticField { package, offset }) => {
+                self.use_static(here, access, package, offset)
+            },
             Some(Entry::Class(_) | Entry::AbstractMethod) => StepEnd::UsedUp,
             Some(Entry::VirtualMethod { .. } | Entry::Method { .. } | Entry::NativeMethod { .. }) =>
                 StepEnd::UsedUp,

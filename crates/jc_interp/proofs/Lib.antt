@@ -29,12 +29,12 @@ mod VirtualTokens
 mod MatchingInvocations
 mod MatchingSteps
 mod Fetching
-mod Telling
+mod Recognising
 mod Running
 mod WordRoom
 mod Leafing
 mod QuickReady
-mod SceneSteps
+mod StateSteps
 mod Stopping
 mod LeafRuns
 mod ByName

@@ -18,7 +18,7 @@ pub mod PrivateEntering
 pub mod PrivateNatives
 pub mod PrivatePerform
 pub mod PrivateStep
-pub mod PrivateTold
+pub mod PrivateRecognised
 pub mod PrivateKnows
 pub mod PrivateImage
 pub mod PrivateMaking
@@ -27,7 +27,7 @@ pub mod PrivateRuns
 pub mod PrivateLaws
 pub mod PrivateLeaf
 pub mod PrivateRunning
-pub mod PrivateScenes
+pub mod PrivateStates
 pub mod Showing
 pub mod PrivateShown
 pub mod PrivateCalling

@@ -12,9 +12,9 @@ ghost use Rattle.jc_program.specs.Called.{interface_call_at};
 ghost use Rattle.jc_program.specs.Classes.{class_number};
 ghost use Rattle.jc_program.specs.Program.{IsProgramOf};
 
-use crate::here::Here;
 use crate::machine::WordMachine;
 use crate::seen::{Seen, look_at, verdict};
+use crate::step_context::WordStepContext;
 use jc_entries::Called;
 use jc_firewall::{Access, Verdict};
 use jc_names::ClassName;
@@ -29,7 +29,7 @@ const PACKAGE_VISIBLE: u8 = 128;
 /// What an object's class has at a virtual token, for the package whose method runs.
 #[inline(always)]
 #[tactic(auto, using(crate::proofs::ByName::virtual_by_name, crate::proofs::ByName::visible_by_name))]
-pub(crate) fn virtual_called(here: &Here<'_>, class: u16, token: u8) -> Called
+pub(crate) fn virtual_called(here: &WordStepContext<'_>, class: u16, token: u8) -> Called
     ensures is { result ≡ virtual_called here.now class token }
     ensures by_name { (w : LinkedWorld) → IsProgramOf w here.now.program.now
         → IsCalledByName here.now.program.now result }
@@ -48,7 +48,7 @@ pub(crate) fn virtual_called(here: &Here<'_>, class: u16, token: u8) -> Called
 /// The firewall's verdict on a call of a virtual method. An applet may call its context's own objects, whatever else is
 /// known of them. Copies are handed on, so that what is asked of others alone needn't lie in memory.
 #[inline(always)]
-pub(crate) fn verdict_on_call(here: &Here<'_>, object: Seen) -> Verdict
+pub(crate) fn verdict_on_call(here: &WordStepContext<'_>, object: Seen) -> Verdict
     ensures { result ≡ verdict_on here.now InvokeVirtual object None false }
 {
     let context = here.frame.active.context;
@@ -63,7 +63,7 @@ pub(crate) fn verdict_on_call(here: &Here<'_>, object: Seen) -> Verdict
 
 /// Whether the interface with a number is Shareable, or extends it.
 #[inline]
-fn is_shared_number(here: &Here<'_>, number: ClassNumber, _interface: ClassName) -> bool
+fn is_shared_number(here: &WordStepContext<'_>, number: ClassNumber, _interface: ClassName) -> bool
     requires named { class_number here.now.program.now.classes _interface ≡ Some number }
     ensures { result ≡ is_shared_interface here.now.program.now _interface }
 {
@@ -75,7 +75,7 @@ fn is_shared_number(here: &Here<'_>, number: ClassNumber, _interface: ClassName)
 /// others alone.
 #[inline(always)]
 pub(crate) fn verdict_on_interface(
-    here: &Here<'_>,
+    here: &WordStepContext<'_>,
     object: Seen,
     interface: ClassName,
     number: ClassNumber,
@@ -99,7 +99,7 @@ pub(crate) fn verdict_on_interface(
 #[inline(always)]
 #[tactic(auto, using(crate::proofs::ByName::interface_by_name))]
 pub(crate) fn interface_called(
-    here: &Here<'_>,
+    here: &WordStepContext<'_>,
     class: ClassNumber,
     number: ClassNumber,
     _interface: ClassName,

@@ -8,9 +8,9 @@ ghost use Rattle.jc_interp.specs.PrivateCasts.{test_of};
 ghost use Rattle.jc_interp.specs.PrivateDone.{done, operand};
 
 use crate::ends::{CLASS_CAST_EXCEPTION, SECURITY_EXCEPTION, StepEnd};
-use crate::here::Here;
 use crate::machine::WordMachine;
 use crate::seen::{Seen, class_named, is_below, look_at, verdict};
+use crate::step_context::WordStepContext;
 use jc_api::ApiClass;
 use jc_code::{TestedType, WordKind};
 use jc_firewall::{Access, Verdict};
@@ -52,7 +52,7 @@ pub(crate) fn is_shared_interface(program: &Program, class: ClassName) -> bool
     }
 }
 
-pub(crate) fn test_of(here: &Here<'_>, type_: TestedType) -> Option<TypeTest>
+pub(crate) fn test_of(here: &WordStepContext<'_>, type_: TestedType) -> Option<TypeTest>
     ensures { result ≡ test_of here.now type_ }
 {
     match type_ {
@@ -97,7 +97,7 @@ fn is_reference_array(program: &Program, class: ClassName, object: ObjectType) -
 }
 
 /// Whether an object is of a type.
-fn passes(here: &Here<'_>, test: TypeTest, object: Seen) -> bool
+fn passes(here: &WordStepContext<'_>, test: TypeTest, object: Seen) -> bool
     ensures { result ≡ passes here.now test object }
 {
     match test {
@@ -111,7 +111,7 @@ fn passes(here: &Here<'_>, test: TypeTest, object: Seen) -> bool
     }
 }
 
-pub(crate) fn is_shared(here: &Here<'_>, test: TypeTest) -> bool
+pub(crate) fn is_shared(here: &WordStepContext<'_>, test: TypeTest) -> bool
     ensures { result ≡ is_shared here.now test }
 {
     match test {
@@ -120,7 +120,13 @@ pub(crate) fn is_shared(here: &Here<'_>, test: TypeTest) -> bool
     }
 }
 
-fn cast_by(here: &Here<'_>, store: &Store, access: Access, test: TypeTest, word: u16) -> Cast
+fn cast_by(
+    here: &WordStepContext<'_>,
+    store: &Store,
+    access: Access,
+    test: TypeTest,
+    word: u16,
+) -> Cast
     ensures { result ≡ cast_by here.now store.now access test word }
 {
     let Some(object) = look_at(store, word) else {
@@ -133,7 +139,13 @@ fn cast_by(here: &Here<'_>, store: &Store, access: Access, test: TypeTest, word:
 }
 
 /// Tests a reference against a type.
-fn cast_of(here: &Here<'_>, store: &Store, access: Access, type_: TestedType, word: u16) -> Cast
+fn cast_of(
+    here: &WordStepContext<'_>,
+    store: &Store,
+    access: Access,
+    type_: TestedType,
+    word: u16,
+) -> Cast
     ensures { result ≡ cast_of here.now store.now access type_ word }
 {
     match test_of(here, type_) {
@@ -151,7 +163,7 @@ fn bit(truth: bool) -> u16
 
 impl WordMachine {
     /// checkcast
-    pub(crate) fn check_cast(&mut self, here: &Here<'_>, type_: TestedType) -> StepEnd
+    pub(crate) fn check_cast(&mut self, here: &WordStepContext<'_>, type_: TestedType) -> StepEnd
         ensures { done self.new result ≡ do_check_cast here.now type_ (operand self.old 0) self.old }
     {
         let word = self.operand(0);
@@ -164,7 +176,7 @@ impl WordMachine {
     }
 
     /// instanceof
-    pub(crate) fn instance_of(&mut self, here: &Here<'_>, type_: TestedType) -> StepEnd
+    pub(crate) fn instance_of(&mut self, here: &WordStepContext<'_>, type_: TestedType) -> StepEnd
         ensures { done self.new result ≡ do_instance_of here.now type_ (operand self.old 0) self.old }
     {
         let word = self.operand(0);

@@ -11,10 +11,10 @@ ghost use Rattle.jc_interp.specs.PrivateStep.{top_header};
 ghost use Rattle.jc_interp.specs.declared.ends.StepEnd.TheVariants.{GoesOn};
 
 use crate::ends::{NEGATIVE_SIZE_EXCEPTION, NO_RESOURCE, SYSTEM_EXCEPTION, StepEnd};
-use crate::here::Here;
 use crate::machine::WordMachine;
 use crate::seen::{class_named, put};
-use crate::top::Running;
+use crate::step_context::WordStepContext;
+use crate::top::Activation;
 use jc_code::{Creation, WordKind};
 use jc_names::{ClassName, Owner};
 use jc_store::{Mark, ObjectKind, ObjectType, Store};
@@ -59,7 +59,7 @@ impl WordMachine {
     #[inline(always)]
     fn create(
         &mut self,
-        here: &Here<'_>,
+        here: &WordStepContext<'_>,
         object: ObjectType,
         len: usize,
         class: u16,
@@ -79,7 +79,7 @@ impl WordMachine {
     }
 
     /// A new array of so many components as the top operand says.
-    fn create_array(&mut self, here: &Here<'_>, object: ObjectType) -> StepEnd
+    fn create_array(&mut self, here: &WordStepContext<'_>, object: ObjectType) -> StepEnd
         ensures { done self.new result ≡ do_create_array here.now object (operand self.old 0) self.old }
     {
         let count = self.operand(0);
@@ -91,7 +91,7 @@ impl WordMachine {
 
     /// new, of this class
     #[inline(always)]
-    fn create_object(&mut self, here: &Here<'_>, class: ClassName) -> StepEnd
+    fn create_object(&mut self, here: &WordStepContext<'_>, class: ClassName) -> StepEnd
         ensures is { done self.new result ≡ do_new here.now class self.old }
         ensures runs { StillRuns self.old self.new }
         ensures stays { (result ≡ GoesOn → ⊥) → self.new.frames ≡ self.old.frames }
@@ -107,8 +107,8 @@ impl WordMachine {
     #[inline(always)]
     pub(crate) fn create_named(
         &mut self,
-        here: &Here<'_>,
-        running: &Running<'_>,
+        here: &WordStepContext<'_>,
+        running: &Activation<'_>,
         index: u16,
     ) -> StepEnd
         requires stands { StandsBy here.now.program.now self.old here.now.frame running.now }
@@ -123,7 +123,11 @@ impl WordMachine {
     }
 
     /// new, newarray, anewarray
-    pub(crate) fn perform_creation(&mut self, here: &Here<'_>, creation: Creation) -> StepEnd
+    pub(crate) fn perform_creation(
+        &mut self,
+        here: &WordStepContext<'_>,
+        creation: Creation,
+    ) -> StepEnd
         requires top { top_header self.old ≡ Some here.now.frame }
         ensures { done self.new result ≡ do_creation here.now creation self.old }
     {

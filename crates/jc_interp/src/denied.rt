@@ -6,10 +6,10 @@ use crate::casts::{is_shared, is_shared_interface, test_of};
 use crate::entering::owners_of;
 use crate::fetch::code_of;
 use crate::fields::{putting, stored_mark};
-use crate::here::Here;
 use crate::machine::WordMachine;
 use crate::natives::native_in;
 use crate::seen::{class_named, facts, look_at, mark_of};
+use crate::step_context::WordStepContext;
 use jc_code::{
     FieldAccess, FieldAction, Form, Invocation, ObjectOperation, Operation, TestedType, decode,
 };
@@ -44,7 +44,7 @@ fn plain_touch(access: Access, object: u16) -> Touch {
 }
 
 /// The words of a virtual member's call, the object among them.
-fn virtual_words(here: &Here<'_>, index: u16) -> Option<u8> {
+fn virtual_words(here: &WordStepContext<'_>, index: u16) -> Option<u8> {
     match here.program.entries.at(here.frame.method.package, index)? {
         Entry::VirtualMethod { words, .. } => Some(words),
         Entry::Class(_) | Entry::Field { .. } | Entry::StaticField { .. } => None,
@@ -54,7 +54,7 @@ fn virtual_words(here: &Here<'_>, index: u16) -> Option<u8> {
 
 impl WordMachine {
     /// What is denied of an access.
-    fn denied_touch(&self, here: &Here<'_>, touch: Touch) -> Option<Denial> {
+    fn denied_touch(&self, here: &WordStepContext<'_>, touch: Touch) -> Option<Denial> {
         let object = look_at(&self.store, touch.object)?;
         denial(
             touch.access,
@@ -94,7 +94,12 @@ impl WordMachine {
     }
 
     /// getstatic, putstatic, getfield, putfield
-    fn any_field_touch(&self, here: &Here<'_>, access: FieldAccess, index: u16) -> Option<Touch> {
+    fn any_field_touch(
+        &self,
+        here: &WordStepContext<'_>,
+        access: FieldAccess,
+        index: u16,
+    ) -> Option<Touch> {
         match here.program.entries.at(here.frame.method.package, index)? {
             Entry::Field { .. } => Some(self.field_touch(access)),
             Entry::StaticField { .. } => self.static_touch(access),
@@ -109,7 +114,7 @@ impl WordMachine {
     }
 
     /// invokevirtual, invokeinterface: the object that is called.
-    fn call_touch(&self, here: &Here<'_>, invocation: Invocation) -> Option<Touch> {
+    fn call_touch(&self, here: &WordStepContext<'_>, invocation: Invocation) -> Option<Touch> {
         match invocation {
             Invocation::Virtual { index } => {
                 let words = virtual_words(here, index)?;
@@ -130,7 +135,12 @@ impl WordMachine {
     }
 
     /// checkcast, instanceof
-    fn cast_touch(&self, here: &Here<'_>, access: Access, type_: TestedType) -> Option<Touch> {
+    fn cast_touch(
+        &self,
+        here: &WordStepContext<'_>,
+        access: Access,
+        type_: TestedType,
+    ) -> Option<Touch> {
         Some(Touch {
             access,
             object: self.operand(0),
@@ -154,7 +164,7 @@ impl WordMachine {
     }
 
     /// What an object's class has at the virtual token of an entry.
-    fn virtual_call(&self, here: &Here<'_>, entry: Entry) -> Option<EntryCall> {
+    fn virtual_call(&self, here: &WordStepContext<'_>, entry: Entry) -> Option<EntryCall> {
         match entry {
             Entry::VirtualMethod { token, words } => {
                 let object = self.receiver(words)?;
@@ -169,7 +179,7 @@ impl WordMachine {
     /// What an object's class has at a token of an interface.
     fn interface_call(
         &self,
-        here: &Here<'_>,
+        here: &WordStepContext<'_>,
         words: u8,
         interface: ClassName,
         token: u8,
@@ -185,7 +195,7 @@ impl WordMachine {
     }
 
     /// What a call leads to, if it isn't thrown.
-    fn call_of(&self, here: &Here<'_>, invocation: Invocation) -> Option<EntryCall> {
+    fn call_of(&self, here: &WordStepContext<'_>, invocation: Invocation) -> Option<EntryCall> {
         let entries = &here.program.entries;
         let package = here.frame.method.package;
         match invocation {
@@ -205,7 +215,7 @@ impl WordMachine {
     fn denied_native<N: Natives>(
         &self,
         natives: &N,
-        here: &Here<'_>,
+        here: &WordStepContext<'_>,
         invocation: Invocation,
     ) -> Option<Denial> {
         let found = self.call_of(here, invocation)?;
@@ -225,7 +235,7 @@ impl WordMachine {
     fn denied_call<N: Natives>(
         &self,
         natives: &N,
-        here: &Here<'_>,
+        here: &WordStepContext<'_>,
         invocation: Invocation,
     ) -> Option<Denial> {
         if let Some(touch) = self.call_touch(here, invocation) {
@@ -240,7 +250,7 @@ impl WordMachine {
     fn denied_operation<N: Natives>(
         &self,
         natives: &N,
-        here: &Here<'_>,
+        here: &WordStepContext<'_>,
         operation: ObjectOperation,
     ) -> Option<Denial> {
         let touch = match operation {
@@ -266,7 +276,7 @@ impl WordMachine {
     }
 
     /// What it denies of the instruction at which a frame stands.
-    fn denied_here<N: Natives>(&self, natives: &N, here: &Here<'_>) -> Option<Denial> {
+    fn denied_here<N: Natives>(&self, natives: &N, here: &WordStepContext<'_>) -> Option<Denial> {
         let code = code_of(&here.program.methods, here.frame);
         match &decode(code, usize::from(here.frame.pc)) {
             Ok(instr) => match &instr.operation {
@@ -289,7 +299,7 @@ impl WordMachine {
         program: &Program,
         selected: Option<u8>,
     ) -> Option<Denial> {
-        let here = Here {
+        let here = WordStepContext {
             world,
             program,
             selected,

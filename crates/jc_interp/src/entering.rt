@@ -7,9 +7,9 @@ ghost use Rattle.jc_interp.specs.PrivateRunning.{HasCode, IsByName, RunsTop};
 ghost use Rattle.jc_interp.specs.declared.ends.StepEnd.TheVariants.{GoesOn};
 
 use crate::ends::StepEnd;
-use crate::here::Here;
 use crate::machine::WordMachine;
-use crate::top::{Running, pool_from};
+use crate::step_context::WordStepContext;
+use crate::top::{Activation, pool_from};
 use jc_cap::MethodHeader;
 use jc_entries::MethodNumber;
 use jc_frames::{CodePlace, FrameHeader, FrameSize};
@@ -26,7 +26,7 @@ pub(crate) struct Owners {
 
 /// Those of its caller, or one that becomes active in place of the caller's.
 #[inline]
-pub(crate) fn owners_of(here: &Here<'_>, switch: Option<Owner>) -> Owners
+pub(crate) fn owners_of(here: &WordStepContext<'_>, switch: Option<Owner>) -> Owners
     ensures { result ≡ owners_of here.now switch }
 {
     match switch {
@@ -74,11 +74,11 @@ impl WordMachine {
     #[inline(always)]
     pub(crate) fn enter<'p>(
         &mut self,
-        here: &Here<'p>,
+        here: &WordStepContext<'p>,
         number: MethodNumber,
         owners: Owners,
         words: u8,
-        running: &mut Running<'p>,
+        running: &mut Activation<'p>,
     ) -> StepEnd
         requires by_name { IsByName here.now.program.now number }
         requires known { HasCode here.now.program.now running.old }
@@ -94,7 +94,7 @@ impl WordMachine {
         if !self.frames.enter_call(header, size, words) {
             return StepEnd::UsedUp;
         }
-        *running = Running {
+        *running = Activation {
             method: header.method,
             code: method.code,
             kinds: here.program.methods.code_kinds(number, &method),
@@ -108,7 +108,7 @@ impl WordMachine {
     /// loses these.
     pub(crate) fn enter_with(
         &mut self,
-        here: &Here<'_>,
+        here: &WordStepContext<'_>,
         number: MethodNumber,
         owners: Owners,
         arguments: &[u16],

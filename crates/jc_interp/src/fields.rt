@@ -8,9 +8,9 @@ ghost use Rattle.jc_interp.specs.PrivateFields.{holder_word, may_put_static, put
 
 use crate::arrays::{loaded, stored};
 use crate::ends::{NULL_POINTER_EXCEPTION, SECURITY_EXCEPTION, StepEnd};
-use crate::here::Here;
 use crate::machine::WordMachine;
 use crate::seen::{allows, cell, look_at, mark_of, put};
+use crate::step_context::WordStepContext;
 use jc_code::{FieldAccess, FieldAction, Form, Holder};
 use jc_entries::Entry;
 use jc_firewall::Access;
@@ -39,7 +39,7 @@ pub(crate) fn stored_mark(store: &Store, form: Form, word: u16) -> Option<Mark>
 }
 
 /// Whether a word may be put into a static field.
-fn may_put_static(here: &Here<'_>, store: &Store, form: Form, word: u16) -> bool
+fn may_put_static(here: &WordStepContext<'_>, store: &Store, form: Form, word: u16) -> bool
     ensures { result ≡ may_put_static here.now store.now form word }
 {
     match form {
@@ -58,7 +58,13 @@ fn may_put_static(here: &Here<'_>, store: &Store, form: Form, word: u16) -> bool
 
 impl WordMachine {
     /// putstatic, of the field at an offset of the package with a number
-    fn put_static(&mut self, here: &Here<'_>, form: Form, package: u8, offset: u16) -> StepEnd
+    fn put_static(
+        &mut self,
+        here: &WordStepContext<'_>,
+        form: Form,
+        package: u8,
+        offset: u16,
+    ) -> StepEnd
         ensures { done self.new result
             ≡ do_put_static here.now form «package» offset (operand self.old 0) self.old }
     {
@@ -73,7 +79,7 @@ impl WordMachine {
     /// getstatic, putstatic
     fn use_static(
         &mut self,
-        here: &Here<'_>,
+        here: &WordStepContext<'_>,
         access: FieldAccess,
         package: u8,
         offset: u16,
@@ -103,7 +109,7 @@ impl WordMachine {
     /// getfield, which takes so many operands
     fn get_field(
         &mut self,
-        here: &Here<'_>,
+        here: &WordStepContext<'_>,
         form: Form,
         cell_index: u32,
         number: u16,
@@ -124,7 +130,7 @@ impl WordMachine {
     /// putfield, which takes so many operands
     fn put_field(
         &mut self,
-        here: &Here<'_>,
+        here: &WordStepContext<'_>,
         form: Form,
         cell_index: u32,
         number: u16,
@@ -150,7 +156,12 @@ impl WordMachine {
     }
 
     /// getfield, putfield
-    fn use_field(&mut self, here: &Here<'_>, access: FieldAccess, cell_index: u32) -> StepEnd
+    fn use_field(
+        &mut self,
+        here: &WordStepContext<'_>,
+        access: FieldAccess,
+        cell_index: u32,
+    ) -> StepEnd
         ensures { done self.new result
             ≡ do_instance here.now access.form cell_index access.action access.holder self.old }
     {
@@ -177,7 +188,7 @@ impl WordMachine {
     /// getstatic, putstatic, getfield, putfield
     pub(crate) fn perform_field(
         &mut self,
-        here: &Here<'_>,
+        here: &WordStepContext<'_>,
         access: FieldAccess,
         index: u16,
     ) -> StepEnd

@@ -5,8 +5,8 @@ ghost use Rattle.jc_interp.specs.PrivateRunning.{StillRuns};
 ghost use Rattle.jc_interp.specs.PrivateDone.{done, gives, goes_to, leaves, local, operand, puts};
 
 use crate::ends::StepEnd;
-use crate::here::Here;
 use crate::machine::WordMachine;
+use crate::step_context::WordStepContext;
 
 impl WordMachine {
     /// The operand with an index, the top one first.
@@ -34,7 +34,7 @@ impl WordMachine {
 
     /// It goes on behind the instruction, without so many operands.
     #[inline(always)]
-    pub(crate) fn leaves(&mut self, here: &Here<'_>, count: u8) -> StepEnd
+    pub(crate) fn leaves(&mut self, here: &WordStepContext<'_>, count: u8) -> StepEnd
         ensures { done self.new result ≡ leaves here.now count self.old }
     {
         self.frames.drop_operands(count);
@@ -44,7 +44,7 @@ impl WordMachine {
     /// It goes on behind the instruction, with a word on top of the operands.
     #[inline(always)]
     #[tactic(auto, using(crate::proofs::Putting::put_is))]
-    pub(crate) fn puts(&mut self, here: &Here<'_>, word: u16) -> StepEnd
+    pub(crate) fn puts(&mut self, here: &WordStepContext<'_>, word: u16) -> StepEnd
         ensures { done self.new result ≡ puts here.now word self.old }
     {
         self.frames.put(word, here.next_pc);
@@ -54,7 +54,7 @@ impl WordMachine {
     /// It goes on behind the instruction, with a word in place of so many operands.
     #[inline(always)]
     #[tactic(auto, using(crate::proofs::Putting::replaced_is))]
-    pub(crate) fn gives(&mut self, here: &Here<'_>, count: u8, word: u16) -> StepEnd
+    pub(crate) fn gives(&mut self, here: &WordStepContext<'_>, count: u8, word: u16) -> StepEnd
         ensures is { done self.new result ≡ gives here.now count word self.old }
         ensures runs { StillRuns self.old self.new }
     {

@@ -9,8 +9,8 @@ ghost use Rattle.jc_interp.specs.PrivateStep.{top_header};
 ghost use Rattle.jc_program.specs.Program.{IsProgramOf};
 
 use crate::ends::StepEnd;
-use crate::here::Here;
 use crate::machine::WordMachine;
+use crate::step_context::WordStepContext;
 use jc_code::ObjectOperation;
 use jc_machine::Natives;
 
@@ -19,7 +19,7 @@ impl WordMachine {
     pub(crate) fn perform_object<N: Natives>(
         &mut self,
         natives: &mut N,
-        here: &Here<'_>,
+        here: &WordStepContext<'_>,
         operation: ObjectOperation,
     ) -> StepEnd
         requires program { IsProgramOf here.now.world.now here.now.program.now }

@@ -5,14 +5,14 @@ ghost use Rattle.jc_interp.specs.PrivateDone.{done, operand};
 ghost use Rattle.jc_interp.specs.PrivateObjects.{do_throw};
 
 use crate::ends::{NULL_POINTER_EXCEPTION, SECURITY_EXCEPTION, StepEnd};
-use crate::here::Here;
 use crate::machine::WordMachine;
 use crate::seen::{allows, look_at};
+use crate::step_context::WordStepContext;
 use jc_firewall::Access;
 
 impl WordMachine {
     /// athrow
-    pub(crate) fn throw(&self, here: &Here<'_>) -> StepEnd
+    pub(crate) fn throw(&self, here: &WordStepContext<'_>) -> StepEnd
         ensures { done self.now result ≡ do_throw here.now (operand self.now 0) self.now }
     {
         let number = self.operand(0);

@@ -4,7 +4,7 @@ ghost use Rattle.std.specs.Prelude.{◌≡◌, true, false, None};
 ghost use Rattle.jc_interp.specs.PrivateSeen.{allows, cell_in, class_in, class_named, facts_seen, is_array, is_below};
 ghost use Rattle.jc_interp.specs.PrivateSeen.{mark_of, seen_of, verdict_on, with_put};
 
-use crate::here::Here;
+use crate::step_context::WordStepContext;
 use jc_entries::Entry;
 use jc_firewall::{Access, Facts, Verdict, decide};
 use jc_names::{ClassName, Owner};
@@ -88,7 +88,7 @@ pub(crate) fn class_in(entry: Entry) -> Option<ClassName>
 
 /// The class or interface that the entry with an index names.
 #[inline]
-pub(crate) fn class_named(here: &Here<'_>, index: u16) -> Option<ClassName>
+pub(crate) fn class_named(here: &WordStepContext<'_>, index: u16) -> Option<ClassName>
     ensures { result ≡ class_named here.now index }
 {
     class_in(here.program.entries.at(here.frame.method.package, index)?)
@@ -119,7 +119,7 @@ fn is_array(object: ObjectType) -> bool
 /// What the verdict on an access hangs on.
 #[inline]
 pub(crate) fn facts(
-    here: &Here<'_>,
+    here: &WordStepContext<'_>,
     object: Seen,
     stored: Option<Mark>,
     is_shared_interface: bool,
@@ -145,7 +145,7 @@ pub(crate) fn facts(
 /// The firewall's verdict on an access in the active context.
 #[inline]
 pub(crate) fn verdict(
-    here: &Here<'_>,
+    here: &WordStepContext<'_>,
     access: Access,
     object: Seen,
     stored: Option<Mark>,
@@ -162,7 +162,12 @@ pub(crate) fn verdict(
 
 /// Whether an access is allowed that calls nothing and casts to nothing.
 #[inline]
-pub(crate) fn allows(here: &Here<'_>, access: Access, object: Seen, stored: Option<Mark>) -> bool
+pub(crate) fn allows(
+    here: &WordStepContext<'_>,
+    access: Access,
+    object: Seen,
+    stored: Option<Mark>,
+) -> bool
     ensures { result ≡ allows here.now access object stored }
 {
     match verdict(here, access, object, stored, false) {

@@ -3,7 +3,7 @@ use Rattle.jc_frames.specs.Frames.{Frames}
 use Rattle.jc_frames.specs.declared.header.FrameHeader.{FrameHeader}
 use Rattle.jc_switches.specs.PrivateSwitches.{AreCodeKinds}
 use Rattle.jc_interp.specs.PrivateRunning.{IsPoolOf}
-use Rattle.jc_interp.specs.declared.top.Running.{Running}
+use Rattle.jc_interp.specs.declared.top.Activation.{Activation}
 use Rattle.jc_interp.proofs.ByName.{its_code}
 use Rattle.jc_interp.proofs.TopFrames.{runs_new}
 use Rattle.jc_program.specs.Methods.{LoadedMethod}
@@ -18,7 +18,7 @@ returns-clause-runs c went =
     let yes = c.if-not-enter_call.false in
     let there = entered.there yes in
     let pushed = entered.pushed there.top there.below there.is there.within (entered.fit yes) yes in
-    let r : Running = record {
+    let r : Activation = record {
       method = header.method;
       code = c.method.inside.code;
       kinds = c.code_kinds.result;

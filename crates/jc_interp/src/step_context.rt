@@ -6,7 +6,7 @@ use jc_program::Program;
 
 /// What surrounds the machine in a step, and where its top frame stands.
 #[derive(Clone, Copy)]
-pub(crate) struct Here<'p> {
+pub(crate) struct WordStepContext<'p> {
     pub(crate) world: &'p World,
     pub(crate) program: &'p Program,
     /// The context of the applet that is selected, if one is.

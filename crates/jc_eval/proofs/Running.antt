@@ -1,9 +1,10 @@
--- A run of code alone on words goes along with the defensive machine's.
-use Rattle.std.proofs.Common.{◌≡◌, ℕ, zero, suc, ◌<◌, List, [], ◌∷◌, length, drop, Option}
+-- A run of code alone on words goes along with the defensive machine's. The loop runs it as a frame state: no opcode of code
+-- alone has a row of an instruction on references.
+use Rattle.std.proofs.Common.{◌≡◌, ℕ, zero, suc, ◌+◌, ◌<◌, List, [], ◌∷◌, length, drop, Option}
 use Rattle.std.proofs.Common.{Some, None, Bool, true, false, if◌then◌else◌, Result, Ok, Err, IfSome, nat_lt, refl, sym, ap, ◌∙◌, subst}
 use Rattle.std.proofs.Common.{arith}
-use Rattle.std.specs.Prelude.{⊤, ◌≢◌, slice_index}
-use Rattle.std.specs.Option.{option_map_or}
+use Rattle.std.specs.Prelude.{⊤, ◌≢◌, get_or, slice_index}
+use Rattle.std.specs.Option.{option_map, option_map_or}
 use Rattle.jc_base.proofs.Binding as binding
 use Rattle.jc_base.specs.Cursor.{Read, next_u1}
 use Rattle.jc_base.specs.Results.{◌>>=◌}
@@ -27,10 +28,14 @@ use Rattle.jc_code.specs.declared.instr.WordOperation.{WordOperation}
 use Rattle.jc_code.specs.declared.instr.WordOperation.TheVariants as ops
 use Rattle.jc_code.specs.declared.object.ObjectOperation.{ObjectOperation}
 use Rattle.jc_follow.specs.Following.{ComesTo, FollowsTagged, GoesAlong, ReadsTop, WordsFollow}
-use Rattle.jc_loop.specs.Loop.{MayRun, MayRunBy, Ran, ReadReady, frame_behind, next_frame, onward, ran, ran_by}
+use Rattle.jc_loop.specs.Loop.{MayRunBy, Ran, ReadReady, frame_behind, next_frame, onward, ran_by}
 use Rattle.jc_loop.specs.Moves.{IsRead, WordsAreDecoded, word_at, word_for}
+use Rattle.jc_loop.specs.QuickRows.{QuickRow, RowsAreDecoded, quick_row}
+use Rattle.jc_loop.specs.Ready.{RowIsReady, StateIsReady, StateMayRun}
+use Rattle.jc_loop.specs.FrameStates.{FrameState, next_state, quick_read, ran_state, with_frame}
 use Rattle.jc_loop.specs.Words.{Continues, Divides, Outcome as WordOutcome, WordFrame, Yields, done_by}
 use Rattle.jc_loop.specs.Words as words
+use Rattle.jc_loop.specs.declared.environment.FrameEnvironment.{FrameEnvironment}
 use Rattle.jc_machine.specs.Going.{StepContext, check, moved, on_some, with_top}
 use Rattle.jc_machine.specs.Machine.{Frame, Machine, Next, Outcome, Stepped, Stuck, Throws, Ends}
 use Rattle.jc_machine.specs.Returns.{returns_to, returns_value}
@@ -38,6 +43,7 @@ use Rattle.jc_machine.specs.Runtime.{arithmetic_exception}
 use Rattle.jc_machine.specs.Step.{CallEnd, continued}
 use Rattle.jc_machine.specs.declared.stop.Budget.TheVariants.{FrameWords}
 use Rattle.jc_machine.specs.Words.{act_word}
+use Rattle.jc_store.specs.Store.{Store}
 use Rattle.jc_words.specs.Shorts.{binary_of}
 use Rattle.jc_words.specs.Values.{Word}
 use Rattle.jc_eval.specs.Alone.{EndsAs, act_alone, alone_call, alone_step, alone_steps, first_machine, here_alone}
@@ -104,9 +110,28 @@ is_decoded_by code pc instr w (Err BadOpcode) h =
 is_decoded_by code pc instr w (Err BadOperand) h = absurd h
 is_decoded_by code pc instr w (Err CutShort) h = absurd h
 
+-- the row of the opcode at a pc, if it has one
+abbrev row_at : List ℕ → ℕ → Option QuickRow
+row_at code pc = quick_row (get_or code pc 0) (drop (pc + 1) code)
+
+-- the opcode of an instruction on words has none
+no_row : (code : List ℕ) (pc : ℕ) (instr : Instr) → RowsAreDecoded → IsWord code pc instr → pc < length code
+    → row_at code pc ≡ None
+no_row code pc instr rows w within = by_row (row_at code pc) refl
+  where
+    by_row : (o : Option QuickRow) → row_at code pc ≡ o → o ≡ None
+    by_row None e = refl
+    by_row (Some row) e =
+        let is : operations.Word w.word ≡ operations.Object (rows code pc instr w.decoded within row e).read.value =
+        sym w.is ∙ (rows code pc instr w.decoded within row e).operation in
+        absurd cc
+
 -- the frame on words that the code begins with
 abbrev pub first_frame : WordFrame
 first_frame = record { pc = 0; locals = 0 ∷ 0 ∷ []; operands = [] }
+
+abbrev pub first_state : List ℕ → Store → FrameState
+first_state statics store = record { frame = first_frame; statics = statics; store = store }
 
 -- what the laws say of this code and this typing
 pub record Laws (code : List ℕ) (typing : Typing) (t : IsTyping word_rules (word_method code) typing) : Type 0 where
@@ -115,6 +140,7 @@ pub record Laws (code : List ℕ) (typing : Typing) (t : IsTyping word_rules (wo
   pub steps : (m : Machine ⊤) → IsTypedAlone typing m → StepsTyped typing m (alone_step t.listing m).outcome
   pub follow : (h : StepContext ⊤) → WordsFollow h
   pub decoded : WordsAreDecoded
+  pub rows : RowsAreDecoded
 
 module _ (code : List ℕ) (typing : Typing) (t : IsTyping word_rules (word_method code) typing)
     (laws : Laws code typing t) where
@@ -141,11 +167,16 @@ module _ (code : List ℕ) (typing : Typing) (t : IsTyping word_rules (word_meth
     within_code : w.pc < length code
     within_code = subst (λ (n : ℕ). n < length code) (sym g.reads.pc) at.within
 
+    is_word_here : IsWord code w.pc at.instr.instr
+    is_word_here = is_word code w.pc at.instr.instr (ap (word_instr_at code) g.reads.pc ∙ at.spelled)
+
     decoded_here : IsDecoded code at.instr.instr (word_at code w.pc)
     decoded_here =
-        let is = is_word code w.pc at.instr.instr (ap (word_instr_at code) g.reads.pc ∙ at.spelled) in
-        is_decoded_by code w.pc at.instr.instr is (word_at code w.pc)
-        (laws.decoded code w.pc at.instr.instr is.decoded within_code)
+        is_decoded_by code w.pc at.instr.instr is_word_here (word_at code w.pc)
+        (laws.decoded code w.pc at.instr.instr is_word_here.decoded within_code)
+
+    no_row_here : row_at code w.pc ≡ None
+    no_row_here = no_row code w.pc at.instr.instr laws.rows is_word_here within_code
 
     step_is : alone_step listing m ≡ act_alone h at.instr.instr.operation
     unfolding alone_step
@@ -175,7 +206,10 @@ module _ (code : List ℕ) (typing : Typing) (t : IsTyping word_rules (word_meth
     ready = ready_by (word_at code w.pc) decoded_here
 
   -- one step more
-  module _ (w : WordFrame) (left : ℕ) (end : CallEnd ⊤) (g : GoesWith w (suc left) end) where
+  module _ (reach : FrameEnvironment) (s : FrameState) (left : ℕ) (end : CallEnd ⊤) (g : GoesWith s.frame (suc left) end) where
+    abbrev w : WordFrame
+    w = s.frame
+
     abbrev before : Machine ⊤
     before = g.machine
 
@@ -205,14 +239,30 @@ module _ (code : List ℕ) (typing : Typing) (t : IsTyping word_rules (word_meth
           rest = step_ends (Next next) is;
         }
 
+    -- what is done at once there is an instruction on words
+    state_is : next_state reach word_max_stack code s ≡ option_map (with_frame s) (next_frame code w)
+    state_is =
+        ap (λ (o : Option QuickRow). option_map_or (quick_read reach word_max_stack code s) o
+        (option_map (with_frame s) (next_frame code w))) (no_row_here w (suc left) end g)
+
+    state_ready : StateIsReady reach code word_max_stack s
+    state_ready = (
+      ready w (suc left) end g,
+      subst (λ (o : Option QuickRow). IfSome o (RowIsReady reach word_max_stack s))
+          (sym (no_row_here w (suc left) end g)) tt,
+    )
+
+    abbrev GoesOn : Option WordFrame → Type 0
+    GoesOn o = IfSome (option_map (with_frame s) o) (λ v. GoesWith v.frame left end)
+
     next_by : (operation : WordOperation) (o : WordOutcome) → alone_step listing before ≡ act_word place operation
-        → ComesTo place (act_word place operation) o → IfSome (onward o) (λ v. GoesWith v left end)
+        → ComesTo place (act_word place operation) o → GoesOn (onward o)
     next_by operation (Continues v) acts_are along = goes_on v operation acts_are along
     next_by operation Divides acts_are along = tt
     next_by operation (Yields n) acts_are along = tt
 
     behind_by : (r : Result (Read WordOperation) CodeFault) → IsDecoded code stands.instr.instr r
-        → IfSome (frame_behind code w r) (λ v. GoesWith v left end)
+        → GoesOn (frame_behind code w r)
     behind_by (Ok read) is =
         let operation_is = ap (λ (x : Instr). x.operation) is in
         let f = follows w (suc left) end g read.value operation_is in
@@ -221,8 +271,10 @@ module _ (code : List ℕ) (typing : Typing) (t : IsTyping word_rules (word_meth
         (ap (λ (x : Instr). x.next_pc) is) f.comes)
     behind_by (Err fault) is = tt
 
-    behind : IfSome (next_frame code w) (λ v. GoesWith v left end)
-    behind = behind_by (word_at code w.pc) (decoded_here w (suc left) end g)
+    behind : IfSome (next_state reach word_max_stack code s) (λ v. GoesWith v.frame left end)
+    behind =
+        subst (λ (o : Option FrameState). IfSome o (λ v. GoesWith v.frame left end)) (sym state_is)
+        (behind_by (word_at code w.pc) (decoded_here w (suc left) end g))
 
     -- ---- where no frame is behind it
 
@@ -313,68 +365,67 @@ module _ (code : List ℕ) (typing : Typing) (t : IsTyping word_rules (word_meth
         (acts_is w (suc left) end g read.value operation_is) f.comes))
     stopped_by (Err fault) read_is is none = absurd is
 
-    stopped : next_frame code w ≡ None → EndsAs (end_of (word_instr_at code w.pc) (slice_index w.operands 0)) end
-    stopped none = stopped_by (word_at code w.pc) refl (decoded_here w (suc left) end g) none
+    stopped : next_state reach word_max_stack code s ≡ None
+        → EndsAs (end_of (word_instr_at code w.pc) (slice_index w.operands 0)) end
+    stopped none =
+        stopped_by (word_at code w.pc) refl (decoded_here w (suc left) end g)
+        (no_frame (next_frame code w) (sym state_is ∙ none))
+      where
+        no_frame : (o : Option WordFrame) → option_map (with_frame s) o ≡ None → o ≡ None
+        no_frame None e = refl
+        no_frame (Some v) e = absurd (let no : Some (with_frame s v) ≡ None = e in cc)
 
   -- ---- so many steps
-
-  may_run : (left : ℕ) (w : WordFrame) (end : CallEnd ⊤) → GoesWith w left end → MayRun code word_max_stack left w
-  unfolding MayRunBy
-  may_run zero w end g = within_code w zero end g
-  may_run (suc n) w end g = (
-    within_code w (suc n) end g,
-    ready w (suc n) end g,
-    each (next_frame code w) (λ v. may_run n v end)
-        (behind w n end g),
-  )
-    where
-      each : (o : Option WordFrame) → ((v : WordFrame) → GoesWith v n end → MayRun code word_max_stack n v)
-          → IfSome o (λ v. GoesWith v n end) → IfSome o (MayRun code word_max_stack n)
-      each None go k = tt
-      each (Some v) go k = go v k
-
-  -- where it ends: no step is left, or it has stopped
-  abbrev HasEnded : Ran WordFrame → CallEnd ⊤ → Type 0
-  HasEnded r end =
-      ((r.left ≡ 0) → EndsAs ends.UsedUp end)
-      × ((r.left ≡ 0 → ⊥) → EndsAs (end_of (word_instr_at code r.state.pc) (slice_index r.state.operands 0)) end)
 
   spent : (w : WordFrame) (end : CallEnd ⊤) → GoesWith w zero end → EndsAs ends.UsedUp end
   unfolding alone_steps
   spent w end g = subst (EndsAs ends.UsedUp) g.rest tt
 
-  has_ended : (left : ℕ) (w : WordFrame) (end : CallEnd ⊤) → GoesWith w left end → HasEnded (ran code left w) end
-  unfolding ran_by
-  has_ended zero w end g = ((λ _. spent w end g), (λ more. absurd (more refl)))
-  has_ended (suc n) w end g = each (next_frame code w) refl (λ v. has_ended n v end) (behind w n end g)
-    where
-      each : (o : Option WordFrame) → next_frame code w ≡ o
-          → ((v : WordFrame) → GoesWith v n end → HasEnded (ran code n v) end)
-          → IfSome o (λ v. GoesWith v n end)
-          → HasEnded (option_map_or (ran code n) o (record { state = w; left = suc n })) end
-      each None e go k = ((λ none. absurd (omega (arith, none))), (λ _. stopped w n end g e))
-      each (Some v) e go k = go v k
+  -- where it ends: no step is left, or it has stopped
+  abbrev HasEnded : Ran FrameState → CallEnd ⊤ → Type 0
+  HasEnded r end =
+      ((r.left ≡ 0) → EndsAs ends.UsedUp end)
+      × ((r.left ≡ 0 → ⊥)
+      → EndsAs (end_of (word_instr_at code r.state.frame.pc) (slice_index r.state.frame.operands 0)) end)
 
-  begins : (steps : ℕ) → GoesWith first_frame steps (alone_call listing steps).ends
-  begins steps = record {
-    machine = first_machine;
-    typed = laws.first;
-    reads = record { pc = refl; locals = (tt, (tt, tt)); operands = tt };
-    rest = refl;
-  }
+  module _ (reach : FrameEnvironment) where
+    -- so many steps may be done, and they end as the tagged machine
+    pub record Runs (left : ℕ) (s : FrameState) (end : CallEnd ⊤) : Type 0 where
+      pub may_run : StateMayRun reach word_max_stack code left s
+      pub ended : HasEnded (ran_state reach word_max_stack code left s) end
 
-  pub may_begin : (steps : ℕ) → MayRun code word_max_stack steps first_frame
-  may_begin steps = may_run steps first_frame (alone_call listing steps).ends (begins steps)
+    runs : (left : ℕ) (s : FrameState) (end : CallEnd ⊤) → GoesWith s.frame left end → Runs left s end
+    unfolding MayRunBy ran_by
+    runs zero s end g = record {
+      may_run = within_code s.frame zero end g;
+      ended = ((λ _. spent s.frame end g), (λ more. absurd (more refl)));
+    }
+    runs (suc n) s end g =
+        let onwards = each (next_state reach word_max_stack code s) refl (λ v. runs n v end)
+        (behind reach s n end g) in record {
+          may_run = (within_code s.frame (suc n) end g, state_ready reach s n end g, onwards.0);
+          ended = onwards.1;
+        }
+      where
+        each : (o : Option FrameState) → next_state reach word_max_stack code s ≡ o
+            → ((v : FrameState) → GoesWith v.frame n end → Runs n v end) → IfSome o (λ v. GoesWith v.frame n end)
+            → IfSome o (StateMayRun reach word_max_stack code n)
+            × HasEnded (option_map_or (ran_state reach word_max_stack code n) o (record { state = s; left = suc n })) end
+        each None e go k = (tt, ((λ none. absurd (omega (arith, none))), (λ _. stopped reach s n end g e)))
+        each (Some v) e go k = let there = go v k in (there.may_run, there.ended)
 
-  pub run_ends : (steps : ℕ) → HasEnded (ran code steps first_frame) (alone_call listing steps).ends
-  run_ends steps = has_ended steps first_frame (alone_call listing steps).ends (begins steps)
+    pub from_first : (statics : List ℕ) (store : Store) (steps : ℕ)
+        → Runs steps (first_state statics store) (alone_call listing steps).ends
+    from_first statics store steps = runs steps (first_state statics store) (alone_call listing steps).ends (record {
+      machine = first_machine;
+      typed = laws.first;
+      reads = record { pc = refl; locals = (tt, (tt, tt)); operands = tt };
+      rest = refl;
+    })
 
-  pub used_up : (steps : ℕ) (r : Ran WordFrame) → r ≡ ran code steps first_frame → r.left ≡ 0
-      → EndsAs ends.UsedUp (alone_call listing steps).ends
-  used_up steps r is none =
-      (subst (λ (x : Ran WordFrame). HasEnded x (alone_call listing steps).ends) (sym is) (run_ends steps)).0 none
-
-  pub over : (steps : ℕ) (r : Ran WordFrame) → r ≡ ran code steps first_frame → (r.left ≡ 0 → ⊥)
-      → EndsAs (end_of (word_instr_at code r.state.pc) (slice_index r.state.operands 0)) (alone_call listing steps).ends
-  over steps r is more =
-      (subst (λ (x : Ran WordFrame). HasEnded x (alone_call listing steps).ends) (sym is) (run_ends steps)).1 more
+    pub ends_so : (statics : List ℕ) (store : Store) (steps : ℕ) (r : Ran FrameState)
+        → r ≡ ran_state reach word_max_stack code steps (first_state statics store)
+        → HasEnded r (alone_call listing steps).ends
+    ends_so statics store steps r is =
+        subst (λ (x : Ran FrameState). HasEnded x (alone_call listing steps).ends) (sym is)
+        (from_first statics store steps).ended

@@ -12,8 +12,9 @@ use crate::carried_code_is_safe;
 use jc_check::{CheckedWords, WORD_LOCALS, WORD_MAX_STACK};
 use jc_code::decode_words;
 use jc_follow::words_follow;
-use jc_loop::{FramePosition, run_words, words_are_decoded};
+use jc_loop::{ByOpcode, FramePosition, FrameEnvironment, rows_are_decoded, run_frame, words_are_decoded};
 use jc_machine::IdleNatives;
+use jc_store::Store;
 
 /// The end of a run of code alone.
 #[derive(Clone, Copy, Debug, PartialEq, Eq)]
@@ -37,7 +38,7 @@ fn top_of(slots: &[u16], depth: u8) -> u16
     slots[usize::from(depth) - 1]
 }
 
-/// The end of code if the loop over words has stopped with steps left: it returns, or divides by 0.
+/// The end of code if the loop has stopped with steps left: it returns, or divides by 0.
 fn end_at(code: &[u8], slots: &[u16], place: FramePosition) -> CodeEnd
     requires held { place.depth ≤ length slots.now }
     ensures { result ≡ end_of (word_instr_at code.now place.pc) (slice_index (reverse (take place.depth slots.now)) 0) }
@@ -53,20 +54,43 @@ fn end_at(code: &[u8], slots: &[u16], place: FramePosition) -> CodeEnd
     }
 }
 
+/// What code alone reaches beside its words: nothing.
+fn nothing_reached() -> FrameEnvironment<'static> {
+    FrameEnvironment {
+        entries: &[],
+        package: 0,
+        context: 0,
+    }
+}
+
 /// Runs code that a certificate carries for at most `steps` steps. It ends as the defensive machine's run of the code
-/// does, which is never stuck.
-pub fn run_code(checked: &CheckedWords<'_>, steps: u32) -> CodeEnd
+/// does, which is never stuck. The loop takes a store of any objects: the code reaches none of them.
+// By itself it has all registers of the processor.
+#[inline(never)]
+pub fn run_code(checked: &CheckedWords<'_>, store: &mut Store, steps: u32) -> CodeEnd
     ensures { (typing : Typing) → (t : IsTyping word_rules (word_method checked.now) typing)
         → EndsAs result (alone_call t.listing steps).ends }
 {
     carried_code_is_safe();
     words_follow(&IdleNatives);
     words_are_decoded();
+    rows_are_decoded();
     let code = checked.code();
     let mut locals = [0; WORD_LOCALS];
     let mut slots = [0; WORD_MAX_STACK];
     let start = FramePosition { pc: 0, depth: 0 };
-    let stopped = run_words(code, &mut locals, &mut slots, start, steps);
+    let reach = nothing_reached();
+    let stopped = run_frame(
+        &reach,
+        code,
+        ByOpcode,
+        &mut locals,
+        &mut slots,
+        &mut [],
+        store,
+        start,
+        steps,
+    );
     if stopped.left == 0 {
         return CodeEnd::UsedUp;
     }

@@ -8,6 +8,7 @@ use crate::answer::EvalAnswer;
 use jc_base::LoadFault;
 use jc_check::{WordFault, check_words};
 use jc_eval::{CodeEnd, run_code};
+use jc_store::Store;
 use std::alloc::Global;
 
 fn ending_answer(end: CodeEnd) -> EvalAnswer
@@ -33,7 +34,10 @@ pub fn eval(alloc: Global, code: &[u8], cert: &[u8], steps: u32) -> EvalAnswer
         Err(_) => unreachable!(),
     };
     match check_words(alloc, code, &cert) {
-        Ok(checked) => ending_answer(run_code(&checked, steps)),
+        Ok(checked) => match Store::new(alloc, 0, 0) {
+            Ok(mut store) => ending_answer(run_code(&checked, &mut store, steps)),
+            Err(_) => EvalAnswer::Memory,
+        },
         Err(WordFault::Refused { pc, reason }) => EvalAnswer::Refused { pc, reason },
         Err(WordFault::Memory) => EvalAnswer::Memory,
     }

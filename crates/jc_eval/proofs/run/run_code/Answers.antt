@@ -1,16 +1,9 @@
-use Rattle.std.proofs.Common.{List, ℕ, ◌≡◌, subst, sym, slice_index}
-use Rattle.jc_check.specs.Method.{word_max_stack}
-use Rattle.jc_code.specs.Instructions.{word_instr_at}
-use Rattle.jc_loop.specs.Loop.{MayRun, Ran, ran}
-use Rattle.jc_loop.specs.Words.{WordFrame, frame_at}
-use Rattle.jc_eval.specs.Alone.{EndsAs, alone_call}
-use Rattle.jc_eval.specs.PrivateRuns.{end_of}
-use Rattle.jc_eval.specs.declared.run.CodeEnd.{CodeEnd}
-use Rattle.jc_eval.proofs.Running.{Laws, first_frame, may_begin, over, used_up}
+use Rattle.std.proofs.Common.{[]}
+use Rattle.jc_eval.proofs.Running.{Laws, ends_so, from_first}
 use Rattle.jc_eval.proofs.run.run_code.Goals as goal
 
-pub run_words-stopped-requires-clause-may_run : goal.run_words-stopped-requires-clause-may_run
-run_words-stopped-requires-clause-may_run c =
+pub run_frame-stopped-requires-clause-may_run : goal.run_frame-stopped-requires-clause-may_run
+run_frame-stopped-requires-clause-may_run c =
     let code = c.args.checked.now in
     let well = c.code-code.ensures.typed in
     let safe = c.carried_code_is_safe.ensures in
@@ -20,9 +13,10 @@ run_words-stopped-requires-clause-may_run c =
       steps = safe.steps code well.typing well.typed;
       follow = c.words_follow.ensures;
       decoded = c.words_are_decoded.ensures;
+      rows = c.rows_are_decoded.ensures.decoded;
     } in
-    subst (λ (x : List ℕ). MayRun x word_max_stack c.args.steps first_frame) (sym c.code-code.ensures.code)
-    (may_begin code well.typing well.typed laws c.args.steps)
+    rw c.code-code.ensures.code
+    (from_first code well.typing well.typed laws c.nothing_reached-reach.result [] c.args.store.now c.args.steps).may_run
 
 pub returns-then-stopped-eq0 : goal.returns-then-stopped-eq0
 returns-then-stopped-eq0 c = λ typing t.
@@ -34,16 +28,10 @@ returns-then-stopped-eq0 c = λ typing t.
       steps = safe.steps code typing t;
       follow = c.words_follow.ensures;
       decoded = c.words_are_decoded.ensures;
+      rows = c.rows_are_decoded.ensures.decoded;
     } in
-    let stopped = c.run_words-stopped.result in
-    let r : Ran WordFrame = record {
-      state = frame_at stopped.place.pc stopped.place.depth c.run_words-stopped.new.locals
-          c.run_words-stopped.new.slots;
-      left = stopped.left;
-    } in
-    used_up code typing t laws c.args.steps r
-    (subst (λ (x : List ℕ). r ≡ ran x c.args.steps first_frame) c.code-code.ensures.code
-    c.run_words-stopped.ensures.ran) c.if-stopped-eq0.true
+    (ends_so code typing t laws c.nothing_reached-reach.result [] c.args.store.now c.args.steps _
+    (rw c.code-code.ensures.code at c.run_frame-stopped.ensures.ran)).0 c.if-stopped-eq0.true
 
 pub returns : goal.returns
 returns c = λ typing t.
@@ -55,17 +43,8 @@ returns c = λ typing t.
       steps = safe.steps code typing t;
       follow = c.words_follow.ensures;
       decoded = c.words_are_decoded.ensures;
+      rows = c.rows_are_decoded.ensures.decoded;
     } in
-    let stopped = c.run_words-stopped.result in
-    let r : Ran WordFrame = record {
-      state = frame_at stopped.place.pc stopped.place.depth c.run_words-stopped.new.locals
-          c.run_words-stopped.new.slots;
-      left = stopped.left;
-    } in
-    let is : c.end_at.result ≡ end_of (word_instr_at code r.state.pc) (slice_index r.state.operands 0) =
-    subst (λ (x : List ℕ). c.end_at.result ≡ end_of (word_instr_at x r.state.pc) (slice_index r.state.operands 0))
-    c.code-code.ensures.code c.end_at.ensures in
-    subst (λ (e : CodeEnd). EndsAs e (alone_call t.listing c.args.steps).ends) (sym is)
-    (over code typing t laws c.args.steps r
-    (subst (λ (x : List ℕ). r ≡ ran x c.args.steps first_frame) c.code-code.ensures.code
-    c.run_words-stopped.ensures.ran) c.if-stopped-eq0.false)
+    rw c.end_at.ensures (rw c.code-code.ensures.code
+    ((ends_so code typing t laws c.nothing_reached-reach.result [] c.args.store.now c.args.steps _
+    (rw c.code-code.ensures.code at c.run_frame-stopped.ensures.ran)).1 c.if-stopped-eq0.false))

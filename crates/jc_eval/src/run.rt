@@ -12,7 +12,9 @@ use crate::carried_code_is_safe;
 use jc_check::{CheckedWords, WORD_LOCALS, WORD_MAX_STACK};
 use jc_code::decode_words;
 use jc_follow::words_follow;
-use jc_loop::{ByOpcode, FramePosition, FrameEnvironment, rows_are_decoded, run_frame, words_are_decoded};
+use jc_loop::{
+    ByOpcode, FrameEnvironment, FramePosition, rows_are_decoded, run_frame, words_are_decoded,
+};
 use jc_machine::IdleNatives;
 use jc_store::Store;
 

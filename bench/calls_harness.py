@@ -9,12 +9,13 @@ mod card;
 mod objects;
 '''
 
-OBJECTS = '''//! The runtime's own objects: its exceptions, in the order of their numbers.
+OBJECTS = '''//! The card's first objects: the runtime's exceptions, in the order of their numbers, a global array of bytes, and one
+//! that is cleared on deselect.
 
 use jc_api::ApiClass;
 use jc_program::Program;
 use jc_names::{ClassName, Owner};
-use jc_store::{Mark, ObjectKind, ObjectType, Store};
+use jc_store::{ClearingEvent, Mark, ObjectKind, ObjectType, Store};
 
 const EXCEPTIONS: [ApiClass; 10] = [
     ApiClass::ArithmeticException,
@@ -44,11 +45,44 @@ pub(crate) fn make_exceptions(store: &mut Store, program: &Program) -> Option<()
     }
     Some(())
 }
+
+/// The two arrays, by their numbers.
+#[derive(Clone, Copy)]
+pub(crate) struct Arrays {
+    pub(crate) global: u16,
+    pub(crate) cleared: u16,
+}
+
+fn make_array(
+    store: &mut Store,
+    mark: Mark,
+    clears: Option<ClearingEvent>,
+    owner: Owner,
+    len: usize,
+) -> Option<u16> {
+    let kind = ObjectKind {
+        object_type: ObjectType::ByteArray,
+        mark,
+        clears,
+    };
+    store.make(kind, owner, len, 0)
+}
+
+/// Makes both, the second for the package with the number 2.
+pub(crate) fn make_arrays(store: &mut Store) -> Option<Arrays> {
+    let owner = Owner {
+        context: 2,
+        instance: 2,
+    };
+    let global = make_array(store, Mark::GlobalArray, None, Owner::RUNTIME, 261)?;
+    let cleared = make_array(store, Mark::Plain, Some(ClearingEvent::Deselect), owner, 200)?;
+    Some(Arrays { global, cleared })
+}
 '''
 
 CARD = '''//! Packages that are loaded, and the machine that runs their methods.
 
-use crate::objects::make_exceptions;
+use crate::objects::{Arrays, make_arrays, make_exceptions};
 use jc_api::Binding;
 use jc_base::{LoadFault, cut};
 use jc_check::check;
@@ -99,24 +133,32 @@ fn load_all(alloc: Global, images: &[u8]) -> Option<World> {
     Some(world)
 }
 
-/// The static fields of all packages, each 0.
-fn clear_statics(alloc: Global, world: &World) -> Option<Statics> {
+/// The static fields of all packages, each 0, but for those of the second at the offsets 2 and 4: the two arrays.
+fn first_statics(alloc: Global, world: &World, arrays: Arrays) -> Option<Statics> {
     let mut statics = Statics::new(alloc);
+    let mut number = 0;
     for body in world.bodies() {
         let size = usize::from(body.kept().statics.size);
-        statics.push(vec![in alloc; 0; size].ok()?).ok()?;
+        let mut image = vec![in alloc; 0; size].ok()?;
+        if number == 1 && size > 4 {
+            image[2] = arrays.global;
+            image[4] = arrays.cleared;
+        }
+        statics.push(image).ok()?;
+        number = 1;
     }
     Some(statics)
 }
 
-/// A card with packages, and with the runtime's exceptions alone.
+/// A card with packages, with the runtime's exceptions, and with two arrays in static fields.
 pub(crate) fn new_card(alloc: Global, images: &[u8]) -> Option<Card> {
     let world = load_all(alloc, images)?;
     let program = Program::new(alloc, &world).ok()?;
     let mut store = Store::new(alloc, 32767, 65535).ok()?;
     make_exceptions(&mut store, &program)?;
+    let arrays = make_arrays(&mut store)?;
     let frames = Frames::new(alloc, 64, 1024).ok()?;
-    let statics = clear_statics(alloc, &world)?;
+    let statics = first_statics(alloc, &world, arrays)?;
     Some(Card {
         world,
         program,
@@ -223,7 +265,7 @@ pub extern "C" fn calls_run(alloc: Global, images: &[u8], call: &Call, ended: &m
     }
     let end = card
         .machine
-        .run(&mut natives, &card.world, &card.program, None, call.steps, &mut None, &mut stopped);
+        .run(&mut natives, &card.world, &card.program, Some(2), call.steps, &mut None, &mut stopped);
     match end {
         RunEnd::Gave(None) => ended.how = 1,
         RunEnd::Gave(Some(word)) => {

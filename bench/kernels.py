@@ -35,6 +35,8 @@ SERVER_CODE = {
 # The package of the kernels
 
 SHAPE, ACCOUNT, NODE, MINE, OP = 'Shape', 'Account', 'Node', 'Mine', 'Op'
+# The card puts a global array, as the APDU buffer is one, and an array that is cleared on deselect into static fields.
+BUFFER_OFFSET, CLEARED_OFFSET = 2, 4
 POOL = {
     'Square': Entry('class', 'Square'),
     'Disc': Entry('class', 'Disc'),
@@ -53,8 +55,10 @@ POOL = {
     'edge': Entry('virtual', SHAPE, 2, TURN),
     'turns': Entry('virtual', ACCOUNT, 1, ((Reference(ACCOUNT), SHORT), SHORT)),
     'mine': Entry('static field', 0, type=Reference(MINE)),
-    'count': Entry('static field', 2, type=SHORT),
-    'small': Entry('static field', 4, type=BYTE),
+    'buffer': Entry('static field', BUFFER_OFFSET, type=BYTES),
+    'cleared': Entry('static field', CLEARED_OFFSET, type=BYTES),
+    'count': Entry('static field', 6, type=SHORT),
+    'small': Entry('static field', 8, type=BYTE),
     'the_one': Entry('static field', (2, 1, 0), type=Reference(Imported(2, 1))),
     'fib': Entry('static method', 'fib', type=TURN),
     'deep': Entry('static method', 'deep', type=TURN),
@@ -99,6 +103,7 @@ def loop(body, first='', inner=1000, step=-1):
 TWO_SHAPES = 'new Square; astore_3; new Disc; astore 4'
 TWO_OPS = 'new Twice; astore_3; new Minus; astore 4'
 CHANGE = 'aload_3; aload 4; astore_3; astore 4'
+SUM = 'aload_3; sload_1; baload; sload_2; sadd; sstore_2'
 
 
 @dataclass(frozen=True)
@@ -140,6 +145,9 @@ KERNELS = {
         'aload_3; sload_1; aload_3; sload_1; saload; sload_2; sadd; sastore; '
         'aload_3; sload_1; sconst_1; ssub; saload; sload_1; sxor; sstore_2',
         'sspush 1001; newarray 12; astore_3'), 150),
+    'own': Kernel('bytes of an own array', loop(SUM, 'sspush 200; newarray 11; astore_3', 180), 800),
+    'buffer': Kernel('bytes of a global array', loop(SUM, 'getstatic_a buffer; astore_3', 180), 800),
+    'cleared': Kernel('bytes of an array cleared on deselect', loop(SUM, 'getstatic_a cleared; astore_3', 180), 800),
     'statics': Kernel('static fields', loop(
         'getstatic_s count; sload_1; sadd; putstatic_s count; getstatic_b small; getstatic_s count; sadd; s2b; '
         'putstatic_b small; getstatic_s count; getstatic_b small; sxor; putstatic_s count; getstatic_s count; '
@@ -189,7 +197,8 @@ def of_objects(name, token, takes=(SHORT,)):
 def kernels():
     """The package of the kernels."""
     fields = [Field(SHORT, 0), Field(SHORT, 1), Field(BYTE, 2)]
-    statics = [Field(Reference(MINE), offset=0), Field(SHORT, offset=2), Field(BYTE, offset=4)]
+    statics = [Field(Reference(MINE), offset=0), Field(BYTES, offset=BUFFER_OFFSET),
+               Field(BYTES, offset=CLEARED_OFFSET), Field(SHORT, offset=6), Field(BYTE, offset=8)]
     static = {name: METHODS[name] for name in ('fib', 'deep')}
     called = [method(name, text, POOL, takes=(SHORT,), gives=SHORT, static=True) for name, text in static.items()]
     called += [method(name, k.code, POOL, takes=(SHORT,), gives=SHORT, static=True, locals=6, catches=k.catches)
@@ -212,7 +221,7 @@ def kernels():
         cls(MINE, EXCEPTION),
         cls('Kernels', fields=statics, methods=called),
     ]
-    return package(2, *classes, pool=list(POOL.values()), statics=Statics(references=1, defaults=3),
+    return package(2, *classes, pool=list(POOL.values()), statics=Statics(references=3, defaults=3),
                    imports=[*API, (aid(1), (1, 0))])
 
 
@@ -318,8 +327,10 @@ class Resolved:
                 lists += [to, len(listed)]
                 listed += found
         flat = lambda rows: [number for row in rows for number in row]
+        of_kernels = self.static_starts[1]
+        statics = [self.statics, of_kernels + BUFFER_OFFSET, of_kernels + CLEARED_OFFSET]
         return [classes, virtual, lists, listed, flat(self.methods), flat(self.handlers), flat(self.pool),
-                list(self.code), [self.statics], INSTANCES_OF]
+                list(self.code), statics, INSTANCES_OF]
 
     def whole(self):
         """Numbers of four bytes, each section behind how many there are."""

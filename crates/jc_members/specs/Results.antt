@@ -1,4 +1,4 @@
--- What a call of a native member comes to.
+-- The result of a call of a native member.
 use Rattle.std.specs.Prelude.{ℕ, List, [], map, Option, Some, None}
 use Rattle.std.specs.Option.{option_map, option_map_or}
 use Rattle.jc_machine.specs.Examples.{world_with}

@@ -1,5 +1,5 @@
--- Where a certificate that was worked out has states, and that they are the least (Java Card Virtual Machine
--- Specification, verification of CAP files: data-flow analysis).
+-- An inferred certificate has states exactly where control flow enters, and they are the least (Java Card Virtual
+-- Machine Specification, verification of CAP files: data-flow analysis).
 use Rattle.std.specs.Prelude.{◌≡◌, ℕ, List, Some, Contains, slice_get}
 use Rattle.std.specs.List.{AllByRecursion}
 use Rattle.jc_cap_desc.specs.Shape.{MethodBody}
@@ -15,7 +15,7 @@ use Rattle.jc_check.specs.Package.{method_of, package_rules}
 use Rattle.jc_check.specs.Typing.{IsTyping, Leads, Typing}
 use Rattle.jc_verify.specs.Live.{IsEntered}
 
--- each state stands where control flow enters the method by a branch or a handler of an instruction that it reaches
+-- each state is at a pc that control flow enters by a branch or a handler of a reachable instruction
 abbrev pub AreWhereEntered : Method → List Stated → Type 0
 AreWhereEntered m states =
     (listing : List PlacedInstr) → IsListing instr_at m.code listing
@@ -26,14 +26,14 @@ pub record HasStatesWhereEntered (l : Linked) (rows : List Row) : Type 0 where
   pub each : (n : ℕ) (b : MethodBody) → slice_get l.body.kept.methods n ≡ Some b
       → AreWhereEntered (method_of l b) (stated_for rows b.offset)
 
--- a state's classes are found, and it lies below the state that a typing has there
+-- a state's classes resolve, and the state lies below the typing's state at its pc
 pub record LiesBelow (l : Linked) (typing : Typing) (c : Stated) : Type 0 where
   pub claim : Claim
   pub found : claim_of (package_rules l) c ≡ Some claim
   pub leads : Leads (package_rules l) typing (types_of claim) c.pc
 
--- each state lies below what any typing of the method has there; so it lies below what any certificate that carries the
--- method has
+-- each state lies below the state of any typing of the method there, and so below that of any certificate that carries
+-- the method
 abbrev pub AreLeast : Linked → Method → List Stated → Type 0
 AreLeast l m states =
     (typing : Typing) → IsTyping (package_rules l) m typing → AllByRecursion (LiesBelow l typing) states
@@ -43,13 +43,13 @@ pub record HasLeastStates (l : Linked) (rows : List Row) : Type 0 where
   pub each : (n : ℕ) (b : MethodBody) → slice_get l.body.kept.methods n ≡ Some b
       → AreLeast l (method_of l b) (stated_for rows b.offset)
 
--- a state stands at a pc
+-- one of the states is at a pc
 pub record HasStateAt (states : List Stated) (pc : ℕ) : Type 0 where
   pub state : Stated
   pub among : Contains states state
   pub at : state.pc ≡ pc
 
--- each pc where control flow enters the method by a branch or a handler of an instruction that it reaches has a state
+-- each pc that control flow enters by a branch or a handler of a reachable instruction has a state
 abbrev pub HasStateAtEach : Method → List Stated → Type 0
 HasStateAtEach m states =
     (listing : List PlacedInstr) → IsListing instr_at m.code listing → (pc : ℕ) → IsEntered m listing pc

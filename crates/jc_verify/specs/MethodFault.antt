@@ -1,5 +1,5 @@
--- Where the inference of a method's states ends, and why (Java Card Virtual Machine Specification, verification of CAP
--- files: data-flow analysis).
+-- The faults that inference reports for a method (Java Card Virtual Machine Specification, verification of CAP files:
+-- data-flow analysis).
 use Rattle.std.specs.Prelude.{◌≡◌, ◌≢◌, ℕ, ℤ, pos, ◌≤◌, true, false, List, [], length, Some, Result, Ok, Err, Contains}
 use Rattle.std.specs.List.{AllByRecursion}
 use Rattle.jc_base.specs.declared.reason.Reason.{Reason}
@@ -16,12 +16,12 @@ use Rattle.jc_check.specs.Rules.{Rules}
 use Rattle.jc_check.specs.declared.fault.Fault.{Fault}
 use Rattle.jc_verify.specs.Live.{IsLive}
 
--- what an instruction of a method does to a state
+-- the state after an instruction of a method, or why it has none
 abbrev pub effect_at : Rules → Method → PlacedInstr → Types → Result Types Reason
 effect_at rules m x s = rules.effect m.max_stack m.returned x.instr.operation s
 
--- what comes of a state at an instruction, and where: the state after it, behind it and where it branches to; and where
--- handlers go on that cover it, the state before it with the class that is caught
+-- the states that an instruction passes on, and their pcs: the state after it to the next pc and to branch targets; the
+-- state before it, with the caught class, to the handlers that cover it
 pub data Passes (rules : Rules) (m : Method) (x : PlacedInstr) (s : Types) : ℕ → Types → Type 0 where
   falls : (t : Types) → effect_at rules m x s ≡ Ok t → falls_of x.instr.operation ≡ true
       → Passes rules m x s x.instr.next_pc t
@@ -30,8 +30,8 @@ pub data Passes (rules : Rules) (m : Method) (x : PlacedInstr) (s : Types) : ℕ
   catches : (h : Handler) (class : ClassName) → Contains m.handlers h → covers h x.pc ≡ true → h.caught ≡ Some class
       → Passes rules m x s h.goes_on (caught_types class s)
 
--- the states that flow to a pc: the entry state to pc 0; what comes of a state that flows to an instruction; and the
--- least state above two that flow there
+-- the states that flow to a pc: the entry state to pc 0; what an instruction passes on from a state that flows to it;
+-- and the join of two states that flow to the same pc
 pub data Flows (rules : Rules) (m : Method) (listing : List PlacedInstr) : ℕ → Types → Type 0 where
   entry : Flows rules m listing 0 (entry_of m)
   passes : (x : PlacedInstr) (s : Types) (pc : ℕ) (t : Types) → placed_at listing x.pc ≡ Some x
@@ -39,33 +39,32 @@ pub data Flows (rules : Rules) (m : Method) (listing : List PlacedInstr) : ℕ �
   joins : (pc : ℕ) (s t u : Types) → Flows rules m listing pc s → Flows rules m listing pc t
       → IsJoin rules.below s t u → Flows rules m listing pc u
 
--- an instruction leads where none begins: by a branch, or past the end of the code
+-- an instruction branches to a place at which none begins, or falls off the end of the code
 pub data LeadsAstray (m : Method) (listing : List PlacedInstr) (x : PlacedInstr) : Reason → Type 0 where
   no_target : (place : ℤ) → Contains (targets_of x.pc x.instr.operation) place
       → ((pc : ℕ) → place ≡ pos pc → begins listing pc ≡ false) → LeadsAstray m listing x NoTarget
   falls_off : falls_of x.instr.operation ≡ true → length m.code ≤ x.instr.next_pc → LeadsAstray m listing x FallsOff
 
--- no instruction that control flow reaches leads astray
+-- no reachable instruction leads astray
 abbrev pub GoesStraight : Method → List PlacedInstr → Type 0
 GoesStraight m listing =
     (x : PlacedInstr) (why : Reason) → placed_at listing x.pc ≡ Some x → IsLive m listing x.pc
     → LeadsAstray m listing x why → ⊥
 
--- a state that flows to an instruction can't be taken on
+-- control flow stops at an instruction, with a state that flows there
 pub data IsStopped (rules : Rules) (m : Method) (listing : List PlacedInstr) (x : PlacedInstr) : Reason → Type 0 where
-  -- the instruction has no effect on it
+  -- the instruction refuses the state
   no_effect : (s : Types) (reason : Reason) → Flows rules m listing x.pc s → effect_at rules m x s ≡ Err reason
       → IsStopped rules m listing x reason
-  -- what comes of it isn't of one shape with a state that flows to the same pc
+  -- the instruction passes on a state whose shape differs from another state's that flows to the same pc
   unlike : (s : Types) (pc : ℕ) (t other : Types) → Flows rules m listing x.pc s → Passes rules m x s pc t
       → Flows rules m listing pc other → has_shape_of other t ≡ false → IsStopped rules m listing x CertMismatch
-  -- a handler covers the instruction, and the method has no room for what is caught
+  -- a handler covers the instruction, and the operand stack has no room for what is caught
   no_room : (s : Types) (h : Handler) → Flows rules m listing x.pc s → Contains m.handlers h → covers h x.pc ≡ true
       → m.max_stack ≡ 0 → IsStopped rules m listing x CertMismatch
 
--- what is told of a method: it has no code; its code doesn't decode; else the first handler that doesn't stand; else an
--- instruction that control flow reaches and that leads astray; and where none does, one to which a state flows that
--- can't be taken on
+-- the faults of a method: it has no code; its code doesn't decode; else the first invalid handler; else a reachable
+-- instruction that leads astray; if none does, an instruction at which control flow stops
 pub data IsToldOf (rules : Rules) (m : Method) : Fault → Type 0 where
   empty : m.code ≡ [] → IsToldOf rules m (fault_at 0 FallsOff)
   undecoded : (pc : ℕ) (why : CodeFault) → StopsAt rules.decoder m.code pc why

@@ -1,5 +1,5 @@
--- Private. What is known of a typing that carries a method, beside the places that are numbered for it. So nothing that
--- such a typing lies above is refused.
+-- Private. The typings that carry a method whose places are numbered. If one lies above what places hold, nothing is
+-- refused.
 use Rattle.std.specs.Prelude.{◌≡◌, ℕ, ◌≤◌, List, length, Option, Some}
 use Rattle.jc_link.specs.Linked.{Linked}
 use Rattle.jc_types.specs.State.{Types}
@@ -12,7 +12,7 @@ pub record HasPlace (numbers : List (Option ℕ)) (pc : ℕ) : Type 0 where
   pub number : ℕ
   pub is : number_at numbers pc ≡ Some number
 
--- a typing of a method; at places there is room for its operands
+-- a typing of a method; its operands at places fit the operand stack
 pub record IsCarrier (l : Linked) (m : Method) (numbers : List (Option ℕ)) (typing : Typing) : Type 0 where
   pub upper : IsUpper l m typing
   pub room : (pc : ℕ) (t : Types) → HasPlace numbers pc → typing pc ≡ Some t → length t.operands ≤ m.max_stack

@@ -1,5 +1,5 @@
--- Private. What the verifier knows while it follows control flow through a method: what is held at places, and what is
--- closed, so that all that flows from there is held where it comes to.
+-- Private. What the verifier knows while it follows control flow through a method: what places hold, and from which pcs
+-- control flow is closed: the places that it leads to hold what flows there.
 use Rattle.std.specs.Prelude.{◌≡◌, ◌≢◌, ℕ, ◌+◌, ◌*◌, ◌<◌, ◌≤◌, Bool, true, false, List, length, Option, Some, None, Ok}
 use Rattle.std.specs.Prelude.{⊤, slice_get, slice_index_or}
 use Rattle.std.specs.List.{AllByRecursion}
@@ -25,7 +25,7 @@ use Rattle.jc_verify.specs.declared.place.Place.{Place}
 abbrev pub Places : Type 0
 Places = List (Place StateWithRoom)
 
--- the number of the place at a pc, by a table; past its end there is none
+-- the number of the place at a pc, from a table; past its end there is none
 abbrev pub number_at : List (Option ℕ) → ℕ → Option ℕ
 number_at numbers pc = slice_index_or numbers pc None
 
@@ -44,18 +44,18 @@ pub record IsNumbered (numbers : List (Option ℕ)) (places : Places) : Type 0 w
   pub found : (pc n : ℕ) (p : Place StateWithRoom) → number_at numbers pc ≡ Some n
       → slice_get places n ≡ Some p → p.pc ≡ pc
 
--- what is held is in the shape of a method
+-- what places hold has the method's shape
 abbrev pub AreShaped : Method → Places → Type 0
 AreShaped m places =
     (n : ℕ) (p : Place StateWithRoom) (s : StateWithRoom) → slice_get places n ≡ Some p → p.held ≡ Some s
     → HasShape m s.types
 
--- a state to work on has the method's number of locals, and room for the operands that the method may have
+-- a working state has as many locals as the method, and room for its maximum of operands
 pub record HasRoom (m : Method) (s : StateWithRoom) : Type 0 where
   pub locals : length s.types.locals ≡ length m.arguments + m.max_locals
   pub room : s.room ≡ m.max_stack
 
--- what holds of types and of code beside a linked package
+-- the laws of types, code and effects in a linked package
 pub record HasLaws (l : Linked) : Type 0 where
   pub itself : (s : Types) → types_below (is_class_below l.world) s s ≡ true
   pub through : (s t u : Types) → types_below (is_class_below l.world) s t ≡ true
@@ -72,21 +72,21 @@ pub record HasLaws (l : Linked) : Type 0 where
   pub within : (depth : ℕ) → IsDepth l.world depth → (s : Types)
       → height_of_types (classes_above l.world) depth s ≤ (length s.locals + length s.operands) * (3 + depth)
 
--- places changed: what was held lies below what is held
+-- places rose: what was held lies below what is held now
 pub record Risen (l : Linked) (m : Method) (numbers : List (Option ℕ)) (before after : Places) : Type 0 where
   pub rises : (pc : ℕ) (s : Types) → held_at numbers before pc ≡ Some s
       → Leads (package_rules l) (held_at numbers after) s pc
   pub numbered : IsNumbered numbers before → IsNumbered numbers after
   pub shaped : AreShaped m before → AreShaped m after
 
--- the order of states, and how high a state is, beside a world
+-- the order of states, and the height of a state, in a world
 abbrev pub below_in : List Shape → StateWithRoom → StateWithRoom → Bool
 below_in world s t = types_below (is_class_below world) s.types t.types
 
 abbrev pub height_in : List Shape → StateWithRoom → ℕ
 height_in world s = height_of_types (classes_above world) most_classes s.types
 
--- no state in the shape of a method is higher
+-- no state of the method's shape is higher
 abbrev pub most_height : Method → ℕ
 most_height m = (length m.arguments + m.max_locals + m.max_stack) * (3 + most_classes)
 
@@ -112,20 +112,20 @@ abbrev pub IsUnder : Linked → List (Option ℕ) → Places → Typing → Type
 IsUnder l numbers places typing =
     (pc : ℕ) (s : Types) → held_at numbers places pc ≡ Some s → Leads (package_rules l) typing s pc
 
--- a typing of a method by what its code decodes to: the entry state lies below its state at pc 0, and where it has a
--- state an instruction is fine on it
+-- a typing of a method by decoding: the entry state lies below its state at pc 0, and an instruction that decodes at a
+-- pc with a state is fine with that state
 pub record IsUpper (l : Linked) (m : Method) (typing : Typing) : Type 0 where
   pub entry : Leads (package_rules l) typing (entry_of m) 0
   pub each : (pc : ℕ) (t : Types) (instr : Instr) → typing pc ≡ Some t → (package_rules l).decoder m.code pc ≡ Ok instr
       → IsFine (package_rules l) m typing (placed pc instr) t
 
--- the handlers that cover an instruction catch, it has an effect, and its branches lead on
+-- an instruction has an effect, and the typing lies above what it passes to handlers and branch targets
 pub record IsVisited (rules : Rules) (m : Method) (typing : Typing) (x : PlacedInstr) (s after : Types) : Type 0 where
   pub handled : AllByRecursion (HandlerLeads rules typing x.pc s) m.handlers
   pub effect : rules.effect m.max_stack m.returned x.instr.operation s ≡ Ok after
   pub branches : AllByRecursion (BranchLeads rules typing after) (targets_of x.pc x.instr.operation)
 
--- from a pc with these types control flow was followed up to places, which hold what comes there
+-- control flow was followed from a pc with these types up to places, and the typing lies above what flows there
 pub data IsClosed (rules : Rules) (m : Method) (numbers : List (Option ℕ)) (typing : Typing) : ℕ → Types → Type 0 where
   ends : (x : PlacedInstr) (s after : Types) → rules.decoder m.code x.pc ≡ Ok x.instr
       → IsVisited rules m typing x s after → falls_of x.instr.operation ≡ false
@@ -138,12 +138,12 @@ pub data IsClosed (rules : Rules) (m : Method) (numbers : List (Option ℕ)) (ty
       → number_at numbers x.instr.next_pc ≡ None → IsClosed rules m numbers typing x.instr.next_pc after
       → IsClosed rules m numbers typing x.pc s
 
--- what is owed of the next pc where control flow goes on to it
+-- the same, if control flow continues at the pc
 abbrev pub ClosedIf : Bool → Rules → Method → List (Option ℕ) → Typing → ℕ → Types → Type 0
 ClosedIf true rules m numbers typing pc t = IsClosed rules m numbers typing pc t
 ClosedIf false rules m numbers typing pc t = ⊤
 
--- what is known of types that go on to a pc: there is no place, or one that holds them
+-- control flow continues at a pc of the code without a place; or the typing's state there lies above the types
 abbrev pub FallsIf : Bool → Rules → Method → List (Option ℕ) → Typing → ℕ → Types → Type 0
 FallsIf true rules m numbers typing pc t = (pc < length m.code) × (number_at numbers pc ≡ None)
 FallsIf false rules m numbers typing pc t = Leads rules typing t pc

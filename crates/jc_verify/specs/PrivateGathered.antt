@@ -1,4 +1,4 @@
--- Private. What is known of a package's rows, one method after the other.
+-- Private. What is known of a package's rows, gathered method by method.
 use Rattle.std.specs.Prelude.{◌≡◌, ◌⊎◌, ℕ, ◌+◌, ◌^◌, ◌<◌, ◌≤◌, List, [], ◌∷◌, ◌++◌, Some, None, length, slice_get}
 use Rattle.std.specs.List.{AllByRecursion}
 use Rattle.jc_cap_desc.specs.Shape.{MethodBody}
@@ -16,13 +16,12 @@ use Rattle.jc_verify.specs.MethodFault.{IsToldOf}
 use Rattle.jc_verify.specs.declared.gathering.Gathered.{Gathered}
 use Rattle.jc_verify.specs.declared.gathering.MethodFault.{MethodFault}
 
--- a method with code stands at a place among the first of a package
+-- a method with code is at an index among the first of a package
 pub record Stands (l : Linked) (n k : ℕ) (b : MethodBody) : Type 0 where
   pub first : k < n
   pub is : slice_get l.body.kept.methods k ≡ Some b
 
--- a state at a pc that goes into two bytes, in the shape of a method, with as many operands as go into one byte, and
--- names that fit
+-- a state with as many locals as the method; its pc fits two bytes, its count of operands one, and its names fit
 pub record IsInShape (m : Method) (c : Stated) : Type 0 where
   pub pc : c.pc < 2 ^ 16
   pub locals : length c.locals ≡ length m.arguments + m.max_locals
@@ -30,20 +29,20 @@ pub record IsInShape (m : Method) (c : Stated) : Type 0 where
   pub each_local : AllByRecursion IsStatedType c.locals
   pub each_operand : AllByRecursion IsStatedType c.operands
 
--- states by ascending pc, so few that their count goes into two bytes
+-- such states by ascending pc, whose count fits two bytes
 pub record AreInOrder (m : Method) (states : List Stated) : Type 0 where
   pub few : length states < 2 ^ 16
   pub ascend : PcsAscend 0 states
   pub each : AllByRecursion (IsInShape m) states
 
--- states carry a method, stand where control flow enters it, and are the least
+-- states carry a method, are where control flow enters it, are the least, and are in order
 pub record IsInferred (l : Linked) (m : Method) (states : List Stated) : Type 0 where
   pub carried : Carries (package_rules l) m states
   pub entered : AreWhereEntered m states
   pub least : AreLeast l m states
   pub order : AreInOrder m states
 
--- a row is for one of the first methods
+-- a row has the inferred states of one of the first methods, at least one
 pub record IsRowOf (l : Linked) (n : ℕ) (r : Row) : Type 0 where
   pub place : ℕ
   pub method : MethodBody
@@ -53,25 +52,26 @@ pub record IsRowOf (l : Linked) (n : ℕ) (r : Row) : Type 0 where
   pub some : 1 ≤ length r.states
   pub inferred : IsInferred l (method_of l method) r.states
 
--- among rows one is for an offset
+-- one of the rows is for an offset
 pub record HasRow (of : List Row) (offset : ℕ) : Type 0 where
   pub place : ℕ
   pub row : Row
   pub is : slice_get of place ≡ Some row
   pub for : row.offset ≡ offset
 
--- the first methods have their rows, those that states carry at places; others are carried without a state
+-- each of the first methods has a row, or is carried without a state; each row is for one of these methods, and no two
+-- are for the same
 pub record AreGathered (l : Linked) (n : ℕ) (of : List Row) : Type 0 where
   pub each : (k : ℕ) (b : MethodBody) → Stands l n k b → IsInferred l (method_of l b) [] ⊎ HasRow of b.offset
   pub come : (k : ℕ) (r : Row) → slice_get of k ≡ Some r → IsRowOf l n r
   pub distinct : (j k : ℕ) (r s : Row) → slice_get of j ≡ Some r → slice_get of k ≡ Some s → r.offset ≡ s.offset → j ≡ k
   pub few : length of ≤ n
 
--- no states carry a method, or some class in it has no name
+-- no states carry a method, or control flow through it doesn't keep to classes with names
 abbrev pub IsDenied : Linked → Method → Type 0
 IsDenied l m = (CanBeCarried l m → ⊥) ⊎ (KeepsNames l m → ⊥)
 
--- a method with code stands at this offset, no states carry it, and the fault is its own
+-- no states carry the method with code at this offset, and the fault is one of its faults
 pub record IsTold (l : Linked) (offset : ℕ) (fault : Fault) : Type 0 where
   pub place : ℕ
   pub method : MethodBody
@@ -80,8 +80,8 @@ pub record IsTold (l : Linked) (offset : ℕ) (fault : Fault) : Type 0 where
   pub without : CanBeCarried l (method_of l method) → ⊥
   pub told : IsToldOf (package_rules l) (method_of l method) fault
 
--- so it is where nothing is told. Where a method is told of no states carry it, and those that stand before it can be
--- carried
+-- if there is no fault, the first methods are gathered and counted. No states carry the method with the fault. Methods
+-- of lower offset can be carried, or all if there is no fault
 pub record IsSoFar (l : Linked) (n : ℕ) (g : Gathered) : Type 0 where
   pub gathered : g.told ≡ None → AreGathered l n (rows g.rows.items)
   pub told : (t : MethodFault) → g.told ≡ Some t → IsTold l t.method t.fault
@@ -89,7 +89,7 @@ pub record IsSoFar (l : Linked) (n : ℕ) (g : Gathered) : Type 0 where
   pub carried : (k : ℕ) (b : MethodBody) → Stands l n k b → ((t : MethodFault) → g.told ≡ Some t → b.offset < t.method)
       → CanBeCarried l (method_of l b)
 
--- a row was put behind others, if it has states
+-- the row of a method was appended, if it has states
 abbrev pub IsPut : ℕ → List Stated → List Row → List Row → Type 0
 IsPut offset states before after =
     ((states ≡ []) × (after ≡ before))

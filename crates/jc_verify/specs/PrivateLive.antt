@@ -1,4 +1,4 @@
--- Private. What is known while control flow is followed through a method, to find where it enters.
+-- Private. What is known while control flow is followed through a method, to find the pcs that it enters.
 use Rattle.std.specs.Prelude.{◌≡◌, ◌≢◌, ◌⊎◌, ⊤, ℕ, ℤ, zero, suc, ◌+◌, ◌<◌, ◌^◌, true, pos, List, [], length}
 use Rattle.std.specs.Prelude.{Contains, Option, Some, if◌then◌else◌}
 use Rattle.std.specs.List.{AllByRecursion}
@@ -22,7 +22,7 @@ pub record IsDecoded (code : List ℕ) (listing : List PlacedInstr) (starts : Li
   pub whole : IsListing instr_at code listing
   pub each : (pc : ℕ) → has_number starts pc ≡ begins listing pc
 
--- a method whose code decodes, and whose handlers stand
+-- a method whose code decodes, and whose handlers are valid
 pub record IsGround (m : Method) (listing : List PlacedInstr) (starts : List ℕ) : Type 0 where
   pub laws : ListingLaws instr_at
   pub short : length m.code < 2 ^ 16
@@ -38,26 +38,26 @@ left_out numbers (suc n) = (if has_number numbers n then 0 else 1) + left_out nu
 unfoldable pub all_numbers : ℕ
 all_numbers = 65_536
 
--- how many pcs may still be followed from
+-- how many pcs may still be taken from the worklist
 abbrev pub left_of : Followed → ℕ
 left_of f = left_out f.live all_numbers + length f.stack.items
 
--- a pc is entered, and so it is reached
+-- a pc is in both sets: it is entered and reached
 pub record IsHeld (f : Followed) (pc : ℕ) : Type 0 where
   pub live : has_number f.live pc ≡ true
   pub entered : has_number f.entered pc ≡ true
 
--- each pc stays in its sets, and as many are left
+-- the sets have only grown, and as many pcs are left
 pub record Grown (before after : Followed) : Type 0 where
   pub live : (pc : ℕ) → has_number before.live pc ≡ true → has_number after.live pc ≡ true
   pub entered : (pc : ℕ) → has_number before.entered pc ≡ true → has_number after.entered pc ≡ true
   pub left : left_of after ≡ left_of before
 
--- a handler that covers a pc goes on where control flow enters
+-- the entry point of a handler is entered, if the handler covers a pc
 abbrev pub IsCaughtIn : Followed → ℕ → Handler → Type 0
 IsCaughtIn f pc h = covers h pc ≡ true → IsHeld f h.goes_on
 
--- a place is a pc, which is entered
+-- a branch target is a pc that is entered
 pub record IsBranchIn (f : Followed) (place : ℤ) : Type 0 where
   pub pc : ℕ
   pub is : place ≡ pos pc
@@ -69,11 +69,11 @@ pub record IsDone (m : Method) (f : Followed) (x : PlacedInstr) : Type 0 where
   pub branches : (place : ℤ) → Contains (targets_of x.pc x.instr.operation) place → IsBranchIn f place
   pub behind : falls_of x.instr.operation ≡ true → has_number f.live x.instr.next_pc ≡ true
 
--- control flow is followed from a pc now, or has to be later
+-- control flow is followed from a pc now, or the pc is on the worklist
 abbrev pub IsAwaited : Option ℕ → Followed → ℕ → Type 0
 IsAwaited now f pc = (now ≡ Some pc) ⊎ Contains f.stack.items pc
 
--- an instruction begins at a pc that is reached
+-- an instruction begins at a reachable pc
 pub record IsReached (m : Method) (listing : List PlacedInstr) (pc : ℕ) : Type 0 where
   pub live : IsLive m listing pc
   pub begin : begins listing pc ≡ true
@@ -83,8 +83,8 @@ pub record IsFound (m : Method) (listing : List PlacedInstr) (pc : ℕ) : Type 0
   pub entered : IsEntered m listing pc
   pub begin : begins listing pc ≡ true
 
--- control flow was followed from pc 0: what is in the sets is reached and entered, and from each pc that is reached it
--- was followed, or has to be yet
+-- control flow was followed from pc 0: the pcs in the sets are reachable and entered, and each reached pc was followed
+-- from, or is awaited
 pub record IsFollowed (m : Method) (listing : List PlacedInstr) (now : Option ℕ) (f : Followed) : Type 0 where
   pub first : has_number f.live 0 ≡ true
   pub live : (pc : ℕ) → has_number f.live pc ≡ true → IsReached m listing pc
@@ -93,8 +93,8 @@ pub record IsFollowed (m : Method) (listing : List PlacedInstr) (now : Option �
   pub done : (x : PlacedInstr) → placed_at listing x.pc ≡ Some x → has_number f.live x.pc ≡ true
       → IsAwaited now f x.pc ⊎ IsDone m f x
 
--- control flow was led somewhere: the sets have what they are to have, and keep what they had; and if what is asked for
--- holds of the method, it was followed so far
+-- after a step the sets have what it gives, and have only grown; if the method meets what the step asks, `IsFollowed`
+-- still holds
 pub record HasLed (gives : Followed → Type 0) (asks : Method → List PlacedInstr → Type 0)
     (before after : Followed) : Type 0 where
   pub met : gives after
@@ -102,7 +102,7 @@ pub record HasLed (gives : Followed → Type 0) (asks : Method → List PlacedIn
   pub followed : (m : Method) (listing : List PlacedInstr) (now : ℕ) → asks m listing
       → IsFollowed m listing (Some now) before → IsFollowed m listing (Some now) after
 
--- where handlers that cover a pc go on control flow enters, and an instruction begins there
+-- the entry points of the handlers that cover a pc are entered, and instructions begin there
 abbrev pub AreCaughtIn : List Handler → ℕ → Followed → Type 0
 AreCaughtIn handlers pc f = (h : Handler) → Contains handlers h → IsCaughtIn f pc h
 
@@ -110,7 +110,7 @@ abbrev pub AreFoundBy : List Handler → ℕ → Method → List PlacedInstr →
 AreFoundBy handlers pc m listing =
     (h : Handler) → Contains handlers h → covers h pc ≡ true → IsFound m listing h.goes_on
 
--- places are pcs that are entered; and so they are by branches of a method whose code decodes
+-- branch targets are pcs that are entered; control flow enters them, in a method whose code decodes
 abbrev pub AreBranchesIn : (ℤ → Type 0) → Followed → Type 0
 AreBranchesIn among f = (place : ℤ) → among place → IsBranchIn f place
 
@@ -127,32 +127,32 @@ pub record AreLive (m : Method) (listing : List PlacedInstr) (live : List ℕ) :
   pub reached : (pc : ℕ) → has_number live pc ≡ true → IsLive m listing pc
   pub all : (pc : ℕ) → IsLive m listing pc → has_number live pc ≡ true
 
--- an instruction that is reached leads where none begins
+-- a reachable instruction leads astray
 pub data IsAstray (m : Method) (listing : List PlacedInstr) : ℕ → Reason → Type 0 where
   leads : (x : PlacedInstr) (reason : Reason) → placed_at listing x.pc ≡ Some x → IsLive m listing x.pc
       → LeadsAstray m listing x reason → IsAstray m listing x.pc reason
 
--- it holds of the pc and the reason where something is refused
+-- the property holds of a refusal's pc and reason
 abbrev pub IfRefusal : WordFault → (ℕ → Reason → Type 0) → Type 0
 IfRefusal (Refused pc reason) holds = holds pc reason
 IfRefusal Memory holds = ⊤
 
--- at a pc no instruction of the code can be decoded, for this reason
+-- decoding stops at a pc of the code, for this reason
 abbrev pub IsUndecoded : List ℕ → ℕ → Reason → Type 0
 IsUndecoded code pc reason = (why : CodeFault) × StopsAt instr_at code pc why × (reason ≡ reason_of why)
 
--- this is reported at a pc, and something holds
+-- this reason is reported at this pc, and something holds
 abbrev pub ToldAt : ℕ → Reason → Type 0 → ℕ → Reason → Type 0
 ToldAt pc why holds at reason = (at ≡ pc) × (reason ≡ why) × holds
 
--- what is found of a method: the pcs that control flow enters and those that it reaches, and that none of these leads
--- astray
+-- what is found of a method: the pcs that control flow enters, and those that it reaches; no reachable instruction
+-- leads astray
 pub record HasFound (m : Method) (listing : List PlacedInstr) (entries : List ℕ) : Type 0 where
   pub are : AreEntries m listing entries
   pub live : (live : List ℕ) × AreLive m listing live
   pub straight : GoesStraight m listing
 
--- the pcs that control flow enters, of a method whose code decodes and whose handlers stand
+-- the pcs that control flow enters, in a method whose code decodes and whose handlers are valid
 pub record HasEntries (m : Method) (entries : List ℕ) : Type 0 where
   pub listing : List PlacedInstr
   pub whole : IsListing instr_at m.code listing

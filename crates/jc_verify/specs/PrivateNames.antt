@@ -1,5 +1,4 @@
--- Private. Which classes a certificate has names for, and that what control flow does to types leaves names to their
--- classes.
+-- Private. Which classes a certificate has names for. Control flow introduces no classes without names.
 use Rattle.std.specs.Prelude.{◌≡◌, ⊤, ℕ, true, List, reverse, Some, Ok, Contains, slice_get}
 use Rattle.std.specs.List.{AllByRecursion}
 use Rattle.jc_cap_desc.specs.Shape.{Shape}
@@ -15,7 +14,7 @@ use Rattle.jc_types.specs.declared.ty.Ty.TheVariants.{ReferenceArray}
 use Rattle.jc_check.specs.Package.{package_rules}
 use Rattle.jc_verify.specs.declared.place.Place.{Place}
 
--- a class has a name where it is one of a world's; an interface has none
+-- a class of the world has a name; an interface has none
 abbrev pub HasName : List Shape → ClassName → Type 0
 HasName world class = is_class_at world class ≡ true
 
@@ -41,7 +40,7 @@ AreNamed world places =
     (n : ℕ) (p : Place StateWithRoom) (s : StateWithRoom) → slice_get places n ≡ Some p → p.held ≡ Some s
     → HasNames world s.types
 
--- whatever control flow does to types of a method leaves names to their classes
+-- the entry state's classes have names, and effects, handlers and joins introduce no classes without names
 pub record KeepsNames (l : Linked) (m : Method) : Type 0 where
   pub entry : HasNames l.world (entry_of m)
   pub effect : (operation : Operation) (s t : Types) → HasNames l.world s
@@ -51,13 +50,13 @@ pub record KeepsNames (l : Linked) (m : Method) : Type 0 where
   pub join : (s t u : Types) → HasNames l.world s → HasNames l.world t → IsJoin (is_class_below l.world) s t u
       → HasNames l.world u
 
--- a place holds types, of which not all classes have names
+-- a place holds types whose classes don't all have names
 pub record IsUnnamedPlace (world : List Shape) (p : Place StateWithRoom) : Type 0 where
   pub state : StateWithRoom
   pub held : p.held ≡ Some state
   pub unnamed : HasNames world state.types → ⊥
 
--- such a place stands among others
+-- one of the places is such a place
 pub record HasUnnamed (world : List Shape) (places : List (Place StateWithRoom)) : Type 0 where
   pub number : ℕ
   pub place : Place StateWithRoom

@@ -1,5 +1,5 @@
--- Private. The places of a method that control flow enters by a branch or a handler, and what they hold while a
--- certificate is worked out.
+-- Private. The places of a method that control flow enters by a branch or a handler, and what they hold during
+-- inference.
 use Rattle.std.specs.Prelude.{◌≡◌, ◌⊎◌, ◌<◌, ℕ, suc, ◌+◌, Bool, true, false, List, [], ◌∷◌, length, None, Some}
 use Rattle.std.specs.Prelude.{slice_get}
 use Rattle.std.specs.Option.{option_map_or}
@@ -9,7 +9,7 @@ use Rattle.jc_verify.specs.declared.place.Place.{Place}
 abbrev pub left_of : {L : Type 0} → (L → ℕ) → ℕ → Place L → ℕ
 left_of height most p = option_map_or height p.held (suc most)
 
--- a place holds a value that lies above one
+-- a place holds a value above this one
 pub record HoldsAbove {L : Type 0} (below : L → L → Bool) (p : Place L) (x : L) : Type 0 where
   pub value : L
   pub held : p.held ≡ Some value
@@ -19,13 +19,13 @@ pub record HoldsAbove {L : Type 0} (below : L → L → Bool) (p : Place L) (x :
 abbrev pub IsHeldBelow : {L : Type 0} → (L → L → Bool) → Place L → L → Type 0
 IsHeldBelow {L} below p z = (x : L) → p.held ≡ Some x → below x z ≡ true
 
--- a place that held nothing holds a value now, or the least above that value and the one that it held
+-- a place took in a value: it holds the value if it held nothing, and otherwise its join with what it held
 pub data IsTakenIn {L : Type 0} (below : L → L → Bool) (before after : Place L) (x : L) : Type 0 where
   put : before.held ≡ None → after.held ≡ Some x → IsTakenIn below before after x
   joined : (y z : L) → before.held ≡ Some y → after.held ≡ Some z → below y z ≡ true → below x z ≡ true
       → ((u : L) → below y u ≡ true → below x u ≡ true → below z u ≡ true) → IsTakenIn below before after x
 
--- a place holds a value that isn't of one shape with another
+-- a place holds a value whose shape differs from another's
 pub record IsUnlike {L : Type 0} (fits : L → L → Bool) (p : Place L) (x : L) : Type 0 where
   pub value : L
   pub held : p.held ≡ Some value

@@ -1,5 +1,4 @@
--- Private. What exception handlers took in last while control flow is followed, so that behind it only locals that
--- differ have to be looked at.
+-- Private. The locals that exception handlers took in last; after that, only locals that differ are compared.
 use Rattle.std.specs.Prelude.{◌≡◌, ℕ, [], List, Some, true}
 use Rattle.jc_classes.specs.Subtype.{is_class_below}
 use Rattle.jc_check.specs.Method.{Handler, covers}
@@ -18,8 +17,8 @@ use Rattle.jc_verify.specs.declared.seen.Seen.{Seen}
 abbrev pub with_locals : List Ty → Types
 with_locals locals = record { locals = locals; operands = [] }
 
--- a handler, and all handlers, took in the locals seen last, if they cover the instruction there: what places hold then
--- or later lies above them
+-- a handler took in the locals seen last, if it covers the instruction there: what places hold now or later lies above
+-- them; and the same for all handlers
 abbrev pub HasSeen : Flow → Places → Seen → Handler → Type 0
 HasSeen f places seen h = (final : Places) (pc : ℕ) → Risen f.linked.now f.method.now f.numbers.now places final
     → seen.at ≡ Some pc
@@ -35,7 +34,7 @@ pub record WasCovered (seen : Seen) (h : Handler) : Type 0 where
   pub at : seen.at ≡ Some pc
   pub covered : covers h pc ≡ true
 
--- the place at a pc holds locals above these, if it held some above others that agree with them outside of a range
+-- the place at a pc holds locals above these, if they lie above others that agree with these outside of a range
 pub record StillHolds (f : Flow) (places : Places) (pc : ℕ) (range : LocalRange) (locals : List Ty) : Type 0 where
   pub held : Types
   pub at : held_at f.numbers.now places pc ≡ Some held

@@ -14,30 +14,30 @@ use Rattle.jc_verify.specs.PrivateTold.{AreReached}
 use Rattle.jc_verify.specs.declared.flow.Flow.{Flow}
 use Rattle.jc_verify.specs.declared.place.Place.{Place}
 
--- from each place that hasn't changed since, control flow was followed
+-- control flow was followed from each place that hasn't changed since
 abbrev pub IsSettled : Linked → Method → List (Option ℕ) → Places → Type 0
 IsSettled l m numbers places =
     (n : ℕ) (p : Place StateWithRoom) (t : Types) → slice_get places n ≡ Some p → p.changed ≡ false
     → types_held p ≡ Some t → IsClosed (package_rules l) m numbers (held_at numbers places) p.pc t
 
--- from each place that holds types control flow was followed
+-- control flow was followed from each place that holds types
 abbrev pub AreAllClosed : Linked → Method → List (Option ℕ) → Places → Type 0
 AreAllClosed l m numbers places =
     (n : ℕ) (p : Place StateWithRoom) (t : Types) → slice_get places n ≡ Some p → types_held p ≡ Some t
     → IsClosed (package_rules l) m numbers (held_at numbers places) p.pc t
 
--- the entry state met the place at pc 0, or control flow was followed from there
+-- the place at pc 0 took in the entry state, or control flow was followed from there
 pub record IsEntryMet (l : Linked) (m : Method) (numbers : List (Option ℕ)) (typing : Typing) : Type 0 where
   pub on : Bool
   pub falls : FallsIf on (package_rules l) m numbers typing 0 (entry_of m)
   pub closed : ClosedIf on (package_rules l) m numbers typing 0 (entry_of m)
 
--- a place that counts as unchanged
+-- a place, marked as unchanged
 abbrev pub settled_place : Place StateWithRoom → Place StateWithRoom
 settled_place p = record { pc = p.pc; held = p.held; changed = false }
 
--- control flow was followed from the place of a number: what has changed is another place that had before, or it lets
--- what is left fall
+-- control flow was followed from the place with a number: each changed place is another one that had changed before, or
+-- what is left fell
 pub record IsFollowed (l : Linked) (m : Method) (numbers : List (Option ℕ)) (number : ℕ)
     (before after : Places) : Type 0 where
   pub risen : Risen l m numbers before after
@@ -49,8 +49,8 @@ pub record IsFollowed (l : Linked) (m : Method) (numbers : List (Option ℕ)) (n
       → (left_in l m after < left_in l m before)
       ⊎ ((n ≢ number) × (q : Place StateWithRoom) × (slice_get before n ≡ Some q) × (q.changed ≡ true))
 
--- control flow was followed from those that had changed of the places with these numbers, from the first one up to the
--- end
+-- control flow was followed from the changed places with these numbers, from `first` to before `end`: if one has
+-- changed again, what is left fell
 pub record IsSwept (l : Linked) (m : Method) (numbers : List (Option ℕ)) (first end : ℕ)
     (before after : Places) : Type 0 where
   pub risen : Risen l m numbers before after
@@ -73,7 +73,7 @@ pub record HasSettled (f : Flow) (before after : Places) : Type 0 where
 abbrev pub AreAscending : List (Option ℕ) → Type 0
 AreAscending numbers = (pc at j k : ℕ) → number_at numbers pc ≡ Some j → number_at numbers at ≡ Some k → j < k → pc < at
 
--- the places at the pcs of a set below this one are numbered
+-- the pcs of a set below this one are numbered as places, which hold nothing
 pub record AreNumbered (entries : List ℕ) (pc : ℕ) (numbers : List (Option ℕ)) (places : Places) : Type 0 where
   pub sized : length numbers ≡ pc
   pub few : length places ≤ pc

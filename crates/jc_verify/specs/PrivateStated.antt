@@ -1,4 +1,4 @@
--- Private. What places hold, as rows of a certificate state it.
+-- Private. Rows of a certificate that state what places hold.
 use Rattle.std.specs.Prelude.{◌≡◌, ℕ, List, [], ◌∷◌, length, reverse, Option, Some, None}
 use Rattle.std.specs.List.{AllByRecursion}
 use Rattle.jc_cert.specs.Cert.{IsStatedType, Stated}
@@ -8,7 +8,7 @@ use Rattle.jc_types.specs.State.{StateWithRoom, Types}
 use Rattle.jc_check.specs.Claim.{types_claimed}
 use Rattle.jc_verify.specs.PrivateFlow.{Places}
 
--- a row states these types at a pc, the operands bottom first, by names of their classes
+-- a row states these types at a pc, the operands bottom first, with the names of their classes
 pub record IsStateRow (class_of : SpelledClass → Option ClassName) (pc : ℕ) (t : Types) (c : Stated) : Type 0 where
   pub at : c.pc ≡ pc
   pub locals : types_claimed class_of c.locals ≡ Some t.locals
@@ -18,7 +18,7 @@ pub record IsStateRow (class_of : SpelledClass → Option ClassName) (pc : ℕ) 
   pub each_local : AllByRecursion IsStatedType c.locals
   pub each_operand : AllByRecursion IsStatedType c.operands
 
--- the first of these rows states the types at a pc, and the others are these
+-- the first row states the types at a pc, and `others` holds of the rest
 pub record IsFirstRow (class_of : SpelledClass → Option ClassName) (pc : ℕ) (t : Types) (others : List Stated → Type 0)
     (cs : List Stated) : Type 0 where
   pub row : Stated
@@ -27,7 +27,7 @@ pub record IsFirstRow (class_of : SpelledClass → Option ClassName) (pc : ℕ) 
   pub states : IsStateRow class_of pc t row
   pub behind : others rest
 
--- what a place holds has a row in front of others, if it holds something
+-- if a place holds something, the first row states it; `others` holds of the other rows
 abbrev pub RowIf : (SpelledClass → Option ClassName) → ℕ → Option StateWithRoom → (List Stated → Type 0)
     → List Stated → Type 0
 RowIf class_of pc None others cs = others cs

@@ -8,12 +8,12 @@ use Rattle.jc_verify.specs.declared.place.NotTaken.TheVariants as taking
 use Rattle.jc_verify.specs.declared.stop.Stop.{Stop}
 use Rattle.jc_verify.specs.declared.stop.Stop.TheVariants.{Refused, Memory}
 
--- what isn't of one shape with what a place holds can't be carried
+-- a state whose shape differs from what a place holds is refused
 abbrev pub stop_of : NotTaken → Stop
 stop_of taking.Unlike = Refused CertMismatch
 stop_of taking.Memory = Memory
 
--- why control flow stops at an instruction
+-- the fault at an instruction at which control flow stops
 abbrev pub fault_at : ℕ → Stop → WordFault
 fault_at pc (Refused reason) = faults.Refused pc reason
 fault_at pc Memory = faults.Memory

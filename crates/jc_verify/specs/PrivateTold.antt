@@ -1,4 +1,4 @@
--- Private. What is known of the states that places hold, and of what is reported if control flow is refused.
+-- Private. The states that places hold flow there, and a refusal reports a fault of the method.
 use Rattle.std.specs.Prelude.{◌≡◌, ◌≢◌, ⊤, ℕ, ℤ, pos, true, false, List, [], Option, Some, slice_get}
 use Rattle.std.specs.List.{AllByRecursion}
 use Rattle.jc_base.specs.declared.reason.Reason.{Reason}
@@ -37,7 +37,7 @@ AreReached l m places =
     (n : ℕ) (p : Place StateWithRoom) (s : StateWithRoom) → slice_get places n ≡ Some p → p.held ≡ Some s
     → Reaches l m p.pc s.types
 
--- types meet others of another shape at a pc
+-- the shape of types differs from that of others at a pc
 pub data MeetsUnlike (at : ℕ → Types → Type 0) (pc : ℕ) (t : Types) : Reason → Type 0 where
   meets_unlike : (other : Types) → at pc other → has_shape_of other t ≡ false → MeetsUnlike at pc t CertMismatch
 
@@ -45,12 +45,12 @@ pub data MeetsUnlike (at : ℕ → Types → Type 0) (pc : ℕ) (t : Types) : Re
 abbrev pub IsHeldAt : List (Option ℕ) → Places → ℕ → Types → Type 0
 IsHeldAt numbers places pc t = held_at numbers places pc ≡ Some t
 
--- what is caught isn't taken in: there is no room for it, or it meets types of another shape
+-- what is caught isn't taken in: there is no room for it, or its shape differs from that of other types
 pub data IsUncaughtAt (l : Linked) (m : Method) (pc : ℕ) (t : Types) : Reason → Type 0 where
   caught_no_room : m.max_stack ≡ 0 → IsUncaughtAt l m pc t CertMismatch
   caught_unlike : (reason : Reason) → MeetsUnlike (Reaches l m) pc t reason → IsUncaughtAt l m pc t reason
 
--- what a handler catches that covers a pc isn't taken in where it goes on
+-- a handler covers a pc, and what it catches isn't taken in at its entry point
 pub record IsUncaught (l : Linked) (m : Method) (of : Handler → Type 0) (pc : ℕ) (s : Types) (r : Reason) : Type 0 where
   pub h : Handler
   pub class : ClassName
@@ -59,19 +59,19 @@ pub record IsUncaught (l : Linked) (m : Method) (of : Handler → Type 0) (pc : 
   pub catches : h.caught ≡ Some class
   pub untaken : IsUncaughtAt l m h.goes_on (caught_types class s) r
 
--- a branch isn't followed: what flows there meets types of another shape
+-- a branch isn't followed: the shape of the types differs from that of others at the target
 pub record IsUnled (l : Linked) (m : Method) (among : ℤ → Type 0) (t : Types) (r : Reason) : Type 0 where
   pub pc : ℕ
   pub is : among (pos pc)
   pub meets : MeetsUnlike (Reaches l m) pc t r
 
--- if something is refused, that is reported for the method
+-- a refusal reports a fault of the method
 abbrev pub Tells : Rules → Method → WordFault → Type 0
 Tells rules m (faults.Refused pc reason) = IsToldOf rules m (fault_at pc reason)
 Tells rules m faults.Memory = ⊤
 
--- the listing of a method's code; its handlers stand, nothing that is reached leads astray, and where control flow
--- enters an instruction begins and there is a place
+-- the listing of a method's code; its handlers are valid, no reachable instruction leads astray, and each pc that
+-- control flow enters begins an instruction and has a place
 pub record IsGroundOf (l : Linked) (m : Method) (numbers : List (Option ℕ)) : Type 0 where
   pub listing : List PlacedInstr
   pub whole : IsListing (package_rules l).decoder m.code listing

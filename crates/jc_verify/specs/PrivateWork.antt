@@ -1,5 +1,5 @@
--- Private. What is known while control flow is followed through a method, and what that comes to: places have taken in
--- what flows there, or control flow isn't followed further.
+-- Private. What is known while control flow is followed through a method, and its result: places have taken in what
+-- flows there, or control flow is refused.
 use Rattle.std.specs.Prelude.{◌≡◌, ⊤, ℕ, ℤ, pos, ◌<◌, ◌^◌, Bool, true, List, length, drop, Some, None, Ok, slice_get}
 use Rattle.std.specs.List.{AllByRecursion}
 use Rattle.jc_base.specs.declared.reason.Reason.{Reason}
@@ -45,7 +45,7 @@ pub record IsBlank (f : Flow) (places : Places) : Type 0 where
   pub numbered : IsNumbered f.numbers.now places
   pub empty : (n : ℕ) (p : Place StateWithRoom) → slice_get places n ≡ Some p → p.held ≡ None
 
--- the states to work on have room: for what is caught, and for what is followed
+-- the working states for what is caught and for what is followed have room
 pub record HaveRoom (f : Flow) (c s : StateWithRoom) : Type 0 where
   pub caught : HasRoom f.method.now c
   pub state : HasRoom f.method.now s
@@ -66,23 +66,23 @@ pub record FlowsIn (f : Flow) (pc : ℕ) (t : Types) : Type 0 where
   pub flows : FlowsTo f pc t
   pub place : HasPlace f.numbers.now pc
 
--- types flow to the place of a number
+-- types flow to the place with a number
 pub record FlowsInto (f : Flow) (places : Places) (number : ℕ) (t : Types) : Type 0 where
   pub within : number < length places
   pub flows : (p : Place StateWithRoom) → slice_get places number ≡ Some p → FlowsTo f p.pc t
 
--- an instruction is decoded at a pc
+-- an instruction decodes at a pc
 pub record IsDecodedAt (l : Linked) (m : Method) (pc : ℕ) : Type 0 where
   pub instr : Instr
   pub is : (package_rules l).decoder m.code pc ≡ Ok instr
 
--- an instruction stands at a pc to which types flow
+-- an instruction decodes at a pc to which types flow
 pub record StandsAt (f : Flow) (pc : ℕ) (t : Types) (instr : Instr) : Type 0 where
   pub sound : IsSound f
   pub flows : FlowsTo f pc t
   pub decoded : (package_rules f.linked.now).decoder f.method.now.code pc ≡ Ok instr
 
--- a handler catches a class, and with it types flow in where it goes on
+-- a handler catches a class, and types with it flow to a place at its entry point
 pub record IsWay (f : Flow) (t : Types) (h : Handler) : Type 0 where
   pub class : ClassName
   pub catches : h.caught ≡ Some class
@@ -92,34 +92,34 @@ pub record IsWay (f : Flow) (t : Types) (h : Handler) : Type 0 where
 abbrev pub IsHandlersWay : Flow → ℕ → Types → Handler → Type 0
 IsHandlersWay f pc t h = covers h pc ≡ true → IsWay f t h
 
--- types flow in where a branch leads
+-- types flow to a place at a branch target
 pub record IsBranchsWay (f : Flow) (t : Types) (place : ℤ) : Type 0 where
   pub pc : ℕ
   pub is : place ≡ pos pc
   pub flows : FlowsIn f pc t
 
--- ---- of a typing
+-- ---- what a typing meets
 
--- types lie below its state at a pc
+-- types lie below a typing's state at a pc
 abbrev pub LeadsTo : Flow → ℕ → Types → Typing → Type 0
 LeadsTo f pc t typing = Leads (package_rules f.linked.now) typing t pc
 
--- the same at the pc of the place of a number
+-- the same at the pc of the place with a number
 abbrev pub LeadsInto : Flow → ℕ → Types → Typing → Type 0
 LeadsInto f number t typing = (pc : ℕ) → number_at f.numbers.now pc ≡ Some number → LeadsTo f pc t typing
 
--- there is no place at a pc, so that control flow has to be followed on, or its state there lies above types
+-- control flow continues at a pc of the code without a place; or the typing's state there lies above the types
 abbrev pub Falls : Flow → Bool → ℕ → Types → Typing → Type 0
 Falls f on pc t typing = FallsIf on (package_rules f.linked.now) f.method.now f.numbers.now typing pc t
 
--- a handler, and all handlers, lead on from a pc with types
+-- the typing lies above what a handler catches with these types, if it covers a pc; and the same for all handlers
 abbrev pub Handles : Flow → ℕ → Types → Handler → Typing → Type 0
 Handles f pc t h typing = HandlerLeads (package_rules f.linked.now) typing pc t h
 
 abbrev pub HandlesAll : Flow → ℕ → Types → Typing → Type 0
 HandlesAll f pc t typing = AllByRecursion (HandlerLeads (package_rules f.linked.now) typing pc t) f.method.now.handlers
 
--- the branch of an index, and all branches, lead on with types
+-- the typing lies above types at the target of the branch with an index, and at all targets
 abbrev pub Branches : Flow → List ℤ → ℕ → Types → Typing → Type 0
 Branches f targets index t typing =
     (place : ℤ) → slice_get targets index ≡ Some place → BranchLeads (package_rules f.linked.now) typing t place
@@ -127,26 +127,26 @@ Branches f targets index t typing =
 abbrev pub BranchesAll : Flow → List ℤ → Types → Typing → Type 0
 BranchesAll f targets t typing = AllByRecursion (BranchLeads (package_rules f.linked.now) typing t) targets
 
--- from a pc with types control flow was followed up to places; or that is owed only where control flow goes on there
+-- control flow was followed from a pc with types up to places; the same, if control flow continues at the pc
 abbrev pub ClosedFrom : Flow → ℕ → Types → Typing → Type 0
 ClosedFrom f pc t typing = IsClosed (package_rules f.linked.now) f.method.now f.numbers.now typing pc t
 
 abbrev pub ClosedFromIf : Flow → Bool → ℕ → Types → Typing → Type 0
 ClosedFromIf f on pc t typing = ClosedIf on (package_rules f.linked.now) f.method.now f.numbers.now typing pc t
 
--- it is a typing of the method, whose state at a pc lies above types
+-- a typing of the method, whose state at a pc lies above types
 pub record Bears (f : Flow) (pc : ℕ) (t : Types) (typing : Typing) : Type 0 where
   pub upper : IsUpper f.linked.now f.method.now typing
   pub leads : LeadsTo f pc t typing
 
--- nothing is asked of it
+-- nothing is asked of a typing
 abbrev pub Anything : Typing → Type 0
 Anything typing = ⊤
 
--- ---- what following leaves
+-- ---- results
 
--- places took in what flows: whatever is held in the end gives what is to be given; and a typing that asks for that
--- lies above what they hold, if it did before
+-- places took in what flows: whatever they hold later meets `gives`; and a typing that meets `asks` lies above what
+-- they hold, if it did before
 pub record HasTaken (f : Flow) (gives asks : Typing → Type 0) (before after : Places) : Type 0 where
   pub grown : Grown f.linked.now f.method.now f.numbers.now before after
   pub met : (final : Places) → Risen f.linked.now f.method.now f.numbers.now after final
@@ -155,37 +155,38 @@ pub record HasTaken (f : Flow) (gives asks : Typing → Type 0) (before after : 
       → IsUnder f.linked.now f.numbers.now after typing
   pub work : IsAtWork f after
 
--- the same where both are one
+-- the same if `gives` and `asks` are one
 abbrev pub HasTakenIn : Flow → (Typing → Type 0) → Places → Places → Type 0
 HasTakenIn f leads before after = HasTaken f leads leads before after
 
--- the first of these were passed: they lead on if those behind them do
+-- the first k of these were passed: all lead on if the rest do
 abbrev pub ArePassed : Flow → {A : Type 0} → (Typing → A → Type 0) → List A → ℕ → Places → Places → Type 0
 ArePassed f leads xs k before after =
     HasTaken f (λ typing. AllByRecursion (leads typing) (drop k xs) → AllByRecursion (leads typing) xs)
     (λ typing. AllByRecursion (leads typing) xs) before after
 
--- an instruction was visited: from there control flow is closed if it is so from the next pc, where it goes on; types
--- flow there then, and what bears the types before the instruction bears those behind it
+-- an instruction was visited: control flow is closed from there, if it is closed from the next pc or doesn't continue
+-- there. If it continues, types flow to the next pc, and a typing that bears the types before the instruction bears
+-- those after it
 pub record HasVisited (f : Flow) (on : Bool) (x : PlacedInstr) (s t : Types) (before after : Places) : Type 0 where
   pub taken : HasTaken f (λ typing. ClosedFromIf f on x.instr.next_pc t typing → ClosedFrom f x.pc s typing)
       (Bears f x.pc s) before after
   pub next : on ≡ true → GoesOn f x.instr.next_pc t
   pub bears : on ≡ true → (typing : Typing) → Bears f x.pc s typing → Bears f x.instr.next_pc t typing
 
--- control flow isn't followed: no carrier that lies above what places hold asks for it, and the reason is told of
+-- control flow is refused: no carrier that lies above what places hold meets `asks`, and the reason meets `tells`
 pub record IsRefusedFor (f : Flow) (asks : Typing → Type 0) (tells : Reason → Type 0) (before : Places)
     (reason : Reason) : Type 0 where
   pub denied : (typing : Typing) → IsCarrier f.linked.now f.method.now f.numbers.now typing
       → IsUnder f.linked.now f.numbers.now before typing → asks typing → ⊥
   pub told : tells reason
 
--- the same, if it is refused, and not for want of memory
+-- the same for a stop, unless it is out of memory
 pub record Refuses (f : Flow) (asks : Typing → Type 0) (tells : Reason → Type 0) (before : Places)
     (stop : Stop) : Type 0 where
   pub each : (reason : Reason) → stop ≡ Refused reason → IsRefusedFor f asks tells before reason
 
--- types meet others of another shape that places hold at a pc; and so at the pc of the place of a number
+-- the shape of types differs from what places hold at a pc; and the same at the pc of the place with a number
 abbrev pub MeetsHeld : Flow → Places → ℕ → Types → Reason → Type 0
 MeetsHeld f places pc t reason = MeetsUnlike (IsHeldAt f.numbers.now places) pc t reason
 
@@ -193,11 +194,11 @@ abbrev pub MeetsHeldBy : Flow → Places → ℕ → Types → Reason → Type 0
 MeetsHeldBy f places number t reason =
     (pc : ℕ) → number_at f.numbers.now pc ≡ Some number → MeetsHeld f places pc t reason
 
--- a fault of the method is reported, with a reason at a pc
+-- a reason at a pc is a fault of the method
 abbrev pub IsToldAt : Flow → ℕ → Reason → Type 0
 IsToldAt f pc reason = IsToldOf (package_rules f.linked.now) f.method.now (fault_at pc reason)
 
--- the same by the reported fault
+-- the same for a reported fault
 pub record IsDenial (f : Flow) (asks : Typing → Type 0) (before : Places) (fault : WordFault) : Type 0 where
   pub each : (pc : ℕ) (reason : Reason) → fault ≡ faults.Refused pc reason
       → IsRefusedFor f asks (IsToldAt f pc) before reason

@@ -16,7 +16,7 @@ pub record CanBeCarried (l : Linked) (m : Method) : Type 0 where
   pub states : List Stated
   pub carried : Carries (package_rules l) m states
 
--- no states carry the method with code at this offset, and each method with code before it can be carried
+-- no states carry the method with code at this offset, and each method of lower offset can be carried
 pub record IsFirstWithout (l : Linked) (offset : ℕ) : Type 0 where
   pub place : ℕ
   pub method : MethodBody
@@ -26,13 +26,12 @@ pub record IsFirstWithout (l : Linked) (offset : ℕ) : Type 0 where
   pub before : (n : ℕ) (b : MethodBody) → slice_get l.body.kept.methods n ≡ Some b → b.offset < offset
       → CanBeCarried l (method_of l b)
 
--- the method at this offset is the first that no states carry, and the fault is its own
+-- the method at this offset is the first that no states carry, and the fault is one of its faults
 pub record IsUncarried (l : Linked) (offset : ℕ) (fault : Fault) : Type 0 where
   pub first : IsFirstWithout l offset
   pub told : IsToldOf (package_rules l) (method_of l first.method) fault
 
--- why there is no certificate: a method that no states carry, the one with the least offset, with what is told of it;
--- or no memory was left
+-- why there is no certificate: a fault of the method of least offset that no states carry; or out of memory
 abbrev pub IsRefusal : Linked → VerifyFault → Type 0
 IsRefusal l (NoCertificate method fault) = IsUncarried l method fault
 IsRefusal l Memory = ⊤

@@ -1,5 +1,5 @@
--- How often control flow is followed from a pc while a certificate is worked out: once from the entry of each method,
--- and from a pc with a state once each time that this state has changed.
+-- How often inference follows control flow: at most once from the entry of each method, and from a pc with a state at
+-- most once for each change of that state.
 use Rattle.std.specs.Prelude.{ℕ, ◌+◌, ◌*◌, ◌≤◌, List, length}
 use Rattle.std.specs.List.{sum_by}
 use Rattle.jc_cap_desc.specs.Shape.{Shape}
@@ -13,8 +13,8 @@ use Rattle.jc_verify.specs.declared.package.Inferred.{Inferred}
 abbrev pub IsDepth : List Shape → ℕ → Type 0
 IsDepth world depth = (c : ClassName) → classes_above world c ≤ depth
 
--- how often a state changes at most: once when control flow first comes to its pc, and then each time that one of its
--- types rises. The lowest type is Null. Above it come arrays of references to a class and to each of its superclasses,
+-- how often a state changes at most: once when control flow first reaches its pc, and then each time that one of its
+-- types rises. The lowest type is Null. Above it are arrays of references to a class and to each of its superclasses,
 -- then Object, then Top. So a type rises at most three times, and once more for each superclass
 abbrev pub most_changes : ℕ → Stated → ℕ
 most_changes depth s = 1 + (length s.locals + length s.operands) * (3 + depth)
@@ -27,8 +27,8 @@ most_in_row depth r = sum_by (most_changes depth) r.states
 abbrev pub states_in_row : Row → ℕ
 states_in_row r = length r.states
 
--- in all methods of a package together control flow is followed at most once for each method with code, and once for
--- each change of a state of the certificate; and at least once for each of these states
+-- in a package, control flow is followed at most once for each method with code, plus as often as the certificate's
+-- states change at most; and at least once for each of these states
 pub record HasBoundedCount (l : Linked) (i : Inferred) : Type 0 where
   pub most : (depth : ℕ) → IsDepth l.world depth
       → i.followed ≤ length l.body.kept.methods + sum_by (most_in_row depth) i.cert

@@ -1,4 +1,4 @@
-//! Where control flow enters a method, by branches and by handlers.
+//! Finds the pcs that control flow enters by a branch or an exception handler.
 
 ghost use Rattle.std.specs.Prelude.{◌≡◌, ◌≢◌, ◌<◌, ◌≤◌, ◌^◌, [], ℕ, ℤ, pos, List, Ok, Err, Some, None, true, false};
 ghost use Rattle.std.specs.Prelude.{Contains, length, slice_get, IfOk, IfErr};
@@ -31,7 +31,7 @@ use jc_check::{Fault, Handler, Method, WordFault, reason_for};
 use jc_code::{Instr, Targets, decode, listing_laws, next_pc};
 use std::alloc::Global;
 
-/// Goes from instruction to instruction, for the pcs at which they begin.
+/// Decodes the code, and returns the pcs at which instructions begin.
 #[tactic(auto, using(crate::proofs::Starting::none_yet, crate::proofs::Starting::start_more))]
 fn starts_of(alloc: Global, code: &[u8]) -> Result<PcSet, WordFault>
     requires short { length code.now < 2 ^ 16 }
@@ -53,7 +53,7 @@ fn starts_of(alloc: Global, code: &[u8]) -> Result<PcSet, WordFault>
     Ok(starts)
 }
 
-/// A handler goes on where an instruction begins, and catches a class.
+/// Tests that an instruction begins at a handler's entry point, and that the handler catches a class.
 fn stand_handler(starts: &PcSet, handler: &Handler) -> Result<(), Fault>
     ensures ok { IfOk result (λ u. (code : List ℕ) (listing : List PlacedInstr) → IsDecoded code listing starts.now
         → HandlerStands listing handler.now) }
@@ -78,7 +78,7 @@ fn stand_handler(starts: &PcSet, handler: &Handler) -> Result<(), Fault>
     }
 }
 
-/// Each handler in turn.
+/// Tests each handler in order.
 fn stand_handlers(starts: &PcSet, handlers: &[Handler]) -> Result<(), Fault>
     ensures ok { IfOk result (λ u. (code : List ℕ) (listing : List PlacedInstr) → IsDecoded code listing starts.now
         → AllByRecursion (HandlerStands listing) handlers.now) }
@@ -93,8 +93,8 @@ fn stand_handlers(starts: &PcSet, handlers: &[Handler]) -> Result<(), Fault>
     Ok(())
 }
 
-/// What is known while control flow is followed: the pcs that it reaches, those that it enters, and those that it has
-/// still to be followed from.
+/// Pcs found so far: those reached, those entered by a branch or a handler, and the worklist of reached pcs that
+/// control flow hasn't been followed from.
 #[derive(Drop)]
 pub(crate) struct Followed {
     pub(crate) live: PcSet,
@@ -102,7 +102,7 @@ pub(crate) struct Followed {
     pub(crate) stack: Vec<u16>,
 }
 
-/// A pc is reached: control flow has to be followed from there, unless it was reached before.
+/// Marks a pc as reached, and puts it on the worklist unless it was reached before.
 fn reach(followed: &mut Followed, pc: u16) -> Result<(), WordFault>
     ensures led { IfOk result (λ u. HasLed (λ f. has_number f.live pc ≡ true)
         (λ m listing. IsReached m listing pc) followed.old followed.new) }
@@ -116,7 +116,7 @@ fn reach(followed: &mut Followed, pc: u16) -> Result<(), WordFault>
     Ok(())
 }
 
-/// A pc is entered.
+/// Marks a pc as entered and reached.
 fn enter(followed: &mut Followed, pc: u16) -> Result<(), WordFault>
     ensures led { IfOk result (λ u. HasLed (λ f. IsHeld f pc) (λ m listing. IsFound m listing pc)
         followed.old followed.new) }
@@ -126,7 +126,7 @@ fn enter(followed: &mut Followed, pc: u16) -> Result<(), WordFault>
     reach(followed, pc)
 }
 
-/// A handler at an instruction: where it covers it, the pc at which it goes on is entered.
+/// Enters a handler's entry point, if the handler covers the pc.
 fn handle(followed: &mut Followed, pc: u16, handler: &Handler) -> Result<(), WordFault>
     ensures led { IfOk result (λ u. HasLed (λ f. IsCaughtIn f pc handler.now)
         (λ m listing. covers handler.now pc ≡ true → IsFound m listing handler.now.goes_on)
@@ -139,7 +139,7 @@ fn handle(followed: &mut Followed, pc: u16, handler: &Handler) -> Result<(), Wor
     enter(followed, handler.goes_on)
 }
 
-/// Each handler in turn.
+/// Enters the handlers that cover a pc.
 fn handle_all(followed: &mut Followed, handlers: &[Handler], pc: u16) -> Result<(), WordFault>
     ensures led { IfOk result (λ u. HasLed (AreCaughtIn handlers.now pc) (AreFoundBy handlers.now pc)
         followed.old followed.new) }
@@ -161,7 +161,7 @@ fn begins_at(starts: &PcSet, pc: usize) -> bool
     pc <= usize::from(u16::MAX) && starts.contains(pc as u16)
 }
 
-/// The branch of an index to its place.
+/// Enters the target of the branch with this index. Refuses a target at which no instruction begins.
 fn branch_to(
     followed: &mut Followed,
     starts: &PcSet,
@@ -194,7 +194,7 @@ fn refusal(pc: u16, reason: Reason) -> WordFault
     WordFault::Refused { pc, reason }
 }
 
-/// Each branch of an instruction in turn.
+/// Enters the targets of an instruction's branches.
 fn branch_all(
     followed: &mut Followed,
     starts: &PcSet,
@@ -215,7 +215,7 @@ fn branch_all(
     Ok(())
 }
 
-/// What goes on behind an instruction.
+/// Reaches the next pc if the instruction falls through. Refuses a pc past the end of the code.
 fn fall(followed: &mut Followed, method: &Method, pc: u16, instr: &Instr) -> Result<(), WordFault>
     requires short { length method.now.code < 2 ^ 16 }
     ensures led { IfOk result (λ u. HasLed
@@ -234,7 +234,7 @@ fn fall(followed: &mut Followed, method: &Method, pc: u16, instr: &Instr) -> Res
     reach(followed, instr.next_pc as u16)
 }
 
-/// An instruction: the handlers that cover it, its branches, and what goes on behind it.
+/// Follows an instruction to the handlers that cover it, its branch targets, and the next pc.
 fn visit(
     followed: &mut Followed,
     method: &Method,
@@ -256,7 +256,7 @@ fn visit(
     fall(followed, method, pc, instr)
 }
 
-/// The instruction at a pc, and what it leads to.
+/// Decodes the instruction at a pc, and follows it.
 fn visit_at(
     followed: &mut Followed,
     method: &Method,
@@ -277,7 +277,7 @@ fn visit_at(
     }
 }
 
-/// Pc 0 is reached, and control flow hasn't been followed from there.
+/// Pc 0 is reached, and on the worklist.
 fn at_first(alloc: Global) -> Result<Followed, WordFault>
     ensures followed { IfOk result (λ f. (m : methods.Method) (listing : List PlacedInstr) → begins listing 0 ≡ true
         → IsFollowed m listing None f) }
@@ -293,7 +293,7 @@ fn at_first(alloc: Global) -> Result<Followed, WordFault>
     Ok(followed)
 }
 
-/// Follows control flow from pc 0.
+/// Follows control flow from pc 0 until the worklist is empty. Returns the entered pcs.
 fn follow_all(alloc: Global, method: &Method, starts: &PcSet) -> Result<PcSet, WordFault>
     requires short { length method.now.code < 2 ^ 16 }
     requires some { method.now.code ≢ [] }
@@ -309,8 +309,8 @@ fn follow_all(alloc: Global, method: &Method, starts: &PcSet) -> Result<PcSet, W
     Ok(followed.entered)
 }
 
-/// The pcs that control flow enters by a branch or by a handler, of a method whose code decodes and whose handlers
-/// stand.
+/// The pcs that control flow enters by a branch or an exception handler. Refuses code that doesn't decode, an invalid
+/// handler, and reachable code that leads to no instruction.
 pub(crate) fn entries_of(alloc: Global, method: &Method) -> Result<PcSet, WordFault>
     requires short { length method.now.code < 2 ^ 16 }
     ensures found { IfOk result (λ entries. HasEntries method.now entries) }

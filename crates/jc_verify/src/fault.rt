@@ -10,11 +10,11 @@ use thiserror::Error;
 /// Why a package gets no certificate.
 #[derive(Clone, Copy, Debug, PartialEq, Eq, Drop, Error)]
 pub enum VerifyFault {
-    /// The method whose header stands at an offset of the Method component has none; of several the one with the least
-    /// offset. Its inference ends with a fault.
+    /// No states carry the method whose header is at this offset of the Method component, the least such offset;
+    /// `fault` says where its inference ends, and why.
     #[error("no certificate")]
     NoCertificate { method: u16, fault: Fault },
-    /// No memory was left.
+    /// Out of memory.
     #[error("memory")]
     Memory,
 }

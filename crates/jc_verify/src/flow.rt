@@ -1,4 +1,4 @@
-//! Following control flow through a method.
+//! Follows control flow through a method.
 
 ghost use Rattle.std.specs.Prelude.{◌≡◌, ◌+◌, ◌<◌, ◌≤◌, ℤ, true, Some, Ok, length, Contains, slice_get};
 ghost use Rattle.std.specs.Prelude.{IfOk, IfErr, IfNone, IfSome};
@@ -30,7 +30,7 @@ use jc_names::ClassName;
 use jc_types::{LocalRange, State, Ty, are_below_within};
 use std::alloc::Global;
 
-/// Why control flow stops at an instruction.
+/// The fault at an instruction at which control flow stops.
 pub(crate) fn told_at(pc: u16, stop: Stop) -> WordFault
     ensures { result ≡ fault_at pc stop }
 {
@@ -40,7 +40,7 @@ pub(crate) fn told_at(pc: u16, stop: Stop) -> WordFault
     }
 }
 
-/// What control flow is followed by: the package, the method, and the numbers of its places by their pcs.
+/// The package, the method, and the numbers of its places by pc.
 #[derive(Drop)]
 pub(crate) struct Flow<'f, 'm> {
     pub(crate) alloc: Global,
@@ -60,7 +60,7 @@ pub(crate) fn number_at(numbers: &[Option<u16>], pc: usize) -> Option<u16>
     }
 }
 
-/// What flows in at the place of a number.
+/// Joins a state into the place with this number.
 fn arrive(
     flow: &Flow,
     places: &mut [Place<State>],
@@ -75,13 +75,13 @@ fn arrive(
     ensures refused { IfErr result (λ why. Refuses flow.now (LeadsInto flow.now number state.now.types)
         (MeetsHeldBy flow.now places.old number state.now.types) places.old (stop_of why)) }
 {
-    // Only its contract counts: a state has no more operands than it has room for.
+    // Called for its contract: a state has no more operands than room.
     let _depth = state.depth();
     let linked = flow.linked;
     take_in(flow.alloc, &mut places[number], state, linked.table())
 }
 
-/// What flows to a pc: the place there takes it in, or there is none and the answer is yes.
+/// Joins a state into the place at a pc. Returns true if there is no place: control flow has to be followed there.
 pub(crate) fn flow_to(
     flow: &Flow,
     places: &mut [Place<State>],
@@ -105,7 +105,7 @@ pub(crate) fn flow_to(
     }
 }
 
-/// A class that is caught where a handler goes on.
+/// Passes the state's locals to a handler's entry point, with the caught class as the only operand.
 fn catch_at(
     flow: &Flow,
     places: &mut [Place<State>],
@@ -133,8 +133,8 @@ fn catch_at(
     Ok(())
 }
 
-/// Whether the place where a handler goes on holds what lies above these locals, if it held what lies above others that
-/// agree with them outside of a range.
+/// Whether the place at a handler's entry point holds types above these locals in the range. Locals outside of the
+/// range aren't compared.
 fn still_holds(
     flow: &Flow,
     places: &[Place<State>],
@@ -157,8 +157,8 @@ fn still_holds(
     }
 }
 
-/// A handler at an instruction: where it covers it, the state before it flows in where the handler goes on, with the
-/// class that it catches. Of locals that it has taken in before only those in the range are looked at.
+/// If a handler covers an instruction, passes the state before it, with the caught class, to the handler's entry point.
+/// If the handler covers the instruction seen last, only locals in the range need a comparison.
 fn handle(
     flow: &Flow,
     places: &mut [Place<State>],
@@ -197,7 +197,7 @@ fn handle(
     }
 }
 
-/// Each handler in turn. All have then seen these locals.
+/// Passes the state to each handler that covers the pc, and notes its locals as seen.
 fn handle_all(
     flow: &Flow,
     places: &mut [Place<State>],
@@ -239,7 +239,7 @@ fn handle_all(
     Ok(())
 }
 
-/// The branch of an index to its place.
+/// Passes the state to the target of the branch with this index.
 fn branch_to(
     flow: &Flow,
     places: &mut [Place<State>],
@@ -266,7 +266,7 @@ fn branch_to(
     Ok(())
 }
 
-/// Each branch of an instruction in turn.
+/// Passes the state to the targets of an instruction's branches.
 fn branch_all(
     flow: &Flow,
     places: &mut [Place<State>],
@@ -291,7 +291,7 @@ fn branch_all(
     Ok(())
 }
 
-/// Puts the types behind an instruction in place of those before it.
+/// Replaces the types before an instruction by those after it.
 fn take_effect(flow: &Flow, state: &mut State, instr: &Instr) -> Result<(), Reason>
     requires room { HasRoom flow.now.method.now state.old }
     ensures became { Became result state.new.types ((package_rules flow.now.linked.now).effect
@@ -303,8 +303,8 @@ fn take_effect(flow: &Flow, state: &mut State, instr: &Instr) -> Result<(), Reas
     transfer_in(&instr.operation, state, method.max_stack, &setting)
 }
 
-/// An instruction on a state: the handlers that cover it, its effect, its branches, and then what goes on behind it.
-/// The answer is whether control flow has to be followed there.
+/// Visits an instruction: the handlers that cover it, its effect, its branches, and the next pc. Returns whether
+/// control flow has to be followed there.
 fn visit(
     flow: &Flow,
     places: &mut [Place<State>],
@@ -335,7 +335,7 @@ fn visit(
     }
 }
 
-/// The instruction at a pc, where one begins.
+/// The instruction that decodes at a pc, if one does.
 fn instr_at<'m>(flow: &Flow<'_, 'm>, pc: usize) -> Option<Instr<'m>>
     ensures some { IfSome result (λ instr. (package_rules flow.now.linked.now).decoder flow.now.method.now.code pc
         ≡ Ok instr) }
@@ -348,7 +348,7 @@ fn instr_at<'m>(flow: &Flow<'_, 'm>, pc: usize) -> Option<Instr<'m>>
     }
 }
 
-/// Follows control flow from a pc until it comes to places or ends, and counts that.
+/// Follows control flow from a pc until it ends or falls through to a place, and counts this once.
 pub(crate) fn follow(
     flow: &Flow,
     places: &mut [Place<State>],

@@ -1,4 +1,4 @@
-//! The rows of a package's certificate, one method after the other.
+//! Gathers the rows of a package's certificate, method by method.
 
 ghost use Rattle.std.specs.Prelude.{◌≡◌, ◌+◌, ℕ, Some, map, length, slice_get, nat_le, false, IfOk, IfErr};
 ghost use Rattle.std.specs.Option.{option_map_or};
@@ -22,15 +22,15 @@ use jc_check::{Fault, WordFault, method_of};
 use jc_link::{Linked, MethodCode};
 use std::alloc::Global;
 
-/// A method that no states were found for, and where its inference ends.
+/// A method that no states carry, and the fault that is reported.
 #[derive(Clone, Copy)]
 pub(crate) struct MethodFault {
     pub(crate) method: u16,
     pub(crate) fault: Fault,
 }
 
-/// What is known of the first methods of a package: the rows of those that have states, of those without a certificate
-/// the one with the least offset, and how often control flow was followed.
+/// Results for the first methods of a package: the rows of methods with states, the method with a fault of least
+/// offset, and how often control flow was followed.
 #[derive(Drop)]
 pub(crate) struct Gathered {
     pub(crate) rows: Vec<MethodRow>,
@@ -38,7 +38,7 @@ pub(crate) struct Gathered {
     pub(crate) followed: u64,
 }
 
-/// The states that carry a method with code.
+/// Infers the states of a method with code.
 fn states_for(
     alloc: Global,
     linked: &Linked,
@@ -59,7 +59,7 @@ fn states_for(
     states_of(alloc, linked, &method, followed)
 }
 
-/// Whether a fault was found in a method at the offset of another one, or before it.
+/// Whether a method at this offset or a lower one has a fault.
 fn is_passed_over(told: Option<MethodFault>, offset: u16) -> bool
     ensures { result ≡ option_map_or (λ t. nat_le t.method offset) told false }
 {
@@ -69,7 +69,7 @@ fn is_passed_over(told: Option<MethodFault>, offset: u16) -> bool
     }
 }
 
-/// Puts the row of a method behind others, if it has states.
+/// Appends the row of a method, if it has states.
 fn put_states(
     gathered: &mut Gathered,
     offset: u16,
@@ -88,7 +88,7 @@ fn put_states(
     Ok(())
 }
 
-/// One method more. One that stands behind a method without a certificate is passed over.
+/// Adds the result for one more method. Skips it if a method of lower offset has a fault.
 pub(crate) fn gather(
     alloc: Global,
     linked: &Linked,

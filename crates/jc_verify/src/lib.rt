@@ -1,4 +1,4 @@
-//! The verifier: it works out the certificate of a linked package.
+//! The verifier: infers the certificate of a linked package.
 #![tactic(auto)]
 
 mod entries;

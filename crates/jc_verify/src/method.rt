@@ -1,4 +1,4 @@
-//! The states of a method's certificate.
+//! Infers the states of a method.
 
 ghost use Rattle.std.specs.Prelude.{◌≡◌, ◌⊎◌, ◌<◌, ◌^◌, ℕ, length, map, IfErr, IfOk};
 ghost use Rattle.jc_base.specs.declared.reason.Reason.{Reason};
@@ -28,7 +28,7 @@ use jc_link::Linked;
 use jc_types::State;
 use std::alloc::Global;
 
-/// What places hold once they are filled, as rows of a certificate. None holds anything before.
+/// Fills the places, which hold nothing yet, and states what they hold as rows of a certificate.
 fn rows_in(
     flow: &Flow,
     places: &mut [Place<State>],
@@ -51,7 +51,7 @@ fn rows_in(
     stated_rows(flow.alloc, linked.table(), places)
 }
 
-/// The states that carry a method. What is followed is counted.
+/// Infers the states that carry a method, and counts how often control flow is followed.
 pub(crate) fn states_of(
     alloc: Global,
     linked: &Linked,
@@ -69,7 +69,7 @@ pub(crate) fn states_of(
         → Tells (package_rules linked.now) method.now fault) }
 {
     first_fault_laws();
-    // It is read because that alone says that it is a byte.
+    // Reading it proves that it is a byte.
     let _most = method.max_stack;
     let entries = entries_of(alloc, method)?;
     let mut numbered = number_places(alloc, method.code().len(), &entries)?;

@@ -1,4 +1,4 @@
-//! The places of a method, by ascending pc, and their numbers.
+//! Numbers the places of a method by ascending pc.
 
 ghost use Rattle.std.specs.Prelude.{◌≡◌, ◌<◌, ◌≤◌, ◌+◌, ◌^◌, ℕ, List, true, false, None, Some, length, slice_get};
 ghost use Rattle.std.specs.Prelude.{vec_len, vec_capacity, IfOk};
@@ -14,14 +14,14 @@ use crate::place::Place;
 use jc_types::State;
 use std::alloc::{AllocError, Global};
 
-/// The places that control flow enters, and their numbers by their pcs.
+/// The places, and their numbers by pc.
 #[derive(Drop)]
 pub(crate) struct Numbered {
     pub(crate) numbers: Vec<Option<u16>>,
     pub(crate) places: Vec<Place<State>>,
 }
 
-/// Puts the place at a pc behind the others, and its number into the table.
+/// Appends the place at a pc, and its number to the table.
 #[tactic(auto, using(crate::proofs::Counting::with_one))]
 fn put_place(
     numbers: &mut Vec<Option<u16>>,
@@ -45,7 +45,7 @@ fn put_place(
     Ok(())
 }
 
-/// Says in the table that there is no place at a pc.
+/// Appends an entry without a number to the table.
 #[tactic(auto, using(crate::proofs::Counting::without))]
 fn put_none(numbers: &mut Vec<Option<u16>>)
     requires room { vec_len numbers.old < vec_capacity numbers.old }
@@ -57,7 +57,7 @@ fn put_none(numbers: &mut Vec<Option<u16>>)
     numbers.push_reserved(None);
 }
 
-/// Puts the place at a pc behind the others, if it is one.
+/// Appends a table entry for a pc, and its place if it is one.
 fn put_if(
     numbers: &mut Vec<Option<u16>>,
     places: &mut Vec<Place<State>>,
@@ -80,7 +80,7 @@ fn put_if(
     }
 }
 
-/// Numbers the places at the pcs of a set, below so many. None holds anything.
+/// Numbers the pcs of a set below `count` as places. They hold nothing yet.
 #[tactic(auto, using(crate::proofs::Counting::none_numbered))]
 pub(crate) fn number_places(
     alloc: Global,

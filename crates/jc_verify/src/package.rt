@@ -1,4 +1,4 @@
-//! The certificate of a package.
+//! Infers the certificate of a package.
 
 ghost use Rattle.std.specs.Prelude.{◌≡◌, ℕ, ◌-◌, ◌<◌, ◌^◌, length, IfErr, IfOk};
 ghost use Rattle.jc_cert.specs.Cert.{IsCert, rows};
@@ -21,21 +21,21 @@ use jc_link::{Linked, MethodCode, built_worlds_are_sound};
 use jc_types::order_laws;
 use std::alloc::Global;
 
-/// A certificate that was worked out, and how often control flow was followed from a pc for it: until it ended, or came
-/// to pcs with a state.
+/// An inferred certificate, and how often control flow was followed from the entry of a method or from a pc with a
+/// state.
 #[derive(Debug, Drop)]
 pub struct Inferred {
     pub cert: Cert,
     pub followed: u64,
 }
 
-/// What holds of types and of code beside a linked package, and of its methods. It does nothing but look at the
-/// methods' headers.
+/// Proves the laws of types and of code in a linked package, and of its methods. At run time it only reads the methods'
+/// headers.
 fn flow_laws(linked: &Linked)
     ensures laws { HasLaws linked.now }
     ensures fit { HasFitMethods linked.now }
 {
-    // Only their contracts count: what always holds of a table and of a linked package.
+    // Called for their contracts: what always holds of a table and of a linked package.
     let _count = linked.table().len();
     let _body = linked.body();
     types_name_classes(linked);
@@ -52,7 +52,7 @@ fn methods_of(linked: &Linked) -> &[MethodCode]
     &linked.body().kept().methods
 }
 
-/// What is known of all methods of a package.
+/// Gathers the results for all methods of a package.
 fn gather_all(alloc: Global, linked: &Linked) -> Result<Gathered, VerifyFault>
     requires laws { HasLaws linked.now }
     requires fit { HasFitMethods linked.now }
@@ -71,7 +71,7 @@ fn gather_all(alloc: Global, linked: &Linked) -> Result<Gathered, VerifyFault>
     Ok(gathered)
 }
 
-/// The certificate of rows that carry a package's methods, in whatever order.
+/// The certificate with these rows, in any order, which carry a package's methods.
 fn certificate_of(linked: &Linked, methods: Vec<MethodRow>) -> Cert
     requires fit { HasFitMethods linked.now }
     requires gathered { AreGathered linked.now (length linked.now.body.kept.methods) (rows methods.items) }
@@ -88,7 +88,7 @@ fn certificate_of(linked: &Linked, methods: Vec<MethodRow>) -> Cert
     Cert::new(methods).unwrap()
 }
 
-/// The certificate of what is known of all methods, unless one of them has a fault.
+/// The certificate from the results for all methods, or the fault of one of them.
 #[tactic(auto, using(crate::proofs::Bearing::all_states, crate::proofs::Telling::is_refusal))]
 fn certificate_or_fault(linked: &Linked, gathered: Gathered) -> Result<Inferred, VerifyFault>
     requires laws { HasLaws linked.now }
@@ -113,10 +113,10 @@ fn certificate_or_fault(linked: &Linked, gathered: Gathered) -> Result<Inferred,
     Ok(Inferred { cert, followed })
 }
 
-/// Works out a certificate that carries a linked package, with states only where control flow enters a method by a
-/// branch or a handler of an instruction that it reaches, each the least that is possible there. Where a method can't
-/// be carried the one with the least offset is told. How often control flow is followed is bounded by the certificate,
-/// and counted up to 2^64 - 1, which is never reached.
+/// Infers a certificate that carries a linked package. It has a state exactly at the pcs that control flow enters by a
+/// branch or a handler of a reachable instruction, each the least possible. If some methods can't be carried, reports
+/// the one with the least offset. The certificate bounds how often control flow is followed. The count saturates at
+/// 2^64 - 1, which is never reached.
 pub fn infer(alloc: Global, linked: &Linked) -> Result<Inferred, VerifyFault>
     ensures carried { IfOk result (λ found. CarriesPackage linked.now found.cert) }
     ensures entered { IfOk result (λ found. HasStatesWhereEntered linked.now found.cert) }

@@ -1,4 +1,4 @@
-//! Sets of pcs, as large as the largest of them asks for.
+//! Sets of pcs, sized by the largest one.
 
 ghost use Rattle.std.specs.Prelude.{◌≡◌, ◌<◌, ℕ, false, ◌==◌, ◌||◌, length, IfOk};
 ghost use Rattle.jc_base.specs.NumberSet.{has_number};
@@ -6,10 +6,10 @@ ghost use Rattle.jc_base.specs.NumberSet.{has_number};
 use std::alloc::{AllocError, Global};
 use std::marker::Model;
 
-/// How many pcs a word stands for.
+/// Pcs per word.
 const WORD_BITS: u16 = 64;
 
-/// Pcs, each in the set or not. It takes a bit for each pc up to the largest one, and none where it is empty.
+/// A bit for each pc, up to the word of the largest one. An empty set has no words.
 #[derive(Drop)]
 pub(crate) struct PcSet {
     words: Vec<u64>,
@@ -23,7 +23,7 @@ impl Model for PcSet {
     ghost view = { λ s. s.words.items };
 }
 
-/// Puts words without a pc behind others, until one has this index.
+/// Appends empty words until one has this index.
 #[tactic(auto, using(crate::proofs::PcSets::more_has))]
 fn grow(words: &mut Vec<u64>, index: usize) -> Result<(), AllocError>
     ensures same { IfOk result (λ u. (n : ℕ) → has_number words.new.items n ≡ has_number words.old.items n) }
@@ -36,7 +36,7 @@ fn grow(words: &mut Vec<u64>, index: usize) -> Result<(), AllocError>
 }
 
 impl PcSet {
-    /// The set without a pc.
+    /// The empty set.
     pub(crate) fn empty(alloc: Global) -> PcSet
         ensures { (n : ℕ) → has_number result n ≡ false }
     {
@@ -55,7 +55,7 @@ impl PcSet {
         }
     }
 
-    /// Puts a pc into the set, which may have it already.
+    /// Inserts a pc, which may be in the set already.
     #[tactic(auto, using(crate::proofs::PcSets::has_with))]
     pub(crate) fn insert(&mut self, pc: u16) -> Result<(), AllocError>
         ensures { IfOk result (λ u. (n : ℕ) → has_number self.new n ≡ (n == pc || has_number self.old n)) }

@@ -1,4 +1,4 @@
-//! Places of a method that control flow enters by a branch or a handler, and what they hold.
+//! Places: pcs that control flow enters by a branch or a handler, and what they hold.
 
 ghost use Rattle.std.specs.Prelude.{◌≡◌, ◌<◌, ◌≤◌, ℕ, true, false, Some, IfOk, IfErr};
 ghost use Rattle.jc_verify.specs.PrivatePlaces.{HoldsAbove, IsHeldBelow, IsStep, IsTakenIn, IsUnlike};
@@ -7,7 +7,7 @@ ghost use Rattle.jc_verify.specs.declared.place.NotTaken.TheVariants.{Memory, Un
 use jc_types::Lattice;
 use std::alloc::{AllocError, Global};
 
-/// A place, what flowed in there so far, and whether that has changed since control flow was followed from there.
+/// A place, the join of what flowed in so far, and whether that has changed since control flow was followed from there.
 #[derive(Drop)]
 pub(crate) struct Place<L: Drop> {
     pub(crate) pc: u16,
@@ -18,9 +18,9 @@ pub(crate) struct Place<L: Drop> {
 /// Why a place doesn't take in a value.
 #[derive(Clone, Copy, Drop)]
 pub(crate) enum NotTaken {
-    /// It isn't of one shape with what the place holds.
+    /// Its shape differs from what the place holds.
     Unlike,
-    /// No memory was left.
+    /// Out of memory.
     Memory,
 }
 
@@ -32,7 +32,7 @@ impl From<AllocError> for NotTaken {
     }
 }
 
-/// Raises what is held to the least value above both, unless it is above the other one already.
+/// Raises what is held to its join with a value. Returns false if it lies above the value already.
 fn raise<L: Lattice>(held: &mut L, value: &L, table: &L::Table) -> Result<bool, NotTaken>
     requires sound { L.is_sound table.now }
     ensures above { IfOk result (λ raised. L.lies_below table.now value.now held.new ≡ true) }
@@ -54,7 +54,7 @@ fn raise<L: Lattice>(held: &mut L, value: &L, table: &L::Table) -> Result<bool, 
     }
 }
 
-/// Takes a value into a place: it then holds that or something above it, and is marked where it changed.
+/// Joins a value into a place, and marks the place if it has changed.
 pub(crate) fn take_in<L: Lattice + Drop>(
     alloc: Global,
     place: &mut Place<L>,

@@ -8,8 +8,8 @@ use jc_check::Handler;
 use jc_types::{LocalRange, Ty, differing};
 use std::alloc::{AllocError, Global};
 
-/// The locals before the instruction whose handlers took them in last, and its pc. Where there is none, the locals
-/// count for nothing.
+/// The pc of the instruction whose handlers were visited last, and the locals before it. If there is no pc, the locals
+/// don't count.
 #[derive(Drop)]
 pub(crate) struct Seen {
     pub(crate) at: Option<u16>,
@@ -17,7 +17,7 @@ pub(crate) struct Seen {
 }
 
 impl Seen {
-    /// None were taken in yet. It takes no memory.
+    /// Nothing was seen yet. It takes no memory.
     pub(crate) fn nothing(alloc: Global) -> Seen
         ensures { result.at ≡ None }
     {
@@ -27,7 +27,7 @@ impl Seen {
         }
     }
 
-    /// Whether a handler covers the instruction there.
+    /// Whether a handler covers the instruction seen last.
     pub(crate) fn was_covered(&self, handler: &Handler) -> bool
         ensures { result ≡ true → WasCovered self.now handler.now }
     {
@@ -37,7 +37,7 @@ impl Seen {
         }
     }
 
-    /// A range of locals outside of which these are those that were taken in.
+    /// A range outside of which these locals equal those seen last.
     pub(crate) fn changed(&self, locals: &[Ty]) -> LocalRange
         ensures ordered { result.first ≤ result.behind }
         ensures within { result.behind ≤ length locals.now }
@@ -53,7 +53,7 @@ impl Seen {
         differing(&self.locals, locals)
     }
 
-    /// Handlers took in these locals before the instruction at a pc.
+    /// Notes these locals, before the instruction at a pc, as seen.
     pub(crate) fn note(&mut self, pc: u16, locals: &[Ty]) -> Result<(), AllocError>
         ensures at { IfOk result (λ u. self.new.at ≡ Some pc) }
         ensures locals { IfOk result (λ u. self.new.locals.items ≡ locals.now) }

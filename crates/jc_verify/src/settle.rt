@@ -1,4 +1,4 @@
-//! Following control flow from the places that have changed, until none has.
+//! Follows control flow from the places that have changed, up to the fixpoint.
 
 ghost use Rattle.std.specs.Prelude.{◌≡◌, ◌⊎◌, ◌<◌, ◌≤◌, ℕ, true, false, Some, None, length, slice_get};
 ghost use Rattle.std.specs.Prelude.{IfErr, IfNone, IfOk, IfSome};
@@ -16,7 +16,7 @@ use crate::place::Place;
 use jc_check::WordFault;
 use jc_types::State;
 
-/// Puts what a place holds into a state, if it holds something.
+/// Loads what a place holds into a state. Returns false if it holds nothing.
 fn load_held(place: &Place<State>, state: &mut State) -> bool
     requires fits { (s : StateWithRoom) → place.now.held ≡ Some s
         → (length s.types.locals ≡ length state.old.types.locals) × (length s.types.operands ≤ state.old.room) }
@@ -34,8 +34,7 @@ fn load_held(place: &Place<State>, state: &mut State) -> bool
     }
 }
 
-/// Takes up a place that has changed: it counts as unchanged then, and what it holds is put into a state. The answer is
-/// its pc.
+/// If a place has changed, marks it as unchanged, loads what it holds into a state, and returns its pc.
 fn take_up(place: &mut Place<State>, state: &mut State) -> Option<u16>
     requires fits { (s : StateWithRoom) → place.old.held ≡ Some s
         → (length s.types.locals ≡ length state.old.types.locals) × (length s.types.operands ≤ state.old.room) }
@@ -58,7 +57,7 @@ fn take_up(place: &mut Place<State>, state: &mut State) -> Option<u16>
     }
 }
 
-/// Follows control flow from the place of a number, if it has changed.
+/// Follows control flow from the place with this number, if it has changed.
 fn follow_place(
     flow: &Flow,
     places: &mut [Place<State>],
@@ -131,7 +130,7 @@ fn sweep_backwards(
     Ok(())
 }
 
-/// Whether a place has changed.
+/// Whether some place has changed.
 fn has_changed(places: &[Place<State>]) -> bool
     ensures some { result ≡ true
         → (n : ℕ) × (p : PlaceOf StateWithRoom) × (slice_get places.now n ≡ Some p) × (p.changed ≡ true) }
@@ -146,7 +145,7 @@ fn has_changed(places: &[Place<State>]) -> bool
     false
 }
 
-/// Follows control flow from the places that have changed until none has: forwards, then backwards, in turn.
+/// Sweeps forwards and backwards until no place has changed.
 fn settle(
     flow: &Flow,
     places: &mut [Place<State>],
@@ -172,7 +171,7 @@ fn settle(
     }
 }
 
-/// What flows in at the entry, and control flow from there where no place is.
+/// Passes the entry state to pc 0, and follows control flow from there if there is no place.
 fn enter(
     flow: &Flow,
     places: &mut [Place<State>],
@@ -198,8 +197,8 @@ fn enter(
     }
 }
 
-/// What places hold once control flow was followed from the entry, and from all places that took something in. None
-/// holds anything before.
+/// Fills the places, which hold nothing yet: follows control flow from the entry, and then from places up to the
+/// fixpoint.
 pub(crate) fn fill(
     flow: &Flow,
     places: &mut [Place<State>],

@@ -1,4 +1,4 @@
-//! The states of a certificate, with the names of their classes.
+//! States what places hold as rows of a certificate, with the names of classes.
 
 ghost use Rattle.std.specs.Prelude.{◌≡◌, ◌<◌, ◌≤◌, ◌+◌, ◌++◌, [], ◌∷◌, ℕ, Some, length, map, vec_len, vec_capacity};
 ghost use Rattle.std.specs.Prelude.{IfErr, IfNone, IfOk, IfSome};
@@ -22,14 +22,14 @@ use jc_names::ClassName;
 use jc_types::{State, Ty};
 use std::alloc::{AllocError, Global};
 
-/// A name of a class as it is: it has an offset and an AID that fit.
+/// Returns a class's name unchanged. The contract says that its offset and its AID fit.
 fn fitting(name: SpelledClass) -> SpelledClass
     ensures same { result ≡ name }
     ensures fits { IsSpelledClass name }
 {
     match name {
         SpelledClass::Other { package, .. } => {
-            // Only its contract counts: how long an AID is.
+            // Called for its contract: how long an AID is.
             package.len();
         }
         SpelledClass::Own { .. } | SpelledClass::Api(_) => {}
@@ -37,7 +37,7 @@ fn fitting(name: SpelledClass) -> SpelledClass
     name
 }
 
-/// The name by which a certificate of a world's last package names a class; an interface has none.
+/// The name of a class in a certificate of a world's last package; an interface has none.
 fn spelled_class(table: &ClassTable, class: ClassName) -> Option<SpelledClass>
     requires built { IsBuilt table.now }
     ensures named { IfSome result (λ name. class_of_name table.now name ≡ Some class) }
@@ -69,7 +69,7 @@ fn stated_type(table: &ClassTable, ty: Ty) -> Option<StatedType>
     }
 }
 
-/// Types as a certificate states them, if the classes of all of them have names.
+/// Types as a certificate states them, if all their classes have names.
 fn stated_types(
     alloc: Global,
     table: &ClassTable,
@@ -93,7 +93,7 @@ fn stated_types(
     Ok(Some(stated))
 }
 
-/// What a place holds as a certificate states it, if its classes have names.
+/// The row for what a place holds, if all its classes have names.
 fn stated_row(
     alloc: Global,
     table: &ClassTable,
@@ -118,7 +118,7 @@ fn stated_row(
     }))
 }
 
-/// What places hold as a certificate states it, or the pc of the first of which a class has no name.
+/// The rows for what places hold. Refuses the first place with a class without a name.
 pub(crate) fn stated_rows(
     alloc: Global,
     table: &ClassTable,
@@ -137,7 +137,7 @@ pub(crate) fn stated_rows(
     Ok(rows)
 }
 
-/// Puts what a place holds behind others, if it holds something.
+/// Appends the row for what a place holds, if it holds something.
 fn put_row(
     alloc: Global,
     table: &ClassTable,

@@ -14,7 +14,7 @@ use std::alloc::AllocError;
 pub(crate) enum Stop {
     /// The code can't be carried.
     Refused(Reason),
-    /// No memory was left.
+    /// Out of memory.
     Memory,
 }
 

@@ -1,5 +1,5 @@
--- What it means that a call of the runtime's on words ends as that of the defensive machine (Java Card Runtime
--- Environment Specification, Applet lifetime).
+-- Calls by the runtime on words end as the defensive machine's calls (Java Card Runtime Environment Specification,
+-- Applet lifetime).
 use Rattle.std.specs.Prelude.{◌≡◌, ◌<◌, ℕ, Option, Some, length}
 use Rattle.jc_link.specs.Linked.{World}
 use Rattle.jc_program.specs.Called.{called_of}
@@ -20,8 +20,8 @@ use Rattle.jc_interp.specs.Following.{EndsAs, WordState}
 use Rattle.jc_interp.specs.declared.call.FirstCall.{FirstCall}
 use Rattle.jc_interp.specs.declared.ends.RunEnd.{RunEnd}
 
--- what a call on words begins with is this without its tags: what is kept beside frames, the method that is called, the
--- owner, and the arguments, which are no more than a byte counts
+-- a call on words begins with the same without tags: what is kept besides frames, the method, the owner, and the
+-- arguments, which are fewer than 256
 pub record ReadsStart {C : Type 0} (s : Surroundings C) (p : Program) (u : WordState C) (call : FirstCall)
     (start : Start C) : Type 0 where
   pub beside : AgreeBeside s p u.machine u.kept (standing start (no_frame start.owner))
@@ -30,8 +30,8 @@ pub record ReadsStart {C : Type 0} (s : Surroundings C) (p : Program) (u : WordS
   pub arguments : Pointwise Reads call.arguments.now start.arguments
   pub few : length call.arguments.now < 256
 
--- for each call of the defensive machine that the words read, in an accepted world, and that can begin, whatever the
--- limits: the call ends as that one
+-- the call ends as each call of the defensive machine that the words read and that can begin, in an accepted world,
+-- within any limits
 abbrev pub IsCall : {C : Type 0} → World → Program → Natives C → Option ℕ → ℕ → FirstCall → WordState C → WordState C
     → RunEnd → Type 0
 IsCall {C} w p natives selected steps call before after end = (limits : Limits) (start : Start C) → IsAccepted w
@@ -54,8 +54,7 @@ pub record MayCall {C : Type 0} (w : World) (p : Program) (natives : Natives C) 
 
 -- ---- virtual members of the API, called on an object
 
--- this is what the object's class has in place of the member, for all tagged objects that the words read, in an
--- accepted world
+-- what the object's class has in place of the member, for all tagged objects that the words read, in an accepted world
 abbrev pub IsMethodFor : Program → Store → ℕ → ℕ → Called → Type 0
 IsMethodFor p store member number called = (w : World) (heap : Heap TaggedValue) (object : Object TaggedValue)
     (name : MethodName) → IsAccepted w → IsProgramOf w p → HeapReads store.objects heap → AreNumbered p.classes store

@@ -1,4 +1,4 @@
--- A linked package that is loaded, on words: the words of its static fields, and its initialised arrays in the store.
+-- Loads of a linked package on words: the words of its static fields, and its initialised arrays in the store.
 use Rattle.std.specs.Prelude.{◌≡◌, ℕ, Bool, List, [], ◌∷◌, ◌++◌, length, map, replicate}
 use Rattle.jc_cap.specs.declared.arrays.StaticArray.{StaticArray}
 use Rattle.jc_link.specs.Linked.{Linked, LinkedBody, with_linked}
@@ -14,7 +14,7 @@ use Rattle.jc_words.specs.Values.{TaggedValue}
 use Rattle.jc_interp.specs.Agree.{AgreeBeside, HoldsFields}
 use Rattle.jc_interp.specs.declared.machine.WordMachine.{WordMachine}
 
--- an initialised array of the package with a number, and all of them in their order
+-- an initialised array of the package with a number, and all of them in order
 abbrev pub word_array : ℕ → LinkedBody → StaticArray → Object ℕ
 word_array number body array = record {
   kind = kind_of_array body array;
@@ -25,7 +25,7 @@ word_array number body array = record {
 abbrev pub word_arrays : ℕ → LinkedBody → Heap ℕ
 word_arrays number body = map (word_array number body) body.kept.statics.arrays
 
--- a store with arrays behind its objects. Arrays are of class Object, which is the first of a world's classes
+-- a store with arrays after its objects. Arrays are of class Object, which is the first of a world's classes
 abbrev pub with_arrays : Store → Heap ℕ → Store
 with_arrays s arrays = record {
   objects = s.objects ++ arrays;
@@ -42,16 +42,16 @@ with_package u number body image = record {
   statics = u.statics ++ image ∷ [];
 }
 
--- whether there is room for a package's arrays among so many objects and cells, as it is told: for each heap that the
--- store's objects read
+-- the answer tells whether a package's arrays fit within so many objects and cells, for each heap that the store's
+-- objects read
 abbrev pub TellsRoom : ℕ → ℕ → Heap ℕ → LinkedBody → Bool → Type 0
 TellsRoom objects cells os body answer =
     (limits : Limits) (heap : Heap TaggedValue) (number : ℕ) → limits.objects ≡ objects → limits.cells ≡ cells
     → HeapReads os heap → answer ≡ has_room_for limits (heap ++ loaded_arrays number body)
 
--- where a package may be loaded, the words read the machine before the load over the world's tables, each of the
--- store's objects has a number for its class, and the image holds the package's static fields; and these are the
--- tables of the world with the package
+-- a package may be loaded on words: the words read the machine before the load over the world's tables, the store has
+-- the class number of each object, the image holds the package's static fields, and `q` has the tables of the world
+-- with the package
 pub record LoadsWords {C : Type 0} (s : Surroundings C) (p q : Program) (u : WordMachine) (kept : C) (m : Machine C)
     (l : Linked) (image : List ℕ) : Type 0 where
   pub may : MayLoad s m l

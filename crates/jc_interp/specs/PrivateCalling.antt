@@ -1,4 +1,4 @@
--- Private. The first frame of a call of the runtime's, on words, and a native member that it begins with.
+-- Private. The first frame of a call by the runtime, on words, or the native member that it calls.
 use Rattle.std.specs.Prelude.{◌≡◌, ◌<◌, ℕ, [], Option, None, Some, length, slice_get, unwrap_or}
 use Rattle.std.specs.Option.{option_and_then, option_map}
 use Rattle.jc_frames.specs.Frames as frames
@@ -22,7 +22,7 @@ use Rattle.jc_machine.specs.declared.natives.WordOutcome.{WordOutcome}
 use Rattle.jc_machine.specs.declared.natives.WordOutcome.TheVariants.{CallsBack, Returned, Thrown}
 use Rattle.jc_machine.specs.declared.stop.Budget.TheVariants.{Steps}
 
--- the same machine with no frame
+-- the machine without its frames
 abbrev pub without_frames : WordMachine → WordMachine
 without_frames u = with_frames u (frames.with_frames u.frames [])
 
@@ -30,25 +30,25 @@ without_frames u = with_frames u (frames.with_frames u.frames [])
 abbrev pub first_owners : FirstCall → Owners
 first_owners call = record { active = call.owner; previous = None }
 
--- a frame for the method with a number stands alone, or there was no room for it
+-- a frame for the method with a number is the only one, or there was no room for it
 abbrev pub EntersFirst : Program → ℕ → FirstCall → WordMachine → Done → Type 0
 EntersFirst p number call u d = (m : LoadedMethod) → slice_get p.methods number ≡ Some m
     → length call.arguments.now < 256
     → IsEntered (without_frames u) (without_frames u).frames (header_of m (first_owners call))
     (size_of m.header (length call.arguments.now)) call.arguments.now d.machine d.ends
 
--- how a native member ends a call. It makes none itself
+-- how a native member ends a call. It may make none itself
 abbrev pub first_end : WordOutcome → RunEnd
 first_end (Returned value) = runs.Gave value
 first_end (Thrown object) = runs.Threw object None
 first_end (CallsBack callback) = runs.RanOut Steps None
 
--- what an object's class has at a token
+-- what the class of an object has at a token
 abbrev pub called_on : Program → Store → ℕ → ℕ → Option Called
 called_on p store number token =
     option_map (λ (o : Seen). called_at p.virtual_methods o.class token) (seen_of store number)
 
--- and in place of a virtual member of the API; nothing if there is no such member, or no object
+-- .. and in place of a virtual member of the API; nothing if there is no such member, or no object
 abbrev pub called_for : Program → Store → ℕ → ℕ → Called
 called_for p store member number =
     unwrap_or (option_and_then (called_on p store number) (token_at p.member_tokens member)) calls.Nothing

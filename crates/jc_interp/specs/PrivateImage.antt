@@ -12,7 +12,7 @@ use Rattle.jc_words.specs.Shorts.{low_half}
 
 -- ---- a field
 
--- a reference to an initialised array: they come behind so many objects
+-- a reference to an initialised array, or null: the arrays follow so many objects
 abbrev pub reference_word : ℕ → StaticImage → ℕ → ℕ
 reference_word objects image offset =
     if nat_lt (offset / 2) (length image.arrays) then low_half (objects + (offset / 2 + 1)) else 0

@@ -7,7 +7,7 @@ use Rattle.jc_store.specs.Heap.{Heap, cells_in}
 use Rattle.jc_store.specs.Store.{Store}
 use Rattle.jc_interp.specs.PrivateSeen.{with_put}
 
--- the store with the word of a list at an index, if there is one, in that component of an object
+-- the store with the list's word at an index, if there is one, in the object's component at that index
 abbrev pub with_component : Store → ℕ → ℕ → List ℕ → Store
 with_component s number index words = option_map_or (with_put s number index) (slice_get words index) s
 
@@ -26,7 +26,7 @@ abbrev pub cells_of_arrays : List StaticArray → ℕ
 cells_of_arrays [] = 0
 cells_of_arrays (array ∷ arrays) = 1 + length (words_of_array array) + cells_of_arrays arrays
 
--- whether they fit, where so many objects and cells are used
+-- whether arrays fit, if so many objects and cells are in use
 abbrev pub do_fit : ℕ → ℕ → ℕ → ℕ → List StaticArray → Bool
 do_fit objects_used cells_used objects cells arrays =
     nat_le (objects_used + length arrays) objects && nat_le (cells_used + cells_of_arrays arrays) cells

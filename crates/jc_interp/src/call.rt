@@ -1,5 +1,5 @@
-//! Calls of the runtime: a method of an applet's instance, or a native member in its place (Java Card Runtime
-//! Environment Specification, Applet lifetime).
+//! Calls that the runtime makes: of a method of an applet's instance, or of a native member in its place (Java Card
+//! Runtime Environment Specification, Applet lifetime).
 
 ghost use Rattle.std.specs.Prelude.{◌≡◌, []};
 ghost use Rattle.jc_entries.specs.declared.called.Called.TheVariants.{Method, NativeMethod};
@@ -29,19 +29,19 @@ use jc_store::Store;
 pub struct FirstCall<'a> {
     /// What is called.
     pub called: Called,
-    /// The owner that is active in it: the instance's. There is none before it.
+    /// The owner that is active in the call: the instance's. No owner was active before.
     pub owner: Owner,
-    /// The arguments, the object first where it has one.
+    /// The arguments, the object first if it has one.
     pub arguments: &'a [u16],
 }
 
-/// A call has no step left before its first frame.
+/// A call ended before its first frame, since no step is left.
 const NO_STEP: RunEnd = RunEnd::RanOut {
     spent: Budget::Steps,
     at: None,
 };
 
-/// How a native member ends a call that began with it. It makes no call itself.
+/// How a native member ends a call that began with it. It may make no call itself.
 fn native_end(outcome: WordOutcome) -> RunEnd
     ensures { result ≡ first_end outcome }
 {
@@ -52,7 +52,7 @@ fn native_end(outcome: WordOutcome) -> RunEnd
     }
 }
 
-/// What an object's class has at a token; none if there is no object.
+/// What the class of an object has at a token; none if there is no object.
 fn called_on(program: &Program, store: &Store, number: u16, token: u8) -> Option<Called>
     ensures { result ≡ called_on program.now store.now number token }
 {
@@ -61,7 +61,7 @@ fn called_on(program: &Program, store: &Store, number: u16, token: u8) -> Option
     Some(program.virtual_methods.virtual_method(class, token))
 }
 
-/// What it has in place of a virtual member of the API.
+/// What the class of an object has in place of a virtual member of the API.
 fn called_for(program: &Program, store: &Store, member: u16, number: u16) -> Called
     ensures { result ≡ called_for program.now store.now member number }
 {
@@ -75,8 +75,8 @@ fn called_for(program: &Program, store: &Store, member: u16, number: u16) -> Cal
 }
 
 impl WordMachine {
-    /// What an object's class has in place of a virtual member of the API: the member's number and the object's. In an
-    /// accepted world, over its own tables, it is what the look-up finds; nothing if there is no such object.
+    /// What the class of an object has in place of a virtual member of the API. In an accepted world, over its own
+    /// tables, it is what the look-up finds; nothing if there is no such object.
     pub fn method_for(&self, program: &Program, member: u16, object: u16) -> Called
         ensures { IsMethodFor program.now self.now.store member object result }
     {
@@ -183,7 +183,7 @@ impl WordMachine {
         native_end(natives.call(&mut self.store, &native_call))
     }
 
-    /// Makes a call, whatever is called.
+    /// Makes a call.
     fn make_call<N: Natives>(
         &mut self,
         natives: &mut N,
@@ -219,13 +219,12 @@ impl WordMachine {
         }
     }
 
-    /// Makes a call of the runtime's, of so many steps at most: a frame for the method, and steps until the call ends;
-    /// or a native member, which is one step. It drops all frames, those of before too. It is for calls that read one
-    /// of the defensive machine's, of an accepted world, that can begin. The call ends as each such call ends, and what
-    /// both keep beside their frames agrees again. `selected` is the context of the applet that is selected, if one is.
-    /// Where the call ends with a SecurityException of the runtime's, `denial` says what the firewall denied behind it,
-    /// if that can be told. Where nothing caught what code threw, or the steps are spent, the frame in which that was
-    /// is shown.
+    /// Makes a call of the runtime, of at most `steps` steps: it makes a frame for the method, and steps until the call
+    /// ends; a native member is one step. It drops all frames, earlier ones too. It is for calls that read a call of
+    /// the defensive machine that can begin in an accepted world. The call ends as each such call ends, and what both
+    /// machines keep besides their frames agrees again. `selected` is the context of the selected applet, if one is. If
+    /// the call ends with the runtime's SecurityException, `denial` reports what the firewall denied, if that is known.
+    /// If nothing caught what code threw, or the steps are spent, `shown` has the frame in which that happened.
     pub fn call<N: Natives>(
         &mut self,
         natives: &mut N,

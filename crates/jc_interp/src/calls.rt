@@ -26,7 +26,7 @@ const RUNTIME: u8 = 0;
 /// Tokens from here on are package-visible.
 const PACKAGE_VISIBLE: u8 = 128;
 
-/// What an object's class has at a virtual token, for the package whose method runs.
+/// What the class of an object has at a virtual token, for the package whose method runs.
 #[inline(always)]
 #[tactic(auto, using(crate::proofs::ByName::virtual_by_name, crate::proofs::ByName::visible_by_name))]
 pub(crate) fn virtual_called(here: &WordStepContext<'_>, class: u16, token: u8) -> Called
@@ -45,8 +45,8 @@ pub(crate) fn virtual_called(here: &WordStepContext<'_>, class: u16, token: u8) 
     }
 }
 
-/// The firewall's verdict on a call of a virtual method. An applet may call its context's own objects, whatever else is
-/// known of them. Copies are handed on, so that what is asked of others alone needn't lie in memory.
+/// The firewall's verdict on a call of a virtual method. An applet may call each object of its own context. The slow
+/// case gets copies, so the fast case keeps nothing in memory.
 #[inline(always)]
 pub(crate) fn verdict_on_call(here: &WordStepContext<'_>, object: Seen) -> Verdict
     ensures { result ≡ verdict_on here.now InvokeVirtual object None false }
@@ -71,8 +71,8 @@ fn is_shared_number(here: &WordStepContext<'_>, number: ClassNumber, _interface:
     row.is_interface && row.is_shareable
 }
 
-/// The same of a method of an interface, whose number this is: whether that is shared is asked for the objects of
-/// others alone.
+/// The firewall's verdict on a call of a method of the interface with this number. It asks only for objects of other
+/// contexts whether the interface is shared.
 #[inline(always)]
 pub(crate) fn verdict_on_interface(
     here: &WordStepContext<'_>,
@@ -95,7 +95,7 @@ pub(crate) fn verdict_on_interface(
     }
 }
 
-/// What an object's class has at a token of an interface, whose number this is.
+/// What the class of an object has at a token of the interface with this number.
 #[inline(always)]
 #[tactic(auto, using(crate::proofs::ByName::interface_by_name))]
 pub(crate) fn interface_called(
@@ -118,7 +118,7 @@ pub(crate) fn interface_called(
 }
 
 impl WordMachine {
-    /// Whether there is an object of a call of so many words.
+    /// Whether the object of a call of so many words isn't null.
     #[inline(always)]
     pub(crate) fn has_receiver(&self, words: u8) -> bool
         ensures { result ≡ is_some (receiver self.now words) }
@@ -126,7 +126,7 @@ impl WordMachine {
         self.store.is_there(self.operand(words.saturating_sub(1)))
     }
 
-    /// The object of a call of so many words.
+    /// The object of a call of so many words; none for null.
     #[inline(always)]
     pub(crate) fn receiver(&self, words: u8) -> Option<Seen>
         ensures { result ≡ receiver self.now words }

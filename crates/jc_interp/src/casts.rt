@@ -1,4 +1,4 @@
-//! References that are tested against types (Java Card Virtual Machine Specification, checkcast, instanceof).
+//! Tests of references against types (Java Card Virtual Machine Specification, checkcast, instanceof).
 
 ghost use Rattle.std.specs.Prelude.{◌≡◌};
 ghost use Rattle.jc_interp.specs.PrivateCasts.{bit, cast_by, cast_of, do_check_cast, do_instance_of, is_name_below};
@@ -26,20 +26,20 @@ pub(crate) enum TypeTest {
     OfReferenceArray(ClassName),
 }
 
-/// What comes of a test.
+/// The result of a test.
 #[derive(Clone, Copy)]
 pub(crate) enum Cast {
     /// The reference is null.
     OfNull,
-    /// Whether its object is of the type.
+    /// Whether the object is of the type.
     OfObject(bool),
     /// The firewall denies the access.
     Denied,
-    /// The type is none.
+    /// The instruction names no type.
     OfNoType,
 }
 
-/// Whether a class is Shareable, or an interface that extends it.
+/// Whether a class is the interface Shareable, or an interface that extends it.
 pub(crate) fn is_shared_interface(program: &Program, class: ClassName) -> bool
     ensures { result ≡ is_shared_interface program.now class }
 {
@@ -75,7 +75,7 @@ fn is_word_array(kind: WordKind, object: ObjectType) -> bool
     }
 }
 
-/// Whether a class is another one, or below it. A class that isn't there is below itself and Object alone.
+/// Whether a class is another one, or below it. A class that isn't in the world is below itself and Object only.
 fn is_name_below(program: &Program, class: ClassName, other: ClassName) -> bool
     ensures { result ≡ is_name_below program.now other class }
 {
@@ -85,7 +85,7 @@ fn is_name_below(program: &Program, class: ClassName, other: ClassName) -> bool
     }
 }
 
-/// Whether an object is an array of references to objects of a class or below it.
+/// Whether an object is an array of references to objects of a class, or of one below it.
 fn is_reference_array(program: &Program, class: ClassName, object: ObjectType) -> bool
     ensures { result ≡ is_reference_array program.now class object }
 {

@@ -19,7 +19,7 @@ use jc_code::{Creation, WordKind};
 use jc_names::{ClassName, Owner};
 use jc_store::{Mark, ObjectKind, ObjectType, Store};
 
-/// The number of Object, whose class arrays are of: it is the first of a world's classes.
+/// The number of class Object, which is the class of arrays: Object is the first of a world's classes.
 pub(crate) const OBJECT: u16 = 0;
 
 #[inline]
@@ -33,7 +33,7 @@ fn word_array(kind: WordKind) -> ObjectType
     }
 }
 
-/// Whether a word is no negative short.
+/// Whether a word isn't a negative short.
 #[inline]
 fn is_count(word: u16) -> bool
     ensures { result ≡ is_count word }
@@ -55,7 +55,8 @@ fn make(store: &mut Store, object: ObjectType, owner: Owner, len: usize, class: 
 }
 
 impl WordMachine {
-    /// A new object of the active owner in place of so many operands; without room the runtime throws SystemException.
+    /// Puts a new object of the active owner in place of so many operands. If there is no room, the runtime throws
+    /// SystemException.
     #[inline(always)]
     fn create(
         &mut self,
@@ -78,7 +79,7 @@ impl WordMachine {
         }
     }
 
-    /// A new array of so many components as the top operand says.
+    /// Makes an array whose length is the top operand.
     fn create_array(&mut self, here: &WordStepContext<'_>, object: ObjectType) -> StepEnd
         ensures { done self.new result ≡ do_create_array here.now object (operand self.old 0) self.old }
     {
@@ -89,7 +90,7 @@ impl WordMachine {
         self.create(here, object, usize::from(count), OBJECT, 1)
     }
 
-    /// new, of this class
+    /// new, of a class
     #[inline(always)]
     fn create_object(&mut self, here: &WordStepContext<'_>, class: ClassName) -> StepEnd
         ensures is { done self.new result ≡ do_new here.now class self.old }

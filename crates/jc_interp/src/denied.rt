@@ -1,5 +1,5 @@
-//! What the firewall denies of an instruction that throws a SecurityException, to be told of it (Java Card Runtime
-//! Environment Specification, Class and Object Access Behavior).
+//! What the firewall denies if an instruction throws a SecurityException, for reports (Java Card Runtime Environment
+//! Specification, Class and Object Access Behavior).
 
 use crate::calls::virtual_called;
 use crate::casts::{is_shared, is_shared_interface, test_of};
@@ -21,15 +21,15 @@ use jc_names::ClassName;
 use jc_program::{ClassNumber, InterfaceCall, Program};
 use jc_store::Mark;
 
-/// An access of the instruction at which a frame stands.
+/// An access that the instruction at a frame's pc makes.
 #[derive(Clone, Copy)]
 struct Touch {
     access: Access,
     /// The object's number.
     object: u16,
-    /// The mark of what is stored, if a reference is.
+    /// The mark of the stored object, if a reference is stored.
     stored: Option<Mark>,
-    /// Whether it is called or cast by an interface that is shared.
+    /// Whether the call or the cast names a shared interface.
     is_shared: bool,
 }
 
@@ -43,7 +43,7 @@ fn plain_touch(access: Access, object: u16) -> Touch {
     }
 }
 
-/// The words of a virtual member's call, the object among them.
+/// How many words a call of a virtual member takes, with the object.
 fn virtual_words(here: &WordStepContext<'_>, index: u16) -> Option<u8> {
     match here.program.entries.at(here.frame.method.package, index)? {
         Entry::VirtualMethod { words, .. } => Some(words),
@@ -53,7 +53,7 @@ fn virtual_words(here: &WordStepContext<'_>, index: u16) -> Option<u8> {
 }
 
 impl WordMachine {
-    /// What is denied of an access.
+    /// Why the firewall denies an access, if it does.
     fn denied_touch(&self, here: &WordStepContext<'_>, touch: Touch) -> Option<Denial> {
         let object = look_at(&self.store, touch.object)?;
         denial(
@@ -108,12 +108,12 @@ impl WordMachine {
         }
     }
 
-    /// The object of a call of so many words.
+    /// The word of the object of a call of so many words.
     fn receiver_word(&self, words: u8) -> u16 {
         self.operand(words.saturating_sub(1))
     }
 
-    /// invokevirtual, invokeinterface: the object that is called.
+    /// invokevirtual, invokeinterface: the access to the object.
     fn call_touch(&self, here: &WordStepContext<'_>, invocation: Invocation) -> Option<Touch> {
         match invocation {
             Invocation::Virtual { index } => {
@@ -163,7 +163,7 @@ impl WordMachine {
         }
     }
 
-    /// What an object's class has at the virtual token of an entry.
+    /// What the class of the call's object has at the virtual token of an entry.
     fn virtual_call(&self, here: &WordStepContext<'_>, entry: Entry) -> Option<EntryCall> {
         match entry {
             Entry::VirtualMethod { token, words } => {
@@ -176,7 +176,7 @@ impl WordMachine {
         }
     }
 
-    /// What an object's class has at a token of an interface.
+    /// What the class of the call's object has at a token of an interface.
     fn interface_call(
         &self,
         here: &WordStepContext<'_>,
@@ -194,7 +194,7 @@ impl WordMachine {
         }
     }
 
-    /// What a call leads to, if it isn't thrown.
+    /// What is called, if anything is found.
     fn call_of(&self, here: &WordStepContext<'_>, invocation: Invocation) -> Option<EntryCall> {
         let entries = &here.program.entries;
         let package = here.frame.method.package;
@@ -211,7 +211,7 @@ impl WordMachine {
         }
     }
 
-    /// What is denied of the arguments of a native member, if one is called.
+    /// Why the firewall denies the arguments of a native member, if one is called.
     fn denied_native<N: Natives>(
         &self,
         natives: &N,
@@ -231,7 +231,7 @@ impl WordMachine {
         natives.denial(&self.store, &call)
     }
 
-    /// What is denied of a call: of the object that is called, or of the arguments of a native member.
+    /// Why the firewall denies a call: because of its object, or because of the arguments of a native member.
     fn denied_call<N: Natives>(
         &self,
         natives: &N,
@@ -246,7 +246,7 @@ impl WordMachine {
         self.denied_native(natives, here, invocation)
     }
 
-    /// What is denied of an instruction on references: of its access, if it makes one.
+    /// Why the firewall denies an instruction on references, if it makes an access.
     fn denied_operation<N: Natives>(
         &self,
         natives: &N,
@@ -275,7 +275,7 @@ impl WordMachine {
         self.denied_touch(here, touch)
     }
 
-    /// What it denies of the instruction at which a frame stands.
+    /// Why the firewall denies the instruction at the frame's pc.
     fn denied_here<N: Natives>(&self, natives: &N, here: &WordStepContext<'_>) -> Option<Denial> {
         let code = code_of(&here.program.methods, here.frame);
         match &decode(code, usize::from(here.frame.pc)) {
@@ -287,9 +287,9 @@ impl WordMachine {
         }
     }
 
-    /// What the firewall denies of the instruction at which the top frame stands, which throws the runtime's
-    /// SecurityException. A native member that another one calls isn't looked at.
-    // Apart and seldom called: of a step that throws nothing it takes no register.
+    /// Why the firewall denies the instruction at the top frame's pc, which throws the runtime's SecurityException. It
+    /// doesn't examine a native member that another one calls.
+    // A function of its own that seldom runs, so a step that throws nothing loses no register to it.
     #[cold]
     #[inline(never)]
     pub(crate) fn denied<N: Natives>(

@@ -9,7 +9,7 @@ pub enum StepEnd {
     GoesOn,
     /// The object with this number is thrown.
     Throws(u16),
-    /// The first frame's method ends with a word, or without one.
+    /// The first frame's method returns a word, or none.
     Gives(Option<u16>),
     /// The call is used up: a frame has no room.
     UsedUp,
@@ -18,22 +18,22 @@ pub enum StepEnd {
 /// How a call ends.
 #[derive(Clone, Copy, Debug, PartialEq, Eq)]
 pub enum RunEnd {
-    /// The object with this number was thrown, and no frame caught it. It was thrown at a point of a loaded package's
-    /// code, or by a native member that the runtime itself called.
+    /// The object with this number was thrown, and no frame caught it. It was thrown at a point in a loaded package's
+    /// code, or by a native member that the runtime called.
     Threw {
         object: u16,
         at: Option<CodePoint>,
     },
-    /// The first frame's method gave a word, or nothing.
+    /// The first frame's method returned a word, or none.
     Gave(Option<u16>),
-    /// The call was used up: what was spent, and where the top frame stood, if there was one.
+    /// The call was used up: which budget was spent, and where the top frame was, if there was one.
     RanOut {
         spent: Budget,
         at: Option<CodePoint>,
     },
 }
 
-/// The runtime's own exceptions, by their objects.
+/// The numbers of the runtime's own exception objects.
 pub(crate) const ARITHMETIC_EXCEPTION: u16 = 1;
 
 pub(crate) const ARRAY_STORE_EXCEPTION: u16 = 2;
@@ -50,5 +50,5 @@ pub(crate) const SECURITY_EXCEPTION: u16 = 7;
 
 pub(crate) const SYSTEM_EXCEPTION: u16 = 9;
 
-/// The reason of the runtime's SystemException if there is no room for an object.
+/// The reason in the runtime's SystemException if there is no room for an object.
 pub(crate) const NO_RESOURCE: u16 = 5;

@@ -1,4 +1,4 @@
-//! Frames for methods that are called (Java Card Virtual Machine Specification, Frames).
+//! Frames for called methods (Java Card Virtual Machine Specification, Frames).
 
 ghost use Rattle.std.specs.Prelude.{◌≡◌};
 ghost use Rattle.jc_interp.specs.PrivateDone.{done};
@@ -24,7 +24,7 @@ pub(crate) struct Owners {
     pub(crate) previous: Option<Owner>,
 }
 
-/// Those of its caller, or one that becomes active in place of the caller's.
+/// The caller's owners; or the owner to which the call switches, with the caller's as the previous one.
 #[inline]
 pub(crate) fn owners_of(here: &WordStepContext<'_>, switch: Option<Owner>) -> Owners
     ensures { result ≡ owners_of here.now switch }
@@ -58,7 +58,7 @@ pub(crate) fn header_of(method: &LoadedMethod<'_>, owners: Owners) -> FrameHeade
     }
 }
 
-/// Its size, with so many words of arguments.
+/// The size of a method's frame, with so many words of arguments.
 #[inline]
 pub(crate) fn size_of(header: MethodHeader, words: u8) -> FrameSize
     ensures { result ≡ size_of header words }
@@ -70,7 +70,7 @@ pub(crate) fn size_of(header: MethodHeader, words: u8) -> FrameSize
 }
 
 impl WordMachine {
-    /// Calls a method on so many of the operands, which the caller loses.
+    /// Calls a method on so many operands, and pops them from the caller.
     #[inline(always)]
     pub(crate) fn enter<'p>(
         &mut self,
@@ -104,8 +104,8 @@ impl WordMachine {
         StepEnd::GoesOn
     }
 
-    /// Calls a method on arguments for a native member, whose own arguments were so many of the operands: the caller
-    /// loses these.
+    /// Calls a method on arguments for a native member. The native member's own arguments were so many operands, which
+    /// are popped from the caller.
     pub(crate) fn enter_with(
         &mut self,
         here: &WordStepContext<'_>,

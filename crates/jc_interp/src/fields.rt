@@ -16,7 +16,7 @@ use jc_entries::Entry;
 use jc_firewall::Access;
 use jc_store::{Mark, Store};
 
-/// What is done where a field is written.
+/// The access that a write to a field makes.
 #[inline]
 pub(crate) fn putting(form: Form) -> Access
     ensures { result ≡ putting form }
@@ -27,7 +27,7 @@ pub(crate) fn putting(form: Form) -> Access
     }
 }
 
-/// The mark of the object that is stored, if a reference is.
+/// The mark of the stored object, if a reference to one is stored.
 #[inline]
 pub(crate) fn stored_mark(store: &Store, form: Form, word: u16) -> Option<Mark>
     ensures { result ≡ stored_mark store.now form word }
@@ -57,7 +57,7 @@ fn may_put_static(here: &WordStepContext<'_>, store: &Store, form: Form, word: u
 }
 
 impl WordMachine {
-    /// putstatic, of the field at an offset of the package with a number
+    /// putstatic, of the field at an offset in the image of the package with a number
     fn put_static(
         &mut self,
         here: &WordStepContext<'_>,
@@ -95,7 +95,7 @@ impl WordMachine {
         }
     }
 
-    /// The object whose field is used: an operand below so many, or local 0.
+    /// The object whose field is used: the operand below so many others, or local 0.
     #[inline]
     pub(crate) fn holder(&self, holder: Holder, below: u8) -> u16
         ensures { result ≡ holder_word holder below self.now }
@@ -106,7 +106,7 @@ impl WordMachine {
         }
     }
 
-    /// getfield, which takes so many operands
+    /// getfield, which pops so many operands
     fn get_field(
         &mut self,
         here: &WordStepContext<'_>,
@@ -127,7 +127,7 @@ impl WordMachine {
         self.gives(here, count, loaded(form, word))
     }
 
-    /// putfield, which takes so many operands
+    /// putfield, which pops so many operands
     fn put_field(
         &mut self,
         here: &WordStepContext<'_>,

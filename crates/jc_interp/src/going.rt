@@ -9,7 +9,7 @@ use crate::machine::WordMachine;
 use crate::step_context::WordStepContext;
 
 impl WordMachine {
-    /// The operand with an index, the top one first.
+    /// The operand with an index, counted from the top.
     #[inline(always)]
     pub(crate) fn operand(&self, index: u8) -> u16
         ensures { result ≡ operand self.now index }
@@ -32,7 +32,7 @@ impl WordMachine {
         StepEnd::GoesOn
     }
 
-    /// It goes on behind the instruction, without so many operands.
+    /// Pops so many operands, and goes on after the instruction.
     #[inline(always)]
     pub(crate) fn leaves(&mut self, here: &WordStepContext<'_>, count: u8) -> StepEnd
         ensures { done self.new result ≡ leaves here.now count self.old }
@@ -41,7 +41,7 @@ impl WordMachine {
         self.goes_to(here.next_pc)
     }
 
-    /// It goes on behind the instruction, with a word on top of the operands.
+    /// Pushes a word, and goes on after the instruction.
     #[inline(always)]
     #[tactic(auto, using(crate::proofs::Putting::put_is))]
     pub(crate) fn puts(&mut self, here: &WordStepContext<'_>, word: u16) -> StepEnd
@@ -51,7 +51,7 @@ impl WordMachine {
         StepEnd::GoesOn
     }
 
-    /// It goes on behind the instruction, with a word in place of so many operands.
+    /// Puts a word in place of so many operands, and goes on after the instruction.
     #[inline(always)]
     #[tactic(auto, using(crate::proofs::Putting::replaced_is))]
     pub(crate) fn gives(&mut self, here: &WordStepContext<'_>, count: u8, word: u16) -> StepEnd

@@ -15,7 +15,7 @@ use jc_link::{Linked, Statics};
 use jc_safety::static_fields_have_own_offsets;
 use std::alloc::{AllocError, Global};
 
-/// The byte at an offset of the image, behind the references: 0, up to the last ones, which have values.
+/// The byte at an offset of the image after the references: 0, except for the last bytes, which have values.
 fn byte_at(statics: &Statics, offset: usize) -> u16
     ensures byte { result ≡ byte_at statics.now offset }
     ensures small { result < 256 }
@@ -39,7 +39,7 @@ fn short_at(statics: &Statics, offset: u16) -> u16
     256 * byte_at(statics, usize::from(offset)) + byte_at(statics, usize::from(offset) + 1)
 }
 
-/// The reference at an offset: the first ones lead to the initialised arrays, which come behind so many objects.
+/// The reference at an offset: the first ones are to the initialised arrays, which follow so many objects.
 fn reference_at(statics: &Statics, objects: u16, offset: u16) -> u16
     ensures { result ≡ reference_word objects statics.now offset }
 {
@@ -77,7 +77,7 @@ fn put_word(words: &mut [u16], offset: u16, word: u16)
     }
 }
 
-/// Puts the word of a field to its offset, if the field is static.
+/// Puts the word of a field at its offset, if the field is static.
 fn put_field(words: &mut [u16], statics: &Statics, objects: u16, field: &Field)
     ensures { words.new ≡ with_field objects statics.now words.old field.now }
 {
@@ -90,7 +90,7 @@ fn put_field(words: &mut [u16], statics: &Statics, objects: u16, field: &Field)
     }
 }
 
-/// Puts the words of the static ones of some fields.
+/// Puts the words of those fields that are static.
 fn put_fields(words: &mut [u16], statics: &Statics, objects: u16, fields: &[Field])
     ensures { words.new ≡ with_fields objects statics.now words.old fields.now }
 {
@@ -115,7 +115,7 @@ fn statics_of(linked: &Linked) -> &Statics
     &linked.body().kept().statics
 }
 
-/// Its shape: it is the last of the world that it was bound to.
+/// The shape of a linked package: the last one of the world that it was bound to.
 fn shape_of(linked: &Linked) -> Option<&PackageShape>
     ensures { option_map (λ s. s.now) result ≡ own_shape linked.now }
 {
@@ -123,7 +123,7 @@ fn shape_of(linked: &Linked) -> Option<&PackageShape>
     table.shape(table.last())
 }
 
-/// What is known of its static fields. It does nothing.
+/// The static fields of a linked package have their own offsets. It does nothing.
 fn offsets_are_known(linked: &Linked)
     ensures { (shape : Shape) → own_shape linked.now ≡ Some shape
         → HaveOwnOffsets linked.now.body.kept.statics (static_fields shape) }
@@ -132,7 +132,7 @@ fn offsets_are_known(linked: &Linked)
     static_fields_have_own_offsets();
 }
 
-/// Puts the words of a linked package's static fields, where its initialised arrays come behind so many objects.
+/// Puts the words of a linked package's static fields, if its initialised arrays follow so many objects.
 fn put_statics(words: &mut [u16], linked: &Linked, objects: u16)
     ensures { length words.old ≡ linked.now.body.kept.statics.size
         → objects + length linked.now.body.kept.statics.arrays < 65536
@@ -144,8 +144,8 @@ fn put_statics(words: &mut [u16], linked: &Linked, objects: u16)
     }
 }
 
-/// The words of a linked package's static fields, one for each byte offset of its image: what they hold when the
-/// package is loaded, and its initialised arrays come behind so many objects.
+/// The words of a linked package's static fields, one for each byte offset of its image: their values when the package
+/// is loaded, if its initialised arrays follow so many objects.
 pub fn static_words(alloc: Global, linked: &Linked, objects: u16) -> Result<Vec<u16>, AllocError>
     ensures { objects + length linked.now.body.kept.statics.arrays < 65536
         → IfOk result (λ words. HoldsFields words.items (loaded_statics (suc objects) linked.now)) }

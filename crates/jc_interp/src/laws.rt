@@ -1,4 +1,4 @@
-//! What holds of machines on words.
+//! A law of machines on words.
 
 ghost use Rattle.std.specs.Prelude.{List, ℕ};
 ghost use Rattle.jc_interp.specs.Agree.{AgreeBeside};
@@ -12,9 +12,9 @@ ghost use Rattle.jc_safety.specs.Loading.{around_behind, machine_behind, next_pa
 use jc_machine::Natives;
 use jc_program::classes_have_numbers;
 
-/// Behind a load words that read the defensive machine read it still: with the package's initialised arrays in the
-/// store and the words of its static fields behind those of the others, over the tables of the world with the package.
-/// It does nothing.
+/// Words that agree with the defensive machine still agree with it after a load: with the package's initialised arrays
+/// in the store and the words of its static fields appended, over the tables of the world with the package. It does
+/// nothing.
 pub fn loads_stay_in_agreement<N: Natives>(_natives: &N)
     ensures { (s : Surroundings N.Kept) (p q : Program) (u : WordMachine) (kept : N.Kept) (m : Machine N.Kept)
         (l : Linked) (image : List ℕ) → LoadsWords s p q u kept m l image

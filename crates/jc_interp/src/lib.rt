@@ -1,4 +1,4 @@
-//! The interpreter: checked packages run on words of 16 bits, without a tag and without a test of types.
+//! The interpreter: it runs checked packages on words of 16 bits, without tags and without tests of types.
 #![tactic(auto)]
 
 mod arrays;

@@ -1,4 +1,4 @@
-//! A linked package is loaded on words (Java Card Virtual Machine Specification, StaticField component).
+//! Loads a linked package on words (Java Card Virtual Machine Specification, StaticField component).
 
 ghost use Rattle.std.specs.Prelude.{◌≡◌, ◌++◌, true, IfErr, IfOk};
 ghost use Rattle.jc_interp.specs.Loading.{with_package};
@@ -14,9 +14,9 @@ use jc_link::LinkedBody;
 use std::alloc::AllocError;
 
 impl WordMachine {
-    /// Loads the package with a number: puts the words of its static fields ([`static_words`](crate::static_words))
-    /// behind those of the others, and makes its initialised arrays. Where there is no room for all of them some may be
-    /// made. Without memory nothing changes.
+    /// Loads the package with a number: appends the words of its static fields ([`static_words`](crate::static_words))
+    /// to those of the others, and makes its initialised arrays. If there isn't room for all arrays, it may make some.
+    /// If it runs out of memory, nothing changes.
     pub fn load(&mut self, number: u8, body: &LinkedBody, words: Vec<u16>) -> Result<(), AllocError>
         ensures done { IfOk result (λ u. (limits : Limits) (heap : Heap TaggedValue)
             → limits.objects ≡ self.old.store.most_objects → limits.cells ≡ self.old.store.most_cells

@@ -1,4 +1,4 @@
-//! The initialised arrays of a package that is loaded (Java Card Virtual Machine Specification, StaticField component,
+//! Makes the initialised arrays of a loaded package (Java Card Virtual Machine Specification, StaticField component,
 //! array_init_info).
 
 ghost use Rattle.std.specs.Prelude.{◌≡◌, ◌+◌, ◌∷◌, [], length, map, true, false, nat_le, slice_get};
@@ -31,7 +31,7 @@ fn short_word(value: i16) -> u16
     value.cast_unsigned()
 }
 
-/// How many components an array has.
+/// The number of components of an array.
 fn count_of(array: &InitialArray) -> usize
     ensures { result ≡ length (words_of_array array.now) }
 {
@@ -143,8 +143,8 @@ fn arrays_of(body: &LinkedBody) -> &[InitialArray]
     &body.kept().statics.arrays
 }
 
-/// Makes the initialised arrays of the package with a number, with their values. Where there is room for all of them
-/// they are made; else some may be.
+/// Makes the initialised arrays of the package with a number, with their values, and reports whether there was room for
+/// all. If not, it may have made some.
 pub(crate) fn make_arrays(store: &mut Store, number: u8, body: &LinkedBody) -> bool
     ensures made { result ≡ true → store.new ≡ with_arrays store.old (word_arrays number body.now) }
     ensures full { result ≡ false → HasRoomFor store.old (word_arrays number body.now) → ⊥ }
@@ -152,7 +152,7 @@ pub(crate) fn make_arrays(store: &mut Store, number: u8, body: &LinkedBody) -> b
     make_each(store, number, body, arrays_of(body))
 }
 
-/// Whether the cells that arrays take fit, where so many are used.
+/// Whether the cells that arrays take fit, if so many are in use.
 fn do_cells_fit(cells_used: u16, cells: u16, arrays: &[InitialArray]) -> bool
     ensures { result ≡ nat_le (cells_used + cells_of_arrays arrays.now) cells }
 {
@@ -170,7 +170,7 @@ fn do_cells_fit(cells_used: u16, cells: u16, arrays: &[InitialArray]) -> bool
     true
 }
 
-/// Whether arrays fit in a store, of which so many objects and cells are used.
+/// Whether arrays fit in a store, if so many objects and cells are in use.
 fn do_fit(
     objects_used: u16,
     cells_used: u16,

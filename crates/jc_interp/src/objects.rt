@@ -15,7 +15,7 @@ use jc_code::ObjectOperation;
 use jc_machine::Natives;
 
 impl WordMachine {
-    /// An instruction on references at which the loop stopped.
+    /// Does an instruction on references at which the loop stopped.
     pub(crate) fn perform_object<N: Natives>(
         &mut self,
         natives: &mut N,

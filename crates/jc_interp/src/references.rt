@@ -1,4 +1,4 @@
-//! References that are thrown (Java Card Virtual Machine Specification, Instruction set: athrow).
+//! Throws of references (Java Card Virtual Machine Specification, Instruction set: athrow).
 
 ghost use Rattle.std.specs.Prelude.{◌≡◌};
 ghost use Rattle.jc_interp.specs.PrivateDone.{done, operand};

@@ -1,4 +1,4 @@
-//! What an instruction sees of an object, and what the firewall says of an access to it.
+//! What an instruction sees of an object, and the firewall's verdict on an access to it.
 
 ghost use Rattle.std.specs.Prelude.{◌≡◌, true, false, None};
 ghost use Rattle.jc_interp.specs.PrivateSeen.{allows, cell_in, class_in, class_named, facts_seen, is_array, is_below};
@@ -16,7 +16,7 @@ use jc_store::{Mark, ObjectKind, ObjectType, Store};
 pub(crate) struct Seen {
     pub(crate) kind: ObjectKind,
     pub(crate) owner: Owner,
-    /// How many components it has.
+    /// The number of its components.
     pub(crate) len: u16,
     /// The number of its class; an array is of class Object.
     pub(crate) class: u16,
@@ -116,7 +116,7 @@ fn is_array(object: ObjectType) -> bool
     }
 }
 
-/// What the verdict on an access hangs on.
+/// The facts on which the verdict on an access depends.
 #[inline]
 pub(crate) fn facts(
     here: &WordStepContext<'_>,
@@ -160,7 +160,7 @@ pub(crate) fn verdict(
     )
 }
 
-/// Whether an access is allowed that calls nothing and casts to nothing.
+/// Whether the firewall allows an access that is no call and no cast.
 #[inline]
 pub(crate) fn allows(
     here: &WordStepContext<'_>,

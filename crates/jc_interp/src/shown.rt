@@ -1,4 +1,4 @@
-//! The frame in which a call stopped, as it is shown.
+//! Shows the frame in which a call stopped.
 
 ghost use Rattle.std.specs.Prelude.{◌≡◌, false};
 ghost use Rattle.std.specs.Bool.{OnTrue};
@@ -23,22 +23,22 @@ pub const MOST_OPERANDS: usize = 255;
 pub struct IndexFault {
     /// The index, a short.
     pub index: u16,
-    /// How many components the array has.
+    /// The length of the array.
     pub length: u16,
 }
 
 /// The frame in which a call stopped.
 #[derive(Debug, Drop)]
 pub struct ShownFrame {
-    /// Whether a call stopped in a frame; the rest says nothing where none did.
+    /// Whether a call stopped in a frame; if none did, the rest means nothing.
     pub is_there: bool,
-    /// Whose code ran.
+    /// The owner that was active.
     pub active: Owner,
     /// The locals, as words.
     pub locals: ArrayVec<u16, MOST_LOCALS>,
     /// The operands, as words, the deepest first.
     pub operands: ArrayVec<u16, MOST_OPERANDS>,
-    /// The index and the length, where the instruction threw the runtime's ArrayIndexOutOfBoundsException.
+    /// The index and the length, if the runtime's ArrayIndexOutOfBoundsException was thrown.
     pub index: Option<IndexFault>,
 }
 
@@ -57,7 +57,7 @@ impl ShownFrame {
     }
 }
 
-/// How many operands stand on top of the index, where an instruction has one (Java Card Virtual Machine Specification,
+/// How many operands are on top of the index, if an instruction has one (Java Card Virtual Machine Specification,
 /// baload and the other instructions on components).
 fn operands_on_index(opcode: u8) -> Option<u8> {
     match opcode {
@@ -67,7 +67,7 @@ fn operands_on_index(opcode: u8) -> Option<u8> {
     }
 }
 
-/// Puts words down in the place of others, and says whether there was room for them.
+/// Replaces words by others, and reports whether there was room for them.
 fn put_down<const MOST: usize>(room: &mut ArrayVec<u16, MOST>, words: &[u16]) -> bool
     ensures { OnTrue result (room.new.items ≡ words.now) }
 {
@@ -75,7 +75,7 @@ fn put_down<const MOST: usize>(room: &mut ArrayVec<u16, MOST>, words: &[u16]) ->
     room.try_extend_from_slice(words).is_ok()
 }
 
-/// Whether the frame in which a call ended so is shown: it ended by a throw, or its steps were spent.
+/// Whether the frame in which a call ended may be shown: the call ended by a throw, or its steps were spent.
 fn may_be_shown(end: RunEnd) -> bool
     ensures { OnTrue result (MayBeShown end) }
 {
@@ -102,7 +102,7 @@ impl WordMachine {
         shown.is_there = has_locals && has_operands;
     }
 
-    /// The index and the length of the array that the instruction asks for at which the top frame stands.
+    /// The index that the instruction at the top frame's pc uses, and the length of its array.
     fn index_fault(&self, program: &Program) -> Option<IndexFault> {
         let frame = self.frames.top()?;
         let opcode = *code_of(&program.methods, frame).get(usize::from(frame.pc))?;
@@ -117,7 +117,7 @@ impl WordMachine {
         })
     }
 
-    /// Shows the frame in which a call ended, where that is shown.
+    /// Shows the frame in which a call ended, if it may be shown.
     pub(crate) fn show(&self, program: &Program, end: RunEnd, shown: &mut ShownFrame)
         ensures { OnTrue shown.new.is_there (IsShown self.now shown.new × MayBeShown end) }
     {

@@ -57,7 +57,7 @@ impl Model for Statics {
 }
 
 impl Statics {
-    /// Those of no package.
+    /// No package's static fields.
     pub fn new(alloc: Global) -> Statics
         ensures { result ≡ [] }
     {
@@ -66,7 +66,7 @@ impl Statics {
         }
     }
 
-    /// Puts the static fields of a package behind those of the others.
+    /// Appends the static fields of a package.
     pub fn push(&mut self, words: Vec<u16>) -> Result<(), AllocError>
         ensures done { IfOk result (λ u. self.new ≡ self.old ++ words.items ∷ []) }
         ensures kept { IfErr result (λ e. self.new ≡ self.old) }
@@ -116,7 +116,7 @@ impl Statics {
     }
 }
 
-/// As many words as were lent are left, so they are the package's. It does nothing.
+/// If as many words are given back as were lent, they are the package's static fields. It does nothing.
 pub(crate) fn image_laws()
     ensures { (images : List (List ℕ)) (number : ℕ) (image left : List ℕ) → of_package images number ≡ Some image
         → length left ≡ length image → with_left images number left ≡ with_package images number left }

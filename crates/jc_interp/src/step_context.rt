@@ -1,10 +1,10 @@
-//! The context of a step: what surrounds the machine, and the instruction.
+//! The context of a step: what surrounds the machine, and where the instruction is.
 
 use jc_frames::FrameHeader;
 use jc_link::World;
 use jc_program::Program;
 
-/// What surrounds the machine in a step, and where its top frame stands.
+/// What surrounds the machine in a step, and where the top frame is.
 #[derive(Clone, Copy)]
 pub(crate) struct WordStepContext<'p> {
     pub(crate) world: &'p World,

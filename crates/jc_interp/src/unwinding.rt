@@ -1,5 +1,5 @@
-//! What is thrown, outward over the frames to the nearest handler (Java Card Virtual Machine Specification, Exceptions,
-//! athrow).
+//! Passes a thrown object outward over the frames to the nearest exception handler (Java Card Virtual Machine
+//! Specification, Exceptions, athrow).
 
 ghost use Rattle.std.specs.Prelude.{◌≡◌};
 ghost use Rattle.jc_interp.specs.PrivateDone.{done};
@@ -31,7 +31,7 @@ fn catches(program: &Program, class: u16, pc: u16, handler: LoadedHandler) -> bo
     handler.covers(pc) && is_caught(program, class, handler.caught)
 }
 
-/// The first handler of a method that does.
+/// The first handler of a method that covers the pc and catches such objects.
 fn handler_for(
     program: &Program,
     class: u16,
@@ -56,7 +56,7 @@ fn handler_in(program: &Program, class: u16, frame: FrameHeader) -> Option<Loade
 }
 
 impl WordMachine {
-    /// The top frame goes on at a handler, with the object as its one operand.
+    /// Lets the top frame go on at a handler, with the object as its only operand.
     fn handle(&mut self, object: u16, handler: LoadedHandler)
         ensures { self.new ≡ handled object handler self.old }
     {
@@ -72,7 +72,7 @@ impl WordMachine {
         handler_in(program, class, frame)
     }
 
-    /// An object of the class with a number is thrown.
+    /// Throws an object of the class with a number.
     fn unwind_for(&mut self, program: &Program, object: u16, class: u16) -> StepEnd
         ensures { done self.new result ≡ unwinds program.now object class self.old }
     {
@@ -86,8 +86,8 @@ impl WordMachine {
         StepEnd::Throws(object)
     }
 
-    /// An object is thrown: the nearest frame with a handler for it goes on there, and the frames within are dropped.
-    /// If none has one, it is thrown out of the call, and all frames stay.
+    /// Throws an object: the nearest frame with a handler for it goes on there, and the frames on top of that are
+    /// dropped. If no frame has one, the object leaves the call, and all frames stay.
     pub(crate) fn unwind(&mut self, program: &Program, object: u16) -> StepEnd
         ensures { done self.new result ≡ do_unwind program.now object self.old }
     {

@@ -3,8 +3,8 @@ use Rattle.jc_host.specs.Eval.{IsAnswer}
 use Rattle.jc_host.proofs.Evaluating.{for_end}
 use Rattle.jc_host.proofs.eval.eval.Goals as goal
 
-pub returns-in-Ok-check_words : goal.returns-in-Ok-check_words
-returns-in-Ok-check_words c =
+pub returns-in-Ok-new : goal.returns-in-Ok-new
+returns-in-Ok-new c =
     let found = c.in-Ok.ensures.found in
     let accepted = c.in-Ok-check_words.ensures.accepted in
     subst (λ a. IsAnswer a c.args.code.now c.args.cert.now c.args.steps) (sym c.ending_answer.ensures)

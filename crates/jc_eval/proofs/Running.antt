@@ -1,5 +1,5 @@
--- A run of code alone on words goes along with the defensive machine's. The loop runs it as a frame state: no opcode of code
--- alone has a row of an instruction on references.
+-- A run of code alone on words goes along with the defensive machine's. The loop runs a frame state, and no opcode of
+-- code alone has a row of an instruction on references. So only the frame in it changes.
 use Rattle.std.proofs.Common.{◌≡◌, ℕ, zero, suc, ◌+◌, ◌<◌, List, [], ◌∷◌, length, drop, Option}
 use Rattle.std.proofs.Common.{Some, None, Bool, true, false, if◌then◌else◌, Result, Ok, Err, IfSome, nat_lt, refl, sym, ap, ◌∙◌, subst}
 use Rattle.std.proofs.Common.{arith}
@@ -206,7 +206,8 @@ module _ (code : List ℕ) (typing : Typing) (t : IsTyping word_rules (word_meth
     ready = ready_by (word_at code w.pc) decoded_here
 
   -- one step more
-  module _ (reach : FrameEnvironment) (s : FrameState) (left : ℕ) (end : CallEnd ⊤) (g : GoesWith s.frame (suc left) end) where
+  module _ (env : FrameEnvironment) (s : FrameState) (left : ℕ) (end : CallEnd ⊤)
+      (g : GoesWith s.frame (suc left) end) where
     abbrev w : WordFrame
     w = s.frame
 
@@ -240,15 +241,15 @@ module _ (code : List ℕ) (typing : Typing) (t : IsTyping word_rules (word_meth
         }
 
     -- what is done at once there is an instruction on words
-    state_is : next_state reach word_max_stack code s ≡ option_map (with_frame s) (next_frame code w)
+    state_is : next_state env word_max_stack code s ≡ option_map (with_frame s) (next_frame code w)
     state_is =
-        ap (λ (o : Option QuickRow). option_map_or (quick_read reach word_max_stack code s) o
+        ap (λ (o : Option QuickRow). option_map_or (quick_read env word_max_stack code s) o
         (option_map (with_frame s) (next_frame code w))) (no_row_here w (suc left) end g)
 
-    state_ready : StateIsReady reach code word_max_stack s
+    state_ready : StateIsReady env code word_max_stack s
     state_ready = (
       ready w (suc left) end g,
-      subst (λ (o : Option QuickRow). IfSome o (RowIsReady reach word_max_stack s))
+      subst (λ (o : Option QuickRow). IfSome o (RowIsReady env word_max_stack s))
           (sym (no_row_here w (suc left) end g)) tt,
     )
 
@@ -271,7 +272,7 @@ module _ (code : List ℕ) (typing : Typing) (t : IsTyping word_rules (word_meth
         (ap (λ (x : Instr). x.next_pc) is) f.comes)
     behind_by (Err fault) is = tt
 
-    behind : IfSome (next_state reach word_max_stack code s) (λ v. GoesWith v.frame left end)
+    behind : IfSome (next_state env word_max_stack code s) (λ v. GoesWith v.frame left end)
     behind =
         subst (λ (o : Option FrameState). IfSome o (λ v. GoesWith v.frame left end)) (sym state_is)
         (behind_by (word_at code w.pc) (decoded_here w (suc left) end g))
@@ -365,7 +366,7 @@ module _ (code : List ℕ) (typing : Typing) (t : IsTyping word_rules (word_meth
         (acts_is w (suc left) end g read.value operation_is) f.comes))
     stopped_by (Err fault) read_is is none = absurd is
 
-    stopped : next_state reach word_max_stack code s ≡ None
+    stopped : next_state env word_max_stack code s ≡ None
         → EndsAs (end_of (word_instr_at code w.pc) (slice_index w.operands 0)) end
     stopped none =
         stopped_by (word_at code w.pc) refl (decoded_here w (suc left) end g)
@@ -388,11 +389,11 @@ module _ (code : List ℕ) (typing : Typing) (t : IsTyping word_rules (word_meth
       × ((r.left ≡ 0 → ⊥)
       → EndsAs (end_of (word_instr_at code r.state.frame.pc) (slice_index r.state.frame.operands 0)) end)
 
-  module _ (reach : FrameEnvironment) where
+  module _ (env : FrameEnvironment) where
     -- so many steps may be done, and they end as the tagged machine
     pub record Runs (left : ℕ) (s : FrameState) (end : CallEnd ⊤) : Type 0 where
-      pub may_run : StateMayRun reach word_max_stack code left s
-      pub ended : HasEnded (ran_state reach word_max_stack code left s) end
+      pub may_run : StateMayRun env word_max_stack code left s
+      pub ended : HasEnded (ran_state env word_max_stack code left s) end
 
     runs : (left : ℕ) (s : FrameState) (end : CallEnd ⊤) → GoesWith s.frame left end → Runs left s end
     unfolding MayRunBy ran_by
@@ -401,17 +402,17 @@ module _ (code : List ℕ) (typing : Typing) (t : IsTyping word_rules (word_meth
       ended = ((λ _. spent s.frame end g), (λ more. absurd (more refl)));
     }
     runs (suc n) s end g =
-        let onwards = each (next_state reach word_max_stack code s) refl (λ v. runs n v end)
-        (behind reach s n end g) in record {
-          may_run = (within_code s.frame (suc n) end g, state_ready reach s n end g, onwards.0);
+        let onwards = each (next_state env word_max_stack code s) refl (λ v. runs n v end)
+        (behind env s n end g) in record {
+          may_run = (within_code s.frame (suc n) end g, state_ready env s n end g, onwards.0);
           ended = onwards.1;
         }
       where
-        each : (o : Option FrameState) → next_state reach word_max_stack code s ≡ o
+        each : (o : Option FrameState) → next_state env word_max_stack code s ≡ o
             → ((v : FrameState) → GoesWith v.frame n end → Runs n v end) → IfSome o (λ v. GoesWith v.frame n end)
-            → IfSome o (StateMayRun reach word_max_stack code n)
-            × HasEnded (option_map_or (ran_state reach word_max_stack code n) o (record { state = s; left = suc n })) end
-        each None e go k = (tt, ((λ none. absurd (omega (arith, none))), (λ _. stopped reach s n end g e)))
+            → IfSome o (StateMayRun env word_max_stack code n)
+            × HasEnded (option_map_or (ran_state env word_max_stack code n) o (record { state = s; left = suc n })) end
+        each None e go k = (tt, ((λ none. absurd (omega (arith, none))), (λ _. stopped env s n end g e)))
         each (Some v) e go k = let there = go v k in (there.may_run, there.ended)
 
     pub from_first : (statics : List ℕ) (store : Store) (steps : ℕ)
@@ -424,7 +425,7 @@ module _ (code : List ℕ) (typing : Typing) (t : IsTyping word_rules (word_meth
     })
 
     pub ends_so : (statics : List ℕ) (store : Store) (steps : ℕ) (r : Ran FrameState)
-        → r ≡ ran_state reach word_max_stack code steps (first_state statics store)
+        → r ≡ ran_state env word_max_stack code steps (first_state statics store)
         → HasEnded r (alone_call listing steps).ends
     ends_so statics store steps r is =
         subst (λ (x : Ran FrameState). HasEnded x (alone_call listing steps).ends) (sym is)

@@ -56,8 +56,8 @@ fn end_at(code: &[u8], slots: &[u16], place: FramePosition) -> CodeEnd
     }
 }
 
-/// What code alone reaches beside its words: nothing.
-fn nothing_reached() -> FrameEnvironment<'static> {
+/// The environment of the one frame of code alone, which reaches nothing beside its words.
+fn empty_environment() -> FrameEnvironment<'static> {
     FrameEnvironment {
         entries: &[],
         package: 0,
@@ -66,7 +66,7 @@ fn nothing_reached() -> FrameEnvironment<'static> {
 }
 
 /// Runs code that a certificate carries for at most `steps` steps. It ends as the defensive machine's run of the code
-/// does, which is never stuck. The loop takes a store of any objects: the code reaches none of them.
+/// does, which is never stuck. The loop takes a store, and the code reaches no object of it.
 // By itself it has all registers of the processor.
 #[inline(never)]
 pub fn run_code(checked: &CheckedWords<'_>, store: &mut Store, steps: u32) -> CodeEnd
@@ -81,9 +81,9 @@ pub fn run_code(checked: &CheckedWords<'_>, store: &mut Store, steps: u32) -> Co
     let mut locals = [0; WORD_LOCALS];
     let mut slots = [0; WORD_MAX_STACK];
     let start = FramePosition { pc: 0, depth: 0 };
-    let reach = nothing_reached();
+    let environment = empty_environment();
     let stopped = run_frame(
-        &reach,
+        &environment,
         code,
         ByOpcode,
         &mut locals,

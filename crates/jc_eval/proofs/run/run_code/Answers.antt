@@ -16,7 +16,7 @@ run_frame-stopped-requires-clause-may_run c =
       rows = c.rows_are_decoded.ensures.decoded;
     } in
     rw c.code-code.ensures.code
-    (from_first code well.typing well.typed laws c.nothing_reached-reach.result [] c.args.store.now c.args.steps).may_run
+    (from_first code well.typing well.typed laws c.empty_environment-environment.result [] c.args.store.now c.args.steps).may_run
 
 pub returns-then-stopped-eq0 : goal.returns-then-stopped-eq0
 returns-then-stopped-eq0 c = λ typing t.
@@ -30,7 +30,7 @@ returns-then-stopped-eq0 c = λ typing t.
       decoded = c.words_are_decoded.ensures;
       rows = c.rows_are_decoded.ensures.decoded;
     } in
-    (ends_so code typing t laws c.nothing_reached-reach.result [] c.args.store.now c.args.steps _
+    (ends_so code typing t laws c.empty_environment-environment.result [] c.args.store.now c.args.steps _
     (rw c.code-code.ensures.code at c.run_frame-stopped.ensures.ran)).0 c.if-stopped-eq0.true
 
 pub returns : goal.returns
@@ -46,5 +46,5 @@ returns c = λ typing t.
       rows = c.rows_are_decoded.ensures.decoded;
     } in
     rw c.end_at.ensures (rw c.code-code.ensures.code
-    ((ends_so code typing t laws c.nothing_reached-reach.result [] c.args.store.now c.args.steps _
+    ((ends_so code typing t laws c.empty_environment-environment.result [] c.args.store.now c.args.steps _
     (rw c.code-code.ensures.code at c.run_frame-stopped.ensures.ran)).1 c.if-stopped-eq0.false))

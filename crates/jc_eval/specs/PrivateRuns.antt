@@ -1,4 +1,4 @@
--- Private. The end of code alone if the loop over words has stopped.
+-- Private. The end of code alone if the loop has stopped.
 use Rattle.std.specs.Prelude.{ℕ, Result, Ok, Err, if◌then◌else◌}
 use Rattle.jc_code.specs.Targets.{is_end_of}
 use Rattle.jc_code.specs.declared.fault.CodeFault.{CodeFault}

@@ -1,4 +1,4 @@
--- The laws by which the parts of commands are guarded, as one record.
+-- Private. The laws by which the parts of commands are guarded, as one record.
 use Rattle.std.specs.Prelude.{◌≡◌, ℕ, Bool, List, Some, map, true}
 use Rattle.jc_cap_desc.specs.Shape.{Shape}
 use Rattle.jc_link.specs.Built.{IsBuilt}

@@ -1,4 +1,4 @@
--- The laws that keep cards typed, as records.
+-- Private. The laws that keep cards typed, as records.
 use Rattle.std.specs.Prelude.{◌≡◌, ◌<◌, ◌≤◌, ℕ, suc, Bool, List, Some, None, length, true}
 use Rattle.jc_api.specs.Member.{ApiMember, member_of}
 use Rattle.jc_api.specs.declared.class.ApiClass.TheVariants.{Object as ObjectClass}

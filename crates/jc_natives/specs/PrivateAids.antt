@@ -1,4 +1,4 @@
--- The tests and works of members of AID on words without tags.
+-- Private. The tests and works of members of AID on words without tags.
 use Rattle.std.specs.Prelude.{ℕ, ◌==◌, ◌&&◌, Bool, false, List, ◌∷◌, bytes_eq, if◌then◌else◌, None}
 use Rattle.jc_natives.specs.Cells.{bit, extended, word}
 use Rattle.jc_natives.specs.Kept.{Kept, has_aid_length}

@@ -1,4 +1,4 @@
--- The tests and works of members of APDU on words without tags.
+-- Private. The tests and works of members of APDU on words without tags.
 use Rattle.std.specs.Prelude.{ℕ, ◌+◌, Bool, List, ◌++◌, length, nat_le, if◌then◌else◌}
 use Rattle.jc_machine.specs.Runtime.{apdu_buffer}
 use Rattle.jc_natives.specs.Cells.{is_within}

@@ -1,4 +1,4 @@
--- The tests and works of members of Applet on words without tags.
+-- Private. The tests and works of members of Applet on words without tags.
 use Rattle.std.specs.Prelude.{ℕ, Bool, List, Option, Some, None}
 use Rattle.std.specs.Option.{option_map_or}
 use Rattle.jc_firewall.specs.Verdict.{runtime}

@@ -1,5 +1,5 @@
--- The components of objects without tags, as words and as bytes, as the code is proved. A missing component is read as
--- 0.
+-- Private. The components of objects without tags, as words and as bytes, as the code is proved. A missing component is
+-- read as 0.
 use Rattle.std.specs.Prelude.{ℕ, zero, suc, ◌+◌, List, [], ◌∷◌, get_or, length, map}
 use Rattle.std.specs.Option.{option_map_or}
 use Rattle.jc_natives.specs.Cells.{bits, low}

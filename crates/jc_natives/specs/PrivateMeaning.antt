@@ -1,4 +1,4 @@
--- The meaning of native members on words without tags, as the code is proved.
+-- Private. The meaning of native members on words without tags, as the code is proved.
 use Rattle.std.specs.Prelude.{ℕ, List, [], Option, Some, None, if◌then◌else◌}
 use Rattle.jc_api.specs.Numbered.{numbered}
 use Rattle.jc_link.specs.Linked.{World}

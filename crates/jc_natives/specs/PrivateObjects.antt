@@ -1,4 +1,4 @@
--- The tests and works of members of Object and of exceptions on words without tags.
+-- Private. The tests and works of members of Object and of exceptions on words without tags.
 use Rattle.std.specs.Prelude.{ℕ, ◌==◌, ◌&&◌, ◌||◌, Bool, List, [], ◌∷◌, bytes_eq, None}
 use Rattle.jc_natives.specs.Cells.{bit, word}
 use Rattle.jc_natives.specs.Kept.{Kept}

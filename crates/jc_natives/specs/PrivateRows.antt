@@ -1,4 +1,4 @@
--- The forms of native members' tests, as rows of the code. Each member's row stands with its work.
+-- Private. The forms of native members' tests, as rows of the code. Each member's row stands with its work.
 use Rattle.std.specs.Prelude.{ℕ, Option, Some, None}
 use Rattle.jc_natives.specs.declared.row.Length.{Length}
 use Rattle.jc_natives.specs.declared.row.Length.TheVariants.{ShortAt}

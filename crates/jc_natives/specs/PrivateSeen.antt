@@ -1,4 +1,4 @@
--- The input of a native member's code: words, and objects without tags.
+-- Private. The input of a native member's code: words, and objects without tags.
 use Rattle.std.specs.Prelude.{ℕ, Bool, false, List, map, Option}
 use Rattle.std.specs.Option.{option_map_or}
 use Rattle.jc_api.specs.declared.class.ApiClass.TheVariants.{Aid}

@@ -1,4 +1,4 @@
--- The tests and works of members of JCSystem on words without tags.
+-- Private. The tests and works of members of JCSystem on words without tags.
 use Rattle.std.specs.Prelude.{ℕ, Bool, List, Option, Some}
 use Rattle.jc_natives.specs.Cells.{extended}
 use Rattle.jc_natives.specs.Kept.{Kept, instance_with}

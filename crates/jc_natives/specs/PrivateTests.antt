@@ -1,5 +1,5 @@
--- The tests of members' arguments on words without tags, by one rule: the object first, then the other references from
--- left to right, then the ranges from left to right.
+-- Private. The tests of members' arguments on words without tags, by one rule: the object first, then the other
+-- references from left to right, then the ranges from left to right.
 use Rattle.std.specs.Prelude.{ℕ, ◌==◌, ◌&&◌, ◌||◌, Bool, false, List, [], ◌∷◌, ◌++◌, Option, Some, None, if◌then◌else◌}
 use Rattle.jc_firewall.specs.Verdict.{verdict_of}
 use Rattle.jc_firewall.specs.declared.access.Facts.{Facts}

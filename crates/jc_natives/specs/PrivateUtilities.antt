@@ -1,4 +1,4 @@
--- The tests and works of members of Util on words without tags.
+-- Private. The tests and works of members of Util on words without tags.
 use Rattle.std.specs.Prelude.{ℕ, ◌+◌, List, [], ◌∷◌, replicate}
 use Rattle.jc_natives.specs.Cells.{high, low, order_of, word, word_of_bytes}
 use Rattle.jc_natives.specs.Kept.{Kept}

@@ -13,12 +13,12 @@ use Rattle.jc_cap.specs.Handler.{next_handler}
 use Rattle.jc_cap.specs.MethodHeader.{next_header}
 
 -- the handler table, and all bytes of the info: a method may stand at any offset, and methods may overlap
-pub record Methods : Type 0 where
+pub record MethodComponent : Type 0 where
   pub handlers : List Handler
   pub info : List ℕ
 
 -- a byte that counts the handlers, the handlers, and any bytes after them
-unfoldable pub methods_of : List ℕ → Result Methods LoadFault
+unfoldable pub methods_of : List ℕ → Result MethodComponent LoadFault
 methods_of info = do
   count ← field method_tag (next_u1 info)
   table ← repeat next_handler count.value count.rest
@@ -31,7 +31,7 @@ pub record Method : Type 0 where
   pub code : List ℕ
 
 -- the method whose header stands at an offset
-abbrev pub method_at : ℕ → Methods → Option Method
+abbrev pub method_at : ℕ → MethodComponent → Option Method
 method_at offset methods =
     option_map (λ header. record {
       header = header.value;
@@ -40,8 +40,8 @@ method_at offset methods =
     })
     (result_ok (next_header (drop offset methods.info)))
 
-abbrev pub header_at : ℕ → Methods → Option MethodHeader
+abbrev pub header_at : ℕ → MethodComponent → Option MethodHeader
 header_at offset methods = option_map (λ method. method.header) (method_at offset methods)
 
-abbrev pub code_at : ℕ → Methods → Option (List ℕ)
+abbrev pub code_at : ℕ → MethodComponent → Option (List ℕ)
 code_at offset methods = option_map (λ method. method.code) (method_at offset methods)

@@ -60,9 +60,9 @@ pub struct MethodInfo<'a> {
 }
 
 impl<'a> Model for MethodInfo<'a> {
-    ghost use Rattle.jc_cap.specs.MethodComponent.{Methods};
+    ghost use Rattle.jc_cap.specs.MethodComponent.{MethodComponent};
 
-    ghost Value = { Methods };
+    ghost Value = { MethodComponent };
 
     ghost view = { λ m. record { handlers = m.handlers; info = m.info.now } };
 }

@@ -11,7 +11,7 @@ use Rattle.jc_base.specs.Rows.{part}
 use Rattle.jc_base.specs.declared.fault.LoadFault.{LoadFault}
 use Rattle.jc_base.proofs.Binding.{the_some, none_some, both_true}
 use Rattle.jc_cap.specs.declared.applets.Applet.{Applet}
-use Rattle.jc_cap.specs.MethodComponent.{Method, Methods, header_at, method_at}
+use Rattle.jc_cap.specs.MethodComponent.{Method, MethodComponent, header_at, method_at}
 use Rattle.jc_cap.specs.declared.handler.Handler.{Handler}
 use Rattle.jc_cap.specs.declared.method_header.MethodHeader.{MethodHeader}
 use Rattle.jc_cap_desc.proofs.Differing.{body_offset, clash, is_not, made, or_left, or_right}
@@ -69,13 +69,13 @@ abbrev describes : Bool → Method → Bool
 describes coded found = cond found.header.is_abstract (not coded) coded
 
 -- a row's handlers, and its code with them
-abbrev pub its_handlers : Methods → MethodRow → Option (List Handler)
+abbrev pub its_handlers : MethodComponent → MethodRow → Option (List Handler)
 its_handlers methods m = part m.handler_index m.handler_count methods.handlers
 
 abbrev pub body_in : MethodRow → Bool → Option Method → Option (List Handler) → Option MethodBody
 body_in m coded o p = cond coded (option_and_then (λ found. option_map (made m found) p) o) None
 
-module _ (methods : Methods) (m : MethodRow) (described : is_described methods m ≡ true) where
+module _ (methods : MethodComponent) (m : MethodRow) (described : is_described methods m ≡ true) where
   -- a row whose header isn't abstract has code
   concrete_coded : (header : MethodHeader) → header_at m.offset methods ≡ Some header → header.is_abstract ≡ false
       → (b : MethodBody) × (body_of_method methods m ≡ Some b)

@@ -11,7 +11,7 @@ use Rattle.jc_base.specs.Rows.{part, repeat}
 use Rattle.jc_base.specs.Tag.{method_tag}
 use Rattle.jc_base.specs.declared.fault.LoadFault.{LoadFault}
 use Rattle.jc_base.proofs.Binding.{bind_ok, the_ok, the_some, none_some, both_true}
-use Rattle.jc_cap.specs.MethodComponent.{Method, Methods, method_at, methods_of}
+use Rattle.jc_cap.specs.MethodComponent.{Method, MethodComponent, method_at, methods_of}
 use Rattle.jc_cap.specs.Handler.{next_handler}
 use Rattle.jc_cap.specs.MethodHeader.{next_header}
 use Rattle.jc_cap.specs.declared.method_header.MethodHeader.{MethodHeader}
@@ -75,7 +75,7 @@ module _ {A B : Type 0} (f : A → Option B) (number : A → ℕ) (its : B → �
 abbrev pub made : MethodRow → Method → List Handler → MethodBody
 made m found handlers = record { offset = m.offset; code_offset = found.code_offset; code = take m.bytecode_count found.code; handlers = handlers }
 
-pub body_offset : (methods : Methods) (m : MethodRow) (b : MethodBody) → body_of_method methods m ≡ Some b → b.offset ≡ m.offset
+pub body_offset : (methods : MethodComponent) (m : MethodRow) (b : MethodBody) → body_of_method methods m ≡ Some b → b.offset ≡ m.offset
 body_offset methods m b e = by_parts (has_code m) (method_at m.offset methods) (part m.handler_index m.handler_count methods.handlers) e
   where
     by_parts : (coded : Bool) (o : Option Method) (p : Option (List Handler)) → cond coded (option_and_then (λ found. option_map (made m found) p) o) None ≡ Some b → b.offset ≡ m.offset
@@ -97,14 +97,14 @@ all_made {B = B} f P each (x ∷ xs) n b e = by_first (f x) refl (λ m. all_made
     by_first (Some c) is rest (suc n) e = rest n e
 
 -- a header that was read begins before the end of the info
-abbrev placed : Methods → Read MethodHeader → Method
+abbrev placed : MethodComponent → Read MethodHeader → Method
 placed methods header = record { header = header.value; code_offset = length methods.info - length header.rest; code = header.rest }
 
 no_header : (f : Read MethodHeader → Method) (found : Method) → option_map f (result_ok (next_header [])) ≡ Some found → ⊥
 unfolding next_header
 no_header f found e = none_some found e
 
-within_info : (offset : ℕ) (methods : Methods) (found : Method) → method_at offset methods ≡ Some found → offset < length methods.info
+within_info : (offset : ℕ) (methods : MethodComponent) (found : Method) → method_at offset methods ≡ Some found → offset < length methods.info
 within_info offset methods found e = by_rest (drop offset methods.info) refl e
   where
     by_rest : (rest : List ℕ) → drop offset methods.info ≡ rest → option_map (placed methods) (result_ok (next_header rest)) ≡ Some found
@@ -115,15 +115,15 @@ within_info offset methods found e = by_rest (drop offset methods.info) refl e
         omega (arith, left, length-drop offset methods.info)
 
 -- the info is kept
-info_kept : (info : List ℕ) (methods : Methods) → methods_of info ≡ Ok methods → info ≡ methods.info
+info_kept : (info : List ℕ) (methods : MethodComponent) → methods_of info ≡ Ok methods → info ≡ methods.info
 unfolding methods_of
 info_kept info methods e =
     let count = bind_ok (field method_tag (next_u1 info)) _ methods e in
     let table = bind_ok (repeat next_handler (count.0).value (count.0).rest) _ methods count.2 in
-    ap (λ (m : Methods). m.info) (the_ok _ methods table.2)
+    ap (λ (m : MethodComponent). m.info) (the_ok _ methods table.2)
 
 -- a method with code has a header, so its offset is before the end of the info
-body_within : (methods : Methods) (m : MethodRow) (b : MethodBody) → body_of_method methods m ≡ Some b → b.offset < length methods.info
+body_within : (methods : MethodComponent) (m : MethodRow) (b : MethodBody) → body_of_method methods m ≡ Some b → b.offset < length methods.info
 body_within methods m b e = by_parts (has_code m) (method_at m.offset methods) refl (part m.handler_index m.handler_count methods.handlers) e
   where
     by_parts : (coded : Bool) (o : Option Method) → method_at m.offset methods ≡ o → (p : Option (List Handler))

@@ -24,7 +24,7 @@ use Rattle.jc_cap.specs.Applets.{applets_of}
 use Rattle.jc_cap.specs.declared.applets.Applet.{Applet}
 use Rattle.jc_cap.specs.Header.{Heading, header_of}
 use Rattle.jc_cap.specs.declared.header.Format.{Format}
-use Rattle.jc_cap.specs.MethodComponent.{Methods, methods_of}
+use Rattle.jc_cap.specs.MethodComponent.{MethodComponent, methods_of}
 use Rattle.jc_cap.specs.Pool.{pool_of}
 use Rattle.jc_cap.specs.declared.entry.PoolEntry.{PoolEntry}
 use Rattle.jc_cap_desc.specs.Across.{is_row_of, count_rows, rows_match, methods_differ}
@@ -154,7 +154,7 @@ pub is_fine : (fine : Bool) (tag : ℕ) → unless fine tag ≡ None → fine �
 is_fine true tag e = refl
 is_fine false tag e = absurd cc
 
-across_matches : (info : DescriptorInfo) (records : List (Placed Record)) (pool : Option (List PoolEntry)) (applets : Option (Option (List Applet))) (methods : Option Methods)
+across_matches : (info : DescriptorInfo) (records : List (Placed Record)) (pool : Option (List PoolEntry)) (applets : Option (Option (List Applet))) (methods : Option MethodComponent)
     → across_fault (Some info) (Some records) pool applets methods ≡ None → rows_match records info.classes ≡ true
 across_matches info records pool applets methods e =
     let last = unless (rows_match records info.classes && methods_differ records info.classes) descriptor_tag in

@@ -4,7 +4,7 @@ use Rattle.std.proofs.Common.{Bool, false, is_some, length, nat_le}
 use Rattle.std.specs.Option.{option_map, option_map_or}
 use Rattle.jc_base.specs.Parts.{Infos}
 use Rattle.jc_base.specs.declared.fault.LoadFault.{LoadFault}
-use Rattle.jc_cap.specs.MethodComponent.{Method, Methods, header_at, method_at}
+use Rattle.jc_cap.specs.MethodComponent.{Method, MethodComponent, header_at, method_at}
 use Rattle.jc_cap_desc.proofs.Lists.{all_at, no_true}
 use Rattle.jc_cap_desc.proofs.Reading.{ascends, read_of}
 use Rattle.jc_cap_desc.proofs.Rowed.{has_row, is_given}
@@ -14,7 +14,7 @@ use Rattle.jc_cap_desc.specs.Shape.{HaveHeaders, IsOfClass, MethodShape, Package
 use Rattle.jc_cap_desc.specs.declared.class_row.MethodRow.{MethodRow}
 
 -- a method that stands inside has a header
-header_there : (methods : Methods) (m : MethodRow) → stands_inside methods m ≡ true
+header_there : (methods : MethodComponent) (m : MethodRow) → stands_inside methods m ≡ true
     → is_some (header_at m.offset methods) ≡ true
 header_there methods m e = by_method (method_at m.offset methods) e
   where

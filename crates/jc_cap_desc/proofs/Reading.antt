@@ -16,7 +16,7 @@ use Rattle.jc_cap.specs.Imports.{imports_of}
 use Rattle.jc_cap.specs.Statics.{static_fields_of}
 use Rattle.jc_cap.specs.declared.applets.Applet.{Applet}
 use Rattle.jc_cap.specs.Header.{Heading, header_of}
-use Rattle.jc_cap.specs.MethodComponent.{Methods, methods_of}
+use Rattle.jc_cap.specs.MethodComponent.{MethodComponent, methods_of}
 use Rattle.jc_cap.specs.Pool.{pool_of}
 use Rattle.jc_cap_desc.proofs.Few.{Ascend, descriptor_is, layout_is, none_told, records_ascend}
 use Rattle.jc_cap_desc.proofs.Tested.{IsTested, tested}
@@ -43,7 +43,7 @@ pub record IsRead (infos : Infos) (p : Package) : Type 0 where
   pub heading : Heading
   pub applets : Option (List Applet)
   pub records : List (Placed Record)
-  pub methods : Methods
+  pub methods : MethodComponent
   pub info : DescriptorInfo
   pub is_heading : header_of infos.header ≡ Ok heading
   pub are_applets : applets_of infos.applet ≡ Ok applets

@@ -13,7 +13,7 @@ use Rattle.jc_base.specs.declared.placed_rows.Placed.{Placed}
 use Rattle.jc_base.proofs.Binding.{the_some, none_some, both_true}
 use Rattle.jc_cap.specs.ClassComponent.{is_class}
 use Rattle.jc_cap.specs.declared.record.Record.{Record}
-use Rattle.jc_cap.specs.MethodComponent.{Methods, header_at}
+use Rattle.jc_cap.specs.MethodComponent.{MethodComponent, header_at}
 use Rattle.jc_cap.specs.declared.method_header.MethodHeader.{MethodHeader}
 use Rattle.jc_cap_desc.proofs.Few.{Ascend, is_equal}
 use Rattle.jc_cap_desc.proofs.Lists.{no_true, there_some, mapped, all_at, found_at}
@@ -160,17 +160,17 @@ find_one offset (first ∷ rows) (suc n) row count at of =
 -- ---- methods
 
 -- the method of a class that a row gives
-abbrev pub given : List (Placed (Signature ClassRef)) → Methods → MethodRow → Option MethodShape
+abbrev pub given : List (Placed (Signature ClassRef)) → MethodComponent → MethodRow → Option MethodShape
 given types methods = method_shape types (λ offset. header_at offset methods)
 
 -- a method is its row with a type and a header
-pub record IsGiven (types : List (Placed (Signature ClassRef))) (methods : Methods) (row : MethodRow)
+pub record IsGiven (types : List (Placed (Signature ClassRef))) (methods : MethodComponent) (row : MethodRow)
     (m : MethodShape) : Type 0 where
   pub signature : Signature ClassRef
   pub typed : row_at row.type_offset types ≡ Some signature
   pub is : the_method row (header_at row.offset methods) signature ≡ m
 
-pub is_given : (types : List (Placed (Signature ClassRef))) (methods : Methods) (row : MethodRow) (m : MethodShape)
+pub is_given : (types : List (Placed (Signature ClassRef))) (methods : MethodComponent) (row : MethodRow) (m : MethodShape)
     → given types methods row ≡ Some m → IsGiven types methods row m
 is_given types methods row m e =
     let type = mapped (the_method row (header_at row.offset methods)) (row_at row.type_offset types) m e in
@@ -192,7 +192,7 @@ method_typed types (row ∷ rows) (suc n) m typed at =
     method_typed types rows n m rest at
 
 -- the row of a method
-pub record HasRow (records : List (Placed Record)) (info : DescriptorInfo) (methods : Methods)
+pub record HasRow (records : List (Placed Record)) (info : DescriptorInfo) (methods : MethodComponent)
     (m : MethodShape) : Type 0 where
   pub row : MethodRow
   pub place : ℕ
@@ -200,19 +200,19 @@ pub record HasRow (records : List (Placed Record)) (info : DescriptorInfo) (meth
   pub made : given info.types methods row ≡ Some m
 
 -- the method of a row
-pub record GivesMethod (info : DescriptorInfo) (methods : Methods) (shape : Shape) (row : MethodRow) : Type 0 where
+pub record GivesMethod (info : DescriptorInfo) (methods : MethodComponent) (shape : Shape) (row : MethodRow) : Type 0 where
   pub method : MethodShape
   pub of_class : IsOfClass shape method
   pub made : given info.types methods row ≡ Some method
 
 -- the headers of a class's methods, and the rows of a class's methods
-abbrev headers_if : Bool → Methods → ℕ → Option MethodHeader
+abbrev headers_if : Bool → MethodComponent → ℕ → Option MethodHeader
 headers_if b methods offset = cond b (header_at offset methods) None
 
 abbrev rows_of : List (Placed Record) → ClassRow → List MethodRow
 rows_of records row = cond (is_interface_row records row) [] row.methods
 
-module _ (records : List (Placed Record)) (info : DescriptorInfo) (methods : Methods) (shape : Shape)
+module _ (records : List (Placed Record)) (info : DescriptorInfo) (methods : MethodComponent) (shape : Shape)
     (classes : filter_map (class_shape info methods) records ≡ shape.classes) where
   pub has_row : Ascend 0 records → (m : MethodShape) → IsOfClass shape m → HasRow records info methods m
   has_row up m of =

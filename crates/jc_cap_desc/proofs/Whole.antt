@@ -13,7 +13,7 @@ use Rattle.jc_base.specs.declared.fault.LoadFault.{LoadFault}
 use Rattle.jc_base.specs.declared.placed_rows.Placed.{Placed}
 use Rattle.jc_base.proofs.Binding.{the_some, none_some, both_true}
 use Rattle.jc_cap.specs.declared.record.Record.{Record}
-use Rattle.jc_cap.specs.MethodComponent.{Methods, method_at}
+use Rattle.jc_cap.specs.MethodComponent.{MethodComponent, method_at}
 use Rattle.jc_cap.specs.declared.method_header.MethodHeader.{MethodHeader}
 use Rattle.jc_cap_desc.proofs.Bodied.{body_in, coded_there, its_handlers}
 use Rattle.jc_cap_desc.proofs.Few.{is_equal}
@@ -119,7 +119,7 @@ field_typed types this (first ∷ fields) n f typed at =
     by_place (suc n) typed rest at = rest n at
 
 -- without code there is no body
-no_body : (methods : Methods) (m : MethodRow) → has_code m ≡ false → body_of_method methods m ≡ None
+no_body : (methods : MethodComponent) (m : MethodRow) → has_code m ≡ false → body_of_method methods m ≡ None
 no_body methods m none = ap (λ b. body_in m b (method_at m.offset methods) (its_handlers methods m)) none
 
 -- ---- a package that was read

@@ -17,7 +17,7 @@ use Rattle.jc_base.specs.declared.placed_rows.Placed.{Placed}
 use Rattle.jc_cap.specs.ClassComponent.{is_class}
 use Rattle.jc_cap.specs.declared.record.Record.{Record}
 use Rattle.jc_cap.specs.declared.applets.Applet.{Applet}
-use Rattle.jc_cap.specs.MethodComponent.{Method, Methods, method_at}
+use Rattle.jc_cap.specs.MethodComponent.{Method, MethodComponent, method_at}
 use Rattle.jc_cap.specs.declared.handler.Handler.{Handler}
 use Rattle.jc_cap_desc.specs.declared.class_row.ClassRow.{ClassRow}
 use Rattle.jc_cap_desc.specs.declared.class_row.MethodRow.{MethodRow}
@@ -83,20 +83,20 @@ stays_inside first behind h =
     && nat_lt h.handler behind
 
 -- the handlers that a method names, if the table has them, stay inside its code
-abbrev pub handlers_stay_inside : Methods → MethodRow → Method → Bool
+abbrev pub handlers_stay_inside : MethodComponent → MethodRow → Method → Bool
 handlers_stay_inside methods m found =
     option_map_or (list_all (stays_inside found.code_offset (found.code_offset + m.bytecode_count)))
     (part m.handler_index m.handler_count methods.handlers) true
 
 -- header, code and handlers of a method of a class stand where they may; a failure is a fault of the Method component
-abbrev pub stands_inside : Methods → MethodRow → Bool
+abbrev pub stands_inside : MethodComponent → MethodRow → Bool
 stands_inside methods m =
     option_map_or (λ found. nat_le m.bytecode_count (length found.code) && handlers_stay_inside methods m found)
     (method_at m.offset methods) false
 
 -- a method has code if and only if it isn't abstract; and the table has the handlers that it names. A failure is a
 -- fault of the Descriptor component
-abbrev pub is_described : Methods → MethodRow → Bool
+abbrev pub is_described : MethodComponent → MethodRow → Bool
 is_described methods m =
     option_map_or (λ found. if found.header.is_abstract then not (has_code m) else has_code m)
     (method_at m.offset methods) true

@@ -17,7 +17,7 @@ use Rattle.jc_cap.specs.Imports.{imports_of}
 use Rattle.jc_cap.specs.Statics.{static_fields_of}
 use Rattle.jc_cap.specs.declared.applets.Applet.{Applet}
 use Rattle.jc_cap.specs.Header.{Heading, header_of}
-use Rattle.jc_cap.specs.MethodComponent.{Methods, methods_of}
+use Rattle.jc_cap.specs.MethodComponent.{MethodComponent, methods_of}
 use Rattle.jc_cap.specs.Pool.{pool_of}
 use Rattle.jc_cap.specs.declared.entry.PoolEntry.{PoolEntry}
 use Rattle.jc_cap_desc.specs.Component as Descriptor
@@ -43,7 +43,7 @@ told (Some a) None = Some a
 told (Some a) (Some b) = Some (least_of a b)
 
 -- the tests on methods, if the handler table of the Method component fits
-abbrev pub methods_fault : List (Placed Record) → DescriptorInfo → Option Methods → Option LoadFault
+abbrev pub methods_fault : List (Placed Record) → DescriptorInfo → Option MethodComponent → Option LoadFault
 methods_fault records info None = None
 methods_fault records info (Some methods) =
     told (unless (list_all (stands_inside methods) (class_methods records info.classes)) method_tag)
@@ -58,7 +58,7 @@ applets_fault records info (Some (Some applets)) =
 
 -- the tests with classes, if the Class component follows its layout
 abbrev pub classes_fault : Option (List (Placed Record)) → DescriptorInfo → Option (Option (List Applet))
-    → Option Methods → Option LoadFault
+    → Option MethodComponent → Option LoadFault
 classes_fault None info applets methods = None
 classes_fault (Some records) info applets methods =
     told (applets_fault records info applets)
@@ -72,7 +72,7 @@ pool_fault (Some pool) info = unless (length pool == length info.pool_types) des
 
 -- all tests across components, if the Descriptor component follows its layout
 abbrev pub across_fault : Option DescriptorInfo → Option (List (Placed Record)) → Option (List PoolEntry)
-    → Option (Option (List Applet)) → Option Methods → Option LoadFault
+    → Option (Option (List Applet)) → Option MethodComponent → Option LoadFault
 across_fault None records pool applets methods = None
 across_fault (Some info) records pool applets methods =
     told (pool_fault pool info) (classes_fault records info applets methods)

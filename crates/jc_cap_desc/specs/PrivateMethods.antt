@@ -5,7 +5,7 @@ use Rattle.std.specs.List.{list_all}
 use Rattle.std.specs.Option.{option_map_or}
 use Rattle.jc_base.specs.declared.placed_rows.Placed.{Placed}
 use Rattle.jc_cap.specs.declared.record.Record.{Record}
-use Rattle.jc_cap.specs.MethodComponent.{Method, Methods}
+use Rattle.jc_cap.specs.MethodComponent.{Method, MethodComponent}
 use Rattle.jc_cap.specs.declared.handler.Handler.{Handler}
 use Rattle.jc_cap_desc.specs.Across.{has_code, is_described, is_interface_row, stands_inside, stays_inside}
 use Rattle.jc_cap_desc.specs.declared.class_row.ClassRow.{ClassRow}
@@ -29,7 +29,8 @@ code_is_described m found =
     option_map_or (λ found. if found.header.is_abstract then not (has_code m) else has_code m) found true
 
 -- the results of both tests on the methods so far and on these
-pub record IsStandingOf (before : MethodTests) (methods : Methods) (rows : List MethodRow) (all : MethodTests) : Type 0 where
+pub record IsStandingOf (before : MethodTests) (methods : MethodComponent) (rows : List MethodRow)
+    (all : MethodTests) : Type 0 where
   pub inside : all.inside ≡ (before.inside && list_all (stands_inside methods) rows)
   pub described : all.described ≡ (before.described && list_all (is_described methods) rows)
 

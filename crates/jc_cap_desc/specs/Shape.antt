@@ -17,7 +17,7 @@ use Rattle.jc_cap.specs.declared.record.RecordBody.{RecordBody}
 use Rattle.jc_cap.specs.Statics.{StaticImage}
 use Rattle.jc_cap.specs.declared.applets.Applet.{Applet}
 use Rattle.jc_cap.specs.declared.exports.ExportedClass.{ExportedClass}
-use Rattle.jc_cap.specs.MethodComponent.{Methods, method_at, header_at}
+use Rattle.jc_cap.specs.MethodComponent.{MethodComponent, method_at, header_at}
 use Rattle.jc_cap.specs.declared.handler.Handler.{Handler}
 use Rattle.jc_cap.specs.declared.method_header.MethodHeader.{MethodHeader}
 use Rattle.jc_cap.specs.declared.entry.PoolEntry.{PoolEntry}
@@ -161,11 +161,11 @@ method_shape types header m =
     (row_at m.type_offset types)
 
 -- the headers of a class's methods; an interface's have none
-abbrev pub headers_of : Methods → RecordBody → ℕ → Option MethodHeader
+abbrev pub headers_of : MethodComponent → RecordBody → ℕ → Option MethodHeader
 headers_of methods body offset = if is_class body then header_at offset methods else None
 
 -- a record joined with its row
-abbrev pub joined : List (Placed (Signature ClassRef)) → Methods → Placed Record → ClassRow → ClassShape
+abbrev pub joined : List (Placed (Signature ClassRef)) → MethodComponent → Placed Record → ClassRow → ClassShape
 joined types methods p row = record {
   offset = p.offset;
   body = p.row.body;
@@ -175,12 +175,12 @@ joined types methods p row = record {
 }
 
 -- a record, if it has a row
-abbrev pub class_shape : DescriptorInfo → Methods → Placed Record → Option ClassShape
+abbrev pub class_shape : DescriptorInfo → MethodComponent → Placed Record → Option ClassShape
 class_shape info methods p = option_map (joined info.types methods p) (find (is_row_of p.offset) info.classes)
 
 -- the shape. In a package that is read each record has a row and each row's types exist, so nothing is left out
 abbrev pub shape_of : PackageInfo → List PackageInfo → List ExportedClass → List (Placed Record) → DescriptorInfo
-    → Methods → Shape
+    → MethodComponent → Shape
 shape_of named imports exports records info methods = record {
   «package» = named;
   imports = imports;
@@ -189,7 +189,7 @@ shape_of named imports exports records info methods = record {
 }
 
 -- the code and the handlers of a method of a class, if it has code
-abbrev pub body_of_method : Methods → MethodRow → Option MethodBody
+abbrev pub body_of_method : MethodComponent → MethodRow → Option MethodBody
 body_of_method methods m =
     if has_code m
     then option_and_then (λ found. option_map (λ handlers. record {
@@ -207,7 +207,7 @@ pool_type types offset = if offset == no_type then None else row_at offset types
 
 -- the body
 abbrev pub body_of : List ℕ → Option (List Applet) → List PoolEntry → StaticImage → List (Placed Record)
-    → DescriptorInfo → Methods → Body
+    → DescriptorInfo → MethodComponent → Body
 body_of name applets pool statics records info methods = record {
   name = name;
   applets = applets;

@@ -7,7 +7,7 @@ use Rattle.jc_base.specs.declared.placed_rows.Placed.{Placed}
 use Rattle.jc_cap.specs.ClassComponent.{classes_of}
 use Rattle.jc_cap.specs.declared.record.Record.{Record}
 use Rattle.jc_cap.specs.Header.{Heading, header_of}
-use Rattle.jc_cap.specs.MethodComponent.{Methods, methods_of}
+use Rattle.jc_cap.specs.MethodComponent.{MethodComponent, methods_of}
 use Rattle.jc_cap_desc.specs.Across.{class_methods, has_code, is_row_of, rows_match}
 use Rattle.jc_cap_desc.specs.Shape.{ClassShape, Package, body_of_method, class_shape, field_shape, headers_of}
 use Rattle.jc_cap_desc.specs.Shape.{method_shape}
@@ -20,7 +20,8 @@ abbrev pub AllGive : {A B : Type 0} → (A → Option B) → List A → List B �
 AllGive f xs ys = map f xs ≡ map Some ys
 
 -- a class has each field and each method of its record's row
-pub record HasWholeRow (info : DescriptorInfo) (bodies : Methods) (r : Placed Record) (k : ClassShape) : Type 0 where
+pub record HasWholeRow (info : DescriptorInfo) (bodies : MethodComponent) (r : Placed Record) (k : ClassShape)
+    : Type 0 where
   pub row : ClassRow
   pub its : find (is_row_of r.offset) info.classes ≡ Some row
   pub fields : AllGive (field_shape info.types) row.fields k.fields
@@ -28,7 +29,7 @@ pub record HasWholeRow (info : DescriptorInfo) (bodies : Methods) (r : Placed Re
 
 -- each record has exactly one row, and each row names a record; each record is a class of the package, which has all of
 -- its row; and each method of a class with code is a body of the package
-pub record IsWhole (records : List (Placed Record)) (info : DescriptorInfo) (methods : Methods)
+pub record IsWhole (records : List (Placed Record)) (info : DescriptorInfo) (methods : MethodComponent)
     (p : Package) : Type 0 where
   pub matched : rows_match records info.classes ≡ true
   pub classes : AllGive (class_shape info methods) records p.shape.classes
@@ -41,7 +42,7 @@ pub record HasWholeOf (infos : Infos) (p : Package) : Type 0 where
   pub heading : Heading
   pub records : List (Placed Record)
   pub info : DescriptorInfo
-  pub methods : Methods
+  pub methods : MethodComponent
   pub is_heading : header_of infos.header ≡ Ok heading
   pub are_records : classes_of heading.format infos.class ≡ Ok records
   pub is_info : descriptor_of infos.descriptor ≡ Ok info

@@ -8,7 +8,7 @@ use Rattle.jc_cert.specs.declared.stated_type.StatedType.{StatedType}
 use Rattle.jc_cert.specs.declared.stated_type.StatedType.TheVariants.{Top, Word, Null, Class, BooleanArray, ByteArray}
 use Rattle.jc_cert.specs.declared.stated_type.StatedType.TheVariants.{ShortArray, ReferenceArray}
 use Rattle.jc_cert.specs.declared.cert.StateRow.{StateRow}
-use Rattle.jc_cert.specs.declared.cert.MethodRow.{MethodRow}
+use Rattle.jc_cert.specs.declared.cert.MethodStates.{MethodStates}
 
 -- the types at a pc, the operands bottom first
 pub record Stated : Type 0 where
@@ -74,8 +74,8 @@ pub record IsCert (rows : List Row) : Type 0 where
 abbrev pub stated : StateRow → Stated
 stated s = record { pc = s.pc; locals = s.locals.items; operands = s.operands.items }
 
-abbrev pub row : MethodRow → Row
+abbrev pub row : MethodStates → Row
 row m = record { offset = m.offset; states = map stated m.states.items }
 
-abbrev pub rows : List MethodRow → List Row
+abbrev pub rows : List MethodStates → List Row
 rows methods = map row methods

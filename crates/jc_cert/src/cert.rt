@@ -21,7 +21,7 @@ pub struct StateRow {
 
 /// The claims of a certificate for one method.
 #[derive(Debug, Drop)]
-pub struct MethodRow {
+pub struct MethodStates {
     /// The method, by the offset of its header in the Method component.
     pub offset: u16,
     /// The states at its places, at least one, by strictly ascending pc.
@@ -31,7 +31,7 @@ pub struct MethodRow {
 /// A certificate: rows of methods, by strictly ascending offset.
 #[derive(Debug, Drop)]
 pub struct Cert {
-    methods: Vec<MethodRow>,
+    methods: Vec<MethodStates>,
 }
 
 impl Model for Cert {
@@ -60,7 +60,7 @@ impl Cert {
     /// The certificate with these rows, if they are in order: rows of methods by strictly ascending offset, each with
     /// at least one state, these by strictly ascending pc, none with more than 65,535 locals or 255 operands, and at
     /// most 65,535 rows and 65,535 states in a row. It takes no memory.
-    pub fn new(methods: Vec<MethodRow>) -> Option<Cert>
+    pub fn new(methods: Vec<MethodStates>) -> Option<Cert>
         ensures made { IfSome result (λ c. c ≡ rows methods.items) }
         ensures none { IfNone result (IsCert (rows methods.items) → ⊥) }
     {
@@ -71,7 +71,7 @@ impl Cert {
     }
 
     /// The certificate with these rows.
-    pub(crate) fn from_rows(methods: Vec<MethodRow>) -> Cert
+    pub(crate) fn from_rows(methods: Vec<MethodStates>) -> Cert
         requires { IsCert (rows methods.items) }
         ensures { result ≡ rows methods.items }
     {
@@ -79,7 +79,7 @@ impl Cert {
     }
 
     /// The rows, by strictly ascending offset.
-    pub fn rows(&self) -> &[MethodRow]
+    pub fn rows(&self) -> &[MethodStates]
         ensures view { rows result.now ≡ self.now }
         ensures cert { IsCert self.now }
     {

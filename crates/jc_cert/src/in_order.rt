@@ -5,7 +5,7 @@ ghost use Rattle.std.specs.List.{AllByRecursion};
 ghost use Rattle.jc_cert.specs.Cert.{IsSpelledClass, IsStatedType, IsStated, IsRow, IsCert, PcsAscend, OffsetsAscend};
 ghost use Rattle.jc_cert.specs.Cert.{stated, row, rows};
 
-use crate::cert::{MethodRow, StateRow};
+use crate::cert::{MethodStates, StateRow};
 use crate::stated_type::{SpelledClass, StatedType};
 
 /// Each name of a class has an offset and an AID within their limits. It does nothing.
@@ -70,7 +70,7 @@ fn are_states(states: &[StateRow]) -> bool
 }
 
 /// Whether a row's offset is at least `least`, and it has at least one state, all in order.
-fn is_row_from(method: &MethodRow, least: u32) -> bool
+fn is_row_from(method: &MethodStates, least: u32) -> bool
     ensures { IsTrue result ↔ ((least ≤ method.now.offset) × IsRow (row method.now)) }
 {
     let count = method.states.len();
@@ -78,7 +78,7 @@ fn is_row_from(method: &MethodRow, least: u32) -> bool
 }
 
 /// Whether rows are in order, by strictly ascending offset.
-fn are_rows(methods: &[MethodRow]) -> bool
+fn are_rows(methods: &[MethodStates]) -> bool
     ensures { IsTrue result ↔
         (AllByRecursion IsRow (rows methods.now) × OffsetsAscend 0 (rows methods.now)) }
 {
@@ -93,7 +93,7 @@ fn are_rows(methods: &[MethodRow]) -> bool
 }
 
 /// Whether rows are a certificate.
-pub(crate) fn is_cert(methods: &[MethodRow]) -> bool
+pub(crate) fn is_cert(methods: &[MethodStates]) -> bool
     ensures { IsTrue result ↔ IsCert (rows methods.now) }
 {
     methods.len() <= 65_535 && are_rows(methods)

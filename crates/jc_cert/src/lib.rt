@@ -10,7 +10,7 @@ mod refusal;
 mod stated_type;
 mod writing;
 
-pub use cert::{Cert, MethodRow, StateRow};
+pub use cert::{Cert, MethodStates, StateRow};
 pub use law::one_spelling;
 pub use reading::read;
 pub use stated_type::{SpelledClass, StatedType};

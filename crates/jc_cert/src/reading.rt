@@ -8,7 +8,7 @@ ghost use Rattle.jc_cert.specs.PrivateReading.{next_number, next_api, next_other
 ghost use Rattle.jc_cert.specs.PrivateReading.{next_stated, next_states, next_row, next_rows, next_cert};
 ghost use Rattle.jc_cert.specs.PrivateReading.{GivesUnlessMemory};
 
-use crate::cert::{Cert, MethodRow, StateRow};
+use crate::cert::{Cert, MethodStates, StateRow};
 use crate::refusal::{NoSpelling, Refusal};
 use crate::stated_type::{SpelledClass, StatedType};
 use jc_api::ApiClass;
@@ -126,16 +126,16 @@ fn read_states(alloc: Global, cursor: &mut Cursor, count: u16) -> Result<Vec<Sta
 }
 
 #[tactic(auto, unfolding(crate::specs::PrivateReading::next_row))]
-fn read_row(alloc: Global, cursor: &mut Cursor, least: u32) -> Result<MethodRow, Refusal>
+fn read_row(alloc: Global, cursor: &mut Cursor, least: u32) -> Result<MethodStates, Refusal>
     ensures { GivesUnlessMemory row result cursor.new (next_row least cursor.old) }
 {
     let offset = read_number(cursor, least)?;
     let count = read_number(cursor, 1)?;
     let states = read_states(alloc, cursor, count)?;
-    Ok(MethodRow { offset, states })
+    Ok(MethodStates { offset, states })
 }
 
-fn read_rows(alloc: Global, cursor: &mut Cursor, count: u16) -> Result<Vec<MethodRow>, Refusal>
+fn read_rows(alloc: Global, cursor: &mut Cursor, count: u16) -> Result<Vec<MethodStates>, Refusal>
     ensures { GivesUnlessMemory (λ methods. rows methods.items) result cursor.new (next_rows count 0 cursor.old) }
 {
     let mut methods = Vec::new(alloc);
@@ -149,7 +149,7 @@ fn read_rows(alloc: Global, cursor: &mut Cursor, count: u16) -> Result<Vec<Metho
 }
 
 #[tactic(auto, unfolding(crate::specs::PrivateReading::next_cert))]
-fn read_all(alloc: Global, bytes: &[u8]) -> Result<Vec<MethodRow>, Refusal>
+fn read_all(alloc: Global, bytes: &[u8]) -> Result<Vec<MethodStates>, Refusal>
     ensures { GivesUnlessMemory (λ methods. rows methods.items) result [] (next_cert bytes.now) }
 {
     let mut cursor = Cursor::new(bytes);

@@ -5,7 +5,7 @@ ghost use Rattle.std.specs.List.{flat_map};
 ghost use Rattle.jc_cert.specs.Cert.{IsStated, IsRow, IsCert, stated, row, rows};
 ghost use Rattle.jc_cert.specs.Writing.{class_bytes, type_bytes, stated_bytes, row_bytes, spelling};
 
-use crate::cert::{Cert, MethodRow, StateRow};
+use crate::cert::{Cert, MethodStates, StateRow};
 use crate::stated_type::{SpelledClass, StatedType};
 use std::alloc::{AllocError, Global};
 
@@ -68,7 +68,7 @@ fn put_state(out: &mut Vec<u8>, state: &StateRow) -> Result<(), AllocError>
     put_types(out, &state.operands)
 }
 
-fn put_row(out: &mut Vec<u8>, method: &MethodRow) -> Result<(), AllocError>
+fn put_row(out: &mut Vec<u8>, method: &MethodStates) -> Result<(), AllocError>
     requires { IsRow (row method.now) }
     ensures { OnOk result (out.new.items ≡ out.old.items ++ row_bytes (row method.now)) }
 {
@@ -80,7 +80,7 @@ fn put_row(out: &mut Vec<u8>, method: &MethodRow) -> Result<(), AllocError>
     Ok(())
 }
 
-fn write_rows(alloc: Global, methods: &[MethodRow]) -> Result<Vec<u8>, AllocError>
+fn write_rows(alloc: Global, methods: &[MethodStates]) -> Result<Vec<u8>, AllocError>
     requires { IsCert (rows methods.now) }
     ensures { IfOk result (λ bytes. bytes.items ≡ spelling (rows methods.now)) }
 {

@@ -8,7 +8,7 @@ use Rattle.jc_cert.specs.declared.stated_type.StatedType.{StatedType}
 use Rattle.jc_names.specs.declared.name.ClassName.{ClassName}
 use Rattle.jc_types.specs.declared.ty.Ty.{Ty}
 use Rattle.jc_check.specs.Rules.{Rules}
-use Rattle.jc_check.specs.Method.{Method}
+use Rattle.jc_check.specs.Method.{CheckedMethod}
 use Rattle.jc_check.specs.Claim.{Claim, type_claimed, types_claimed, claim_of}
 use Rattle.jc_check.specs.Carried.{has_shape}
 use Rattle.jc_check.specs.PrivateMarks.{claim_fits}
@@ -32,7 +32,7 @@ unfolding claim_of
 made rules c d e = grind (arith, and_then_some, map_some, length, as_many)
 
 -- it has the shape of what was stated
-pub same_shape : (rules : Rules) (m : Method) (c : Stated) (d : Claim) → claim_of rules c ≡ Some d → claim_fits m d ≡ has_shape m c
+pub same_shape : (rules : Rules) (m : CheckedMethod) (c : Stated) (d : Claim) → claim_of rules c ≡ Some d → claim_fits m d ≡ has_shape m c
 same_shape rules m c d e = let k = made rules c d e in rw (k.locals, k.operands) refl
 
 -- ---- types one after the other, as a loop finds them

@@ -36,7 +36,7 @@ use Rattle.jc_types.specs.State.{entry_types}
 use Rattle.jc_types.specs.Ty.{type_of_declared}
 use Rattle.jc_types.specs.declared.ty.Ty.{Ty}
 use Rattle.jc_types.specs.declared.ty.Ty.TheVariants.{Class}
-use Rattle.jc_check.specs.Method.{Handler, entry_of}
+use Rattle.jc_check.specs.Method.{CheckedHandler, entry_of}
 use Rattle.jc_check.specs.Package.{arguments_of, catches_all, caught_class, handler_of, max_locals_of, method_of, own_home, receiver_of, throwable, thrown_class}
 use Rattle.jc_check.specs.PrivateKnown.{AreSmallFrames, IsSmallFrame, IsSmallHeader}
 
@@ -153,13 +153,13 @@ in_map f [] k d h = absurd (omega arith)
 in_map f (x ∷ xs) zero d h = (x, refl)
 in_map f (x ∷ xs) (suc k) d h = in_map f xs k d (omega (arith, h))
 
-pub handler_known : (l : Linked) (b : MethodBody) (h : Handler) (c : ClassName) → NameClasses l.world
+pub handler_known : (l : Linked) (b : MethodBody) (h : CheckedHandler) (c : ClassName) → NameClasses l.world
     → ((t : DeclaredType ClassName) → is_known_type (is_class_at l.world) t ≡ true → is_known (is_class_at l.world) (type_of_declared t) ≡ true)
     → Contains (method_of l b).handlers h → h.caught ≡ Some c → is_class_at l.world c ≡ true
 handler_known l b h c names types has e =
     let row = in_map (handler_of l b.code_offset) b.handlers has.0 h has.1 in
     let same : handler_of l b.code_offset row.0 ≡ h = sym row.1 ∙ has.2 in
-    caught_known l.world names types l (row.0).catch_type c refl (ap (λ (h : Handler). h.caught) same ∙ e)
+    caught_known l.world names types l (row.0).catch_type c refl (ap (λ (h : CheckedHandler). h.caught) same ∙ e)
 
 pub entry_known : (l : Linked) (b : MethodBody) → NameClasses l.world
     → ((t : DeclaredType ClassName) → is_known_type (is_class_at l.world) t ≡ true → is_known (is_class_at l.world) (type_of_declared t) ≡ true)

@@ -15,7 +15,7 @@ use Rattle.jc_check.specs.Carried.{Carries}
 use Rattle.jc_check.specs.Checked.{CarriesPackage, IsFirstRefusal, IsMethodCarried, IsPackageTyped, IsCheckRefusal}
 use Rattle.jc_check.specs.Checked.{method, stated_for, stray_offset}
 use Rattle.jc_check.specs.FirstFault.{IsFirstFault}
-use Rattle.jc_check.specs.Method.{Method}
+use Rattle.jc_check.specs.Method.{CheckedMethod}
 use Rattle.jc_check.specs.Package.{method_of, package_rules}
 use Rattle.jc_check.specs.PrivateFirst.{LeastOf}
 use Rattle.jc_check.specs.Rules.{Rules}
@@ -66,11 +66,11 @@ module _ (l : Linked) (rows : List Row) where
 
   -- ---- what carries a package has no first refusal
 
-  pub none_refused : ((rules : Rules) → ListingLaws rules.decoder → (m : Method) (states : List Stated) (fault : Fault) → IsFirstFault rules m states fault → Carries rules m states → ⊥)
+  pub none_refused : ((rules : Rules) → ListingLaws rules.decoder → (m : CheckedMethod) (states : List Stated) (fault : Fault) → IsFirstFault rules m states fault → Carries rules m states → ⊥)
       → ListingLaws (package_rules l).decoder → CarriesPackage l rows → (fault : LoadFault) → IsFirstRefusal l rows fault → ⊥
   none_refused h1 h2 h3 fault h4 = grind (arith, none-some)
 
-  pub memory_alone : ((rules : Rules) → ListingLaws rules.decoder → (m : Method) (states : List Stated) (fault : Fault) → IsFirstFault rules m states fault → Carries rules m states → ⊥)
+  pub memory_alone : ((rules : Rules) → ListingLaws rules.decoder → (m : CheckedMethod) (states : List Stated) (fault : Fault) → IsFirstFault rules m states fault → Carries rules m states → ⊥)
       → ListingLaws (package_rules l).decoder → CarriesPackage l rows → (fault : LoadFault)
       → IsCheckRefusal l rows fault → fault ≡ Memory
   memory_alone h1 h2 h3 fault h4 = grind (arith, none_refused)

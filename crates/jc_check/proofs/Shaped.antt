@@ -19,7 +19,7 @@ use Rattle.jc_types.specs.State.{Types}
 use Rattle.jc_types.specs.declared.ty.Ty.{Ty}
 use Rattle.jc_check.specs.Carried.{Carries, GoesOn, GoesOnIf, NothingGoesOn, Stands, has_shape, state_at, types_of}
 use Rattle.jc_check.specs.Claim.{Claim, claim_of}
-use Rattle.jc_check.specs.Method.{Method, entry_of}
+use Rattle.jc_check.specs.Method.{CheckedMethod, entry_of}
 use Rattle.jc_check.specs.Rules.{Rules, word_rules}
 use Rattle.jc_check.specs.Typing.{HasShape}
 use Rattle.jc_check.proofs.Claims.{IsMade, made}
@@ -41,16 +41,16 @@ both a b h1 = grind arith
 
 -- ---- where a shape comes from
 
-entry_shaped : (m : Method) → HasShape m (entry_of m)
+entry_shaped : (m : CheckedMethod) → HasShape m (entry_of m)
 entry_shaped m = grind (arith, length-append, replicate, length, length-replicate)
 
-after_shaped : (m : Method) (s t : Types) → StaysWithin m.max_stack s t → HasShape m s → HasShape m t
+after_shaped : (m : CheckedMethod) (s t : Types) → StaysWithin m.max_stack s t → HasShape m s → HasShape m t
 after_shaped m s t stays h = record { locals = stays.locals ∙ h.locals; operands = stays.operands h.operands }
 
-stated_shaped : (m : Method) (c : Stated) (d : Claim) → IsMade c d → has_shape m c ≡ true → HasShape m (types_of d)
+stated_shaped : (m : CheckedMethod) (c : Stated) (d : Claim) → IsMade c d → has_shape m c ≡ true → HasShape m (types_of d)
 stated_shaped m c d is fits = grind (arith, length, both, nat_le, eqb-true, length-reverse, leb-true)
 
-claims_shaped : (rules : Rules) (m : Method) (listing : List PlacedInstr) (states : List Stated) (claims : List Claim)
+claims_shaped : (rules : Rules) (m : CheckedMethod) (listing : List PlacedInstr) (states : List Stated) (claims : List Claim)
     → map (claim_of rules) states ≡ map Some claims → AllByRecursion (Stands m listing) states
     → (pc : ℕ) (t : Types) → state_at claims pc ≡ Some t → HasShape m t
 unfolding state_at
@@ -72,7 +72,7 @@ claims_shaped rules m listing (c ∷ states) (d ∷ claims) found fitting pc t e
 -- ---- from instruction to instruction
 
 module _ (rules : Rules) (laws : ListingLaws rules.decoder) (keeps : KeepShapes rules)
-    (m : Method) (states : List Stated) (c : Carries rules m states) where
+    (m : CheckedMethod) (states : List Stated) (c : Carries rules m states) where
   -- the state at a pc, if there is one, is of the method's shape
   abbrev IsShapedAt : ℕ → Type 0
   IsShapedAt pc = (t : Types) → c.typing pc ≡ Some t → HasShape m t

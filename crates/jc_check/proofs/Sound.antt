@@ -12,7 +12,7 @@ use Rattle.jc_names.specs.declared.name.ClassName.{ClassName}
 use Rattle.jc_types.specs.State.{Types, types_below}
 use Rattle.jc_cert.specs.Cert.{Stated}
 use Rattle.jc_check.specs.Rules.{Rules}
-use Rattle.jc_check.specs.Method.{Handler, Method, caught_types, entry_of}
+use Rattle.jc_check.specs.Method.{CheckedHandler, CheckedMethod, caught_types, entry_of}
 use Rattle.jc_check.specs.Claim.{Claim, claim_of}
 use Rattle.jc_check.specs.Typing.{Typing}
 use Rattle.jc_check.specs.Carried.{state_at, HandlerStands, Stands, Arrives, GoesOn, NothingGoesOn, GoesOnIf, IsCaught, IsHandled, IsCarriedAt, Carries}
@@ -26,7 +26,7 @@ told_ok : {A : Type 0} (pc : ℕ) (r : Result A Reason) (x : A) → told_at pc r
 told_ok pc r x h1 = grind (arith, the_ok)
 
 -- each handler stands
-pub handlers_hold : (listing : List PlacedInstr) (handlers : List Handler) → handlers_stand listing handlers ≡ Ok tt → AllByRecursion (HandlerStands listing) handlers
+pub handlers_hold : (listing : List PlacedInstr) (handlers : List CheckedHandler) → handlers_stand listing handlers ≡ Ok tt → AllByRecursion (HandlerStands listing) handlers
 unfolding handlers_stand
 handlers_hold listing [] h = tt
 handlers_hold listing (x ∷ xs) h =
@@ -39,12 +39,12 @@ handlers_hold listing (x ∷ xs) h =
     some_caught o u h1 = grind arith
 
 -- what is claimed where each of the certificate's states stands
-pub record AreClaimed (rules : Rules) (m : Method) (listing : List PlacedInstr) (states : List Stated) (claims : List Claim) : Type 0 where
+pub record AreClaimed (rules : Rules) (m : CheckedMethod) (listing : List PlacedInstr) (states : List Stated) (claims : List Claim) : Type 0 where
   pub fitting : AllByRecursion (Stands m listing) states
   pub found : map (claim_of rules) states ≡ map Some claims
   pub starts : AllByRecursion (λ (d : Claim). begins listing d.pc ≡ true) claims
 
-pub all_stand : (rules : Rules) (m : Method) (listing : List PlacedInstr) (states : List Stated) (claims : List Claim) → states_stand rules m listing states ≡ Ok claims → AreClaimed rules m listing states claims
+pub all_stand : (rules : Rules) (m : CheckedMethod) (listing : List PlacedInstr) (states : List Stated) (claims : List Claim) → states_stand rules m listing states ≡ Ok claims → AreClaimed rules m listing states claims
 unfolding states_stand
 all_stand rules m listing [] claims h =
     let C : List Claim → Type 0 = λ ds. AreClaimed rules m listing [] ds in
@@ -83,12 +83,12 @@ flow_of (Ok flow) = flow
 flow_of (Err reason) = None
 
 -- the typing that the check goes by
-abbrev typing_of : Rules → Method → List PlacedInstr → List Claim → Option Types → List PlacedInstr → Typing
+abbrev typing_of : Rules → CheckedMethod → List PlacedInstr → List Claim → Option Types → List PlacedInstr → Typing
 typing_of rules m listing claims flow [] q = None
 typing_of rules m listing claims flow (x ∷ xs) q = cond (x.pc == q) (choose (state_at claims q) flow) (typing_of rules m listing claims (flow_of (visit rules m listing claims x flow)) xs q)
 
 -- it has states only where instructions begin
-only_starts : (rules : Rules) (m : Method) (listing : List PlacedInstr) (claims : List Claim) (flow : Option Types) (xs : List PlacedInstr) (q : ℕ) (s : Types) → typing_of rules m listing claims flow xs q ≡ Some s → begins xs q ≡ true
+only_starts : (rules : Rules) (m : CheckedMethod) (listing : List PlacedInstr) (claims : List Claim) (flow : Option Types) (xs : List PlacedInstr) (q : ℕ) (s : Types) → typing_of rules m listing claims flow xs q ≡ Some s → begins xs q ≡ true
 unfolding begins
 only_starts rules m listing claims flow [] q s e = absurd (none_some s e)
 only_starts rules m listing claims flow (x ∷ xs) q s e =
@@ -101,7 +101,7 @@ only_starts rules m listing claims flow (x ∷ xs) q s e =
     last b = grind arith
 
 -- it has the certificate's state wherever an instruction begins
-has_stated : (rules : Rules) (m : Method) (listing : List PlacedInstr) (claims : List Claim) (flow : Option Types) (xs : List PlacedInstr) (q : ℕ) (s : Types) → begins xs q ≡ true → state_at claims q ≡ Some s → typing_of rules m listing claims flow xs q ≡ Some s
+has_stated : (rules : Rules) (m : CheckedMethod) (listing : List PlacedInstr) (claims : List Claim) (flow : Option Types) (xs : List PlacedInstr) (q : ℕ) (s : Types) → begins xs q ≡ true → state_at claims q ≡ Some s → typing_of rules m listing claims flow xs q ≡ Some s
 unfolding begins
 has_stated rules m listing claims flow [] q s b e = absurd cc
 has_stated rules m listing claims flow (x ∷ xs) q s b e = step (x.pc == q) b (λ k. has_stated rules m listing claims (flow_of (visit rules m listing claims x flow)) xs q s k e)
@@ -111,21 +111,21 @@ has_stated rules m listing claims flow (x ∷ xs) q s b e = step (x.pc == q) b (
     step false b later = later b
 
 -- behind the first instruction it is the typing of the max_locals
-later : (rules : Rules) (m : Method) (listing : List PlacedInstr) (claims : List Claim) (flow : Option Types) (x : PlacedInstr) (xs : List PlacedInstr) (q : ℕ) (f : Option Types) → visit rules m listing claims x flow ≡ Ok f → (x.pc ≡ q → ⊥)
+later : (rules : Rules) (m : CheckedMethod) (listing : List PlacedInstr) (claims : List Claim) (flow : Option Types) (x : PlacedInstr) (xs : List PlacedInstr) (q : ℕ) (f : Option Types) → visit rules m listing claims x flow ≡ Ok f → (x.pc ≡ q → ⊥)
     → typing_of rules m listing claims flow (x ∷ xs) q ≡ typing_of rules m listing claims f xs q
 later rules m listing claims flow x xs q f v ne = rw (ne_eqb x.pc q ne, v) refl
 
 -- at the first pc it is the certificate's state, or else what flows in
-first_state : (rules : Rules) (m : Method) (listing : List PlacedInstr) (claims : List Claim) (flow : Option Types) (xs : List PlacedInstr) (pc : ℕ) → StandBetween rules.decoder m.code pc xs (length m.code) → pc < length m.code → typing_of rules m listing claims flow xs pc ≡ choose (state_at claims pc) flow
+first_state : (rules : Rules) (m : CheckedMethod) (listing : List PlacedInstr) (claims : List Claim) (flow : Option Types) (xs : List PlacedInstr) (pc : ℕ) → StandBetween rules.decoder m.code pc xs (length m.code) → pc < length m.code → typing_of rules m listing claims flow xs pc ≡ choose (state_at claims pc) flow
 first_state rules m listing claims flow [] pc runs lt = absurd (omega (arith, runs))
 first_state rules m listing claims flow (x ∷ xs) pc runs lt = rw (eq-eqb x.pc pc runs.0) refl
 
 -- where nothing flows in and the certificate has nothing, there is no state
-first_none : (rules : Rules) (m : Method) (listing : List PlacedInstr) (claims : List Claim) (xs : List PlacedInstr) (pc : ℕ) → StandBetween rules.decoder m.code pc xs (length m.code) → state_at claims pc ≡ None → typing_of rules m listing claims None xs pc ≡ None
+first_none : (rules : Rules) (m : CheckedMethod) (listing : List PlacedInstr) (claims : List Claim) (xs : List PlacedInstr) (pc : ℕ) → StandBetween rules.decoder m.code pc xs (length m.code) → state_at claims pc ≡ None → typing_of rules m listing claims None xs pc ≡ None
 first_none rules m listing claims [] pc runs e = refl
 first_none rules m listing claims (x ∷ xs) pc runs e = rw (eq-eqb x.pc pc runs.0, e) refl
 
-nothing_goes : (rules : Rules) (m : Method) (listing : List PlacedInstr) (claims : List Claim) (typing : Typing) (xs : List PlacedInstr) (pc : ℕ) → StandBetween rules.decoder m.code pc xs (length m.code) → typing pc ≡ typing_of rules m listing claims None xs pc → NothingGoesOn (state_at claims pc) (typing pc)
+nothing_goes : (rules : Rules) (m : CheckedMethod) (listing : List PlacedInstr) (claims : List Claim) (typing : Typing) (xs : List PlacedInstr) (pc : ℕ) → StandBetween rules.decoder m.code pc xs (length m.code) → typing pc ≡ typing_of rules m listing claims None xs pc → NothingGoesOn (state_at claims pc) (typing pc)
 nothing_goes rules m listing claims typing xs pc runs same = by (state_at claims pc) refl
   where
     by : (o : Option Types) → state_at claims pc ≡ o → NothingGoesOn o (typing pc)
@@ -135,7 +135,7 @@ goes_by : (rules : Rules) (t : Types) (o f state : Option Types) → state ≡ c
 goes_by rules t o f state h1 h2 = grind (arith, the_ok, guard_ok)
 
 -- what goes on behind an instruction
-behind : (rules : Rules) (m : Method) (listing : List PlacedInstr) (claims : List Claim) (typing : Typing) (xs : List PlacedInstr) (falls : Bool) (t : Types) (pc : ℕ) (f : Option Types) → StandBetween rules.decoder m.code pc xs (length m.code)
+behind : (rules : Rules) (m : CheckedMethod) (listing : List PlacedInstr) (claims : List Claim) (typing : Typing) (xs : List PlacedInstr) (falls : Bool) (t : Types) (pc : ℕ) (f : Option Types) → StandBetween rules.decoder m.code pc xs (length m.code)
     → typing pc ≡ typing_of rules m listing claims f xs pc → falls_if rules m claims falls t pc ≡ Ok f → GoesOnIf rules m claims typing falls t pc
 unfolding falls_to
 behind rules m listing claims typing xs true t pc f runs same h =
@@ -162,27 +162,27 @@ all_arrived rules listing claims t (p ∷ ps) h =
     let g = bind_ok (arrives rules listing claims t p) (λ _. all_arrive rules listing claims t ps) tt h in
     (arrived rules listing claims t p g.1, all_arrived rules listing claims t ps g.2)
 
-caught : (rules : Rules) (claims : List Claim) (t : Types) (h : Handler) (class : ClassName) (o : Option Types)
+caught : (rules : Rules) (claims : List Claim) (t : Types) (h : CheckedHandler) (class : ClassName) (o : Option Types)
     → h.caught ≡ Some class → state_at claims h.goes_on ≡ o → meets_claim rules (caught_types class t) o ≡ Ok tt
     → IsCaught rules claims t h
 caught rules claims t h class None c e k = absurd cc
 caught rules claims t h class (Some state) c e k = record { class = class; catches = c; state = state; stated = e; below = (guard_ok (types_below rules.below (caught_types class t) state) (Ok tt) CertMismatch tt k).0 }
 
-catches : (rules : Rules) (claims : List Claim) (t : Types) (h : Handler) (o : Option ClassName) → h.caught ≡ o → catches_at rules claims t h.goes_on o ≡ Ok tt → IsCaught rules claims t h
+catches : (rules : Rules) (claims : List Claim) (t : Types) (h : CheckedHandler) (o : Option ClassName) → h.caught ≡ o → catches_at rules claims t h.goes_on o ≡ Ok tt → IsCaught rules claims t h
 catches rules claims t h o h1 h2 = grind (arith, caught)
 
-handled : (rules : Rules) (claims : List Claim) (pc : ℕ) (t : Types) (h : Handler) → handles rules claims pc t h ≡ Ok tt → IsHandled rules claims pc t h
+handled : (rules : Rules) (claims : List Claim) (pc : ℕ) (t : Types) (h : CheckedHandler) → handles rules claims pc t h ≡ Ok tt → IsHandled rules claims pc t h
 unfolding handles
 handled rules claims pc t h k covered = catches rules claims t h h.caught refl (chosen covered _ _ _ k)
 
-all_handled : (rules : Rules) (claims : List Claim) (pc : ℕ) (t : Types) (handlers : List Handler) → all_handle rules claims pc t handlers ≡ Ok tt → AllByRecursion (IsHandled rules claims pc t) handlers
+all_handled : (rules : Rules) (claims : List Claim) (pc : ℕ) (t : Types) (handlers : List CheckedHandler) → all_handle rules claims pc t handlers ≡ Ok tt → AllByRecursion (IsHandled rules claims pc t) handlers
 all_handled rules claims pc t [] k = tt
 all_handled rules claims pc t (h ∷ hs) k =
     let g = bind_ok (handles rules claims pc t h) (λ _. all_handle rules claims pc t hs) tt k in
     (handled rules claims pc t h g.1, all_handled rules claims pc t hs g.2)
 
 -- an instruction at which no fault is found is carried
-live_carried : (rules : Rules) (m : Method) (listing : List PlacedInstr) (claims : List Claim) (typing : Typing) (x : PlacedInstr) (xs : List PlacedInstr) (s : Types) (f : Option Types) → StandBetween rules.decoder m.code x.instr.next_pc xs (length m.code)
+live_carried : (rules : Rules) (m : CheckedMethod) (listing : List PlacedInstr) (claims : List Claim) (typing : Typing) (x : PlacedInstr) (xs : List PlacedInstr) (s : Types) (f : Option Types) → StandBetween rules.decoder m.code x.instr.next_pc xs (length m.code)
     → typing x.instr.next_pc ≡ typing_of rules m listing claims f xs x.instr.next_pc → visit_live rules m listing claims x s ≡ Ok f → IsCarriedAt rules m listing claims typing x s
 unfolding visit_live
 live_carried rules m listing claims typing x xs s f runs same h =
@@ -198,12 +198,12 @@ live_carried rules m listing claims typing x xs s f runs same h =
     }
 
 -- what a pc owes
-record AtPlace (rules : Rules) (m : Method) (listing : List PlacedInstr) (claims : List Claim) (typing : Typing) (pc : ℕ) (x : PlacedInstr) : Type 0 where
+record AtPlace (rules : Rules) (m : CheckedMethod) (listing : List PlacedInstr) (claims : List Claim) (typing : Typing) (pc : ℕ) (x : PlacedInstr) : Type 0 where
   pub live : (s : Types) → typing pc ≡ Some s → IsCarriedAt rules m listing claims typing x s
   pub dead : typing pc ≡ None → NothingGoesOn (state_at claims x.instr.next_pc) (typing x.instr.next_pc)
 
 -- by what the certificate has there, and what flows in
-visited : (rules : Rules) (m : Method) (listing : List PlacedInstr) (claims : List Claim) (typing : Typing) (x : PlacedInstr) (xs : List PlacedInstr) (o flow f : Option Types) → StandBetween rules.decoder m.code x.instr.next_pc xs (length m.code)
+visited : (rules : Rules) (m : CheckedMethod) (listing : List PlacedInstr) (claims : List Claim) (typing : Typing) (x : PlacedInstr) (xs : List PlacedInstr) (o flow f : Option Types) → StandBetween rules.decoder m.code x.instr.next_pc xs (length m.code)
     → typing x.instr.next_pc ≡ typing_of rules m listing claims f xs x.instr.next_pc → typing x.pc ≡ choose o flow → visit_on rules m listing claims x o flow ≡ Ok f → AtPlace rules m listing claims typing x.pc x
 visited rules m listing claims typing x xs (Some c) flow f runs same is h =
     let C : Types → Type 0 = λ v. IsCarriedAt rules m listing claims typing x v in record {
@@ -223,7 +223,7 @@ visited rules m listing claims typing x xs None None f runs same is h =
     }
 
 -- from a pc on, each instruction
-each_place : (rules : Rules) (laws : ListingLaws rules.decoder) (m : Method) (listing : List PlacedInstr) (claims : List Claim) (typing : Typing) (flow : Option Types) (xs : List PlacedInstr) (pc : ℕ) → StandBetween rules.decoder m.code pc xs (length m.code)
+each_place : (rules : Rules) (laws : ListingLaws rules.decoder) (m : CheckedMethod) (listing : List PlacedInstr) (claims : List Claim) (typing : Typing) (flow : Option Types) (xs : List PlacedInstr) (pc : ℕ) → StandBetween rules.decoder m.code pc xs (length m.code)
     → ((q : ℕ) → pc ≤ q → typing q ≡ typing_of rules m listing claims flow xs q) → walk rules m listing claims flow xs ≡ Ok tt → (q : ℕ) (y : PlacedInstr) → placed_at xs q ≡ Some y → AtPlace rules m listing claims typing q y
 unfolding walk visit placed_at
 each_place rules laws m listing claims typing flow [] pc runs same h q y e = absurd (none_some y e)
@@ -243,7 +243,7 @@ each_place rules laws m listing claims typing flow (x ∷ xs) pc runs same h q y
       | inr p ↦ each_place rules laws m listing claims typing one.0 xs x.instr.next_pc runs.2 next one.2 q y p.1
     ]
 
-pub sound : (rules : Rules) (laws : ListingLaws rules.decoder) (m : Method) (listing : List PlacedInstr) (states : List Stated) → IsListing rules.decoder m.code listing → findings_of rules m listing states ≡ Ok tt → Carries rules m states
+pub sound : (rules : Rules) (laws : ListingLaws rules.decoder) (m : CheckedMethod) (listing : List PlacedInstr) (states : List Stated) → IsListing rules.decoder m.code listing → findings_of rules m listing states ≡ Ok tt → Carries rules m states
 unfolding findings_of
 sound rules laws m listing states whole h =
     let zero = bind_ok (handlers_stand listing m.handlers) _ tt h in

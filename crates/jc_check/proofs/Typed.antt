@@ -7,7 +7,7 @@ use Rattle.jc_check.proofs.Listings.{placed_begins}
 use Rattle.jc_types.specs.State.{Types, types_below}
 use Rattle.jc_cert.specs.Cert.{Stated}
 use Rattle.jc_check.specs.Rules.{Rules, word_rules}
-use Rattle.jc_check.specs.Method.{Handler, Method, entry_of, word_method}
+use Rattle.jc_check.specs.Method.{CheckedHandler, CheckedMethod, entry_of, word_method}
 use Rattle.jc_check.specs.Claim.{Claim}
 use Rattle.jc_check.specs.Typing.{Typing, Leads, BranchLeads, HandlerLeads, IsTyping, IsWellTyped}
 use Rattle.jc_check.specs.Carried.{state_at, Arrives, GoesOn, GoesOnIf, IsHandled, Carries}
@@ -22,16 +22,16 @@ all_lead : (rules : Rules) (listing : List PlacedInstr) (claims : List Claim) (t
 all_lead rules listing claims typing t [] stated h = tt
 all_lead rules listing claims typing t (p ∷ ps) stated h = (record { pc = h.0.pc; is = h.0.is; leads = record { state = h.0.state; typed = stated h.0.pc h.0.state h.0.stated; below = h.0.below } }, all_lead rules listing claims typing t ps stated h.1)
 
-handlers_lead : (rules : Rules) (claims : List Claim) (typing : Typing) (pc : ℕ) (t : Types) (handlers : List Handler) → ((q : ℕ) (s : Types) → state_at claims q ≡ Some s → typing q ≡ Some s)
+handlers_lead : (rules : Rules) (claims : List Claim) (typing : Typing) (pc : ℕ) (t : Types) (handlers : List CheckedHandler) → ((q : ℕ) (s : Types) → state_at claims q ≡ Some s → typing q ≡ Some s)
     → AllByRecursion (IsHandled rules claims pc t) handlers → AllByRecursion (HandlerLeads rules typing pc t) handlers
 handlers_lead rules claims typing pc t [] stated h = tt
 handlers_lead rules claims typing pc t (x ∷ xs) stated h =
     (λ e. let k = h.0 e in record { class = k.class; catches = k.catches; leads = record { state = k.state; typed = stated x.goes_on k.state k.stated; below = k.below } }, handlers_lead rules claims typing pc t xs stated h.1)
 
-behind_leads : (rules : Rules) (self : (s : Types) → types_below rules.below s s ≡ true) (m : Method) (claims : List Claim) (typing : Typing) (falls : Bool) (t : Types) (pc : ℕ) → ((q : ℕ) (s : Types) → state_at claims q ≡ Some s → typing q ≡ Some s) → GoesOnIf rules m claims typing falls t pc → falls ≡ true → Leads rules typing t pc
+behind_leads : (rules : Rules) (self : (s : Types) → types_below rules.below s s ≡ true) (m : CheckedMethod) (claims : List Claim) (typing : Typing) (falls : Bool) (t : Types) (pc : ℕ) → ((q : ℕ) (s : Types) → state_at claims q ≡ Some s → typing q ≡ Some s) → GoesOnIf rules m claims typing falls t pc → falls ≡ true → Leads rules typing t pc
 behind_leads rules self m claims typing falls t pc h1 h2 h3 = grind (arith, leads)
 
-pub typed : (rules : Rules) (self : (s : Types) → types_below rules.below s s ≡ true) (m : Method) (states : List Stated) (c : Carries rules m states) → IsTyping rules m c.typing
+pub typed : (rules : Rules) (self : (s : Types) → types_below rules.below s s ≡ true) (m : CheckedMethod) (states : List Stated) (c : Carries rules m states) → IsTyping rules m c.typing
 typed rules self m states c = record {
   listing = c.listing;
   whole = c.whole;

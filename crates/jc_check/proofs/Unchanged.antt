@@ -11,13 +11,13 @@ use Rattle.jc_types.specs.declared.ty.Ty.{Ty}
 use Rattle.jc_types.specs.declared.ty.Ty.TheVariants.{Class}
 use Rattle.jc_types.specs.State.{Types, all_below, types_below}
 use Rattle.jc_check.specs.Rules.{Rules}
-use Rattle.jc_check.specs.Method.{Handler, caught_types, covers}
+use Rattle.jc_check.specs.Method.{CheckedHandler, caught_types, covers}
 use Rattle.jc_check.specs.Claim.{Claim}
 use Rattle.jc_check.specs.Carried.{state_at, types_of}
 use Rattle.jc_check.specs.FirstFault.{meets_claim, catches_at, handles, all_handle}
 use Rattle.jc_check.specs.PrivateMarks.{IsMark}
 use Rattle.jc_check.specs.PrivateInput.{IsOf}
-use Rattle.jc_check.specs.PrivateSeen.{HasSeen, Seen, locals_alone}
+use Rattle.jc_check.specs.PrivateSeen.{HasSeen, SeenLocals, locals_alone}
 use Rattle.jc_check.specs.declared.input.PassInput.{PassInput}
 use Rattle.jc_check.specs.declared.mark.ByteMark.{ByteMark}
 use Rattle.jc_check.specs.declared.mark.ByteMark.TheVariants.{Inside, Holds}
@@ -61,11 +61,11 @@ still_held rules input listing seen t pc caught k d b table mark is was =
     still_caught rules input.claims.now seen t pc caught (get_or input.claims.now k d) b at is was
 
 -- each handler that covers an instruction caught the locals before it
-pub now_caught : (rules : Rules) (claims : List Claim) (pc : ℕ) (t : Types) (handlers : List Handler) → all_handle rules claims pc t handlers ≡ Ok tt → (n : ℕ) (h : Handler) → slice_get handlers n ≡ Some h → covers h pc ≡ true → catches_at rules claims (locals_alone t.locals) h.goes_on h.caught ≡ Ok tt
+pub now_caught : (rules : Rules) (claims : List Claim) (pc : ℕ) (t : Types) (handlers : List CheckedHandler) → all_handle rules claims pc t handlers ≡ Ok tt → (n : ℕ) (h : CheckedHandler) → slice_get handlers n ≡ Some h → covers h pc ≡ true → catches_at rules claims (locals_alone t.locals) h.goes_on h.caught ≡ Ok tt
 unfolding handles
 now_caught rules claims pc t [] e n h at c = absurd (none_some h at)
 now_caught rules claims pc t (g ∷ gs) e zero h at c =
-    let G : Handler → Type 0 = λ k. handles rules claims pc t k ≡ Ok tt in
+    let G : CheckedHandler → Type 0 = λ k. handles rules claims pc t k ≡ Ok tt in
     same_catch rules claims t h.goes_on h.caught ∙ covered (covers h pc) (catches_at rules claims t h.goes_on h.caught) (Ok tt) c (subst G (the_some g h at) (bind_ok (handles rules claims pc t g) (λ _. all_handle rules claims pc t gs) tt e).1)
   where
     covered : (b : Bool) (r total : Result ⊤ Reason) → b ≡ true → (if b then r else Ok tt) ≡ total → r ≡ total
@@ -74,12 +74,12 @@ now_caught rules claims pc t (g ∷ gs) e (suc n) h at c =
     now_caught rules claims pc t gs (bind_ok (handles rules claims pc t g) (λ _. all_handle rules claims pc t gs) tt e).2 n h at c
 
 -- what is known of what was seen, once all handlers caught the state at a pc
-pub has_seen : (rules : Rules) (input : PassInput) (pc : ℕ) (t : Types) (locals : List Ty) (seen : Seen) → locals ≡ t.locals → seen ≡ record { locals = locals; pc = Some pc }
+pub has_seen : (rules : Rules) (input : PassInput) (pc : ℕ) (t : Types) (locals : List Ty) (seen : SeenLocals) → locals ≡ t.locals → seen ≡ record { locals = locals; pc = Some pc }
     → length t.locals ≡ length input.method.now.arguments + input.method.now.max_locals → ((listing : List PlacedInstr) → IsOf rules input listing → Ok tt ≡ all_handle rules input.claims.now pc t input.method.now.handlers)
     → HasSeen rules input seen
 has_seen rules input pc t locals seen same is len all =
-    let seen_at : List Ty → Seen = λ ts. record { locals = ts; pc = Some pc } in
-    let P : Seen → Type 0 = λ s. HasSeen rules input s in
+    let seen_at : List Ty → SeenLocals = λ ts. record { locals = ts; pc = Some pc } in
+    let P : SeenLocals → Type 0 = λ s. HasSeen rules input s in
     subst P (sym (is ∙ ap seen_at same)) (record {
       fits = λ some. len;
       caught = λ listing table. record { each = λ n h at. record { catches = λ covered. now_caught rules input.claims.now pc t input.method.now.handlers (sym (all listing table)) n h at covered } };

@@ -9,7 +9,7 @@ use Rattle.jc_code.specs.declared.fault.CodeFault.{CodeFault}
 use Rattle.jc_code.specs.Listing.{Decoder, PlacedInstr, IsListing, StopsAt, ListingLaws}
 use Rattle.jc_cert.specs.Cert.{Stated}
 use Rattle.jc_check.specs.Rules.{Rules}
-use Rattle.jc_check.specs.Method.{Method}
+use Rattle.jc_check.specs.Method.{CheckedMethod}
 use Rattle.jc_check.specs.Claim.{Claim}
 use Rattle.jc_check.specs.Carried.{Carries}
 use Rattle.jc_check.specs.FirstFault.{fault_at, reason_of, handlers_stand, states_stand, flow_findings_of, findings_of, IsFirstFault, empty, undecoded, found}
@@ -24,27 +24,27 @@ use Rattle.jc_check.proofs.Sound.{sound}
 use Rattle.jc_check.proofs.Complete.{complete}
 
 -- a table's numbers are those of claims
-pub safe : (rules : Rules) (m : Method) (listing : List PlacedInstr) (claims : List Claim) (marks : List ByteMark) → IsTable rules m listing claims marks → AreSafe m claims marks
+pub safe : (rules : Rules) (m : CheckedMethod) (listing : List PlacedInstr) (claims : List Claim) (marks : List ByteMark) → IsTable rules m listing claims marks → AreSafe m claims marks
 safe rules m listing claims marks t = record { len = t.len; each = λ pc. one pc (get_or marks pc Inside) (t.each pc) }
   where
     one : (pc : ℕ) (p : ByteMark) → IsMark m listing claims pc p → IsSafe m claims p
     one pc p h1 = grind arith
 
 -- what is found, once the handlers and the states stand
-findings_are : (rules : Rules) (m : Method) (listing : List PlacedInstr) (states : List Stated) (claims : List Claim) → handlers_stand listing m.handlers ≡ Ok tt → states_stand rules m listing states ≡ Ok claims → findings_of rules m listing states ≡ flow_findings_of rules m listing claims
+findings_are : (rules : Rules) (m : CheckedMethod) (listing : List PlacedInstr) (states : List Stated) (claims : List Claim) → handlers_stand listing m.handlers ≡ Ok tt → states_stand rules m listing states ≡ Ok claims → findings_of rules m listing states ≡ flow_findings_of rules m listing claims
 unfolding findings_of
 findings_are rules m listing states claims handlers e = rw (handlers, e) refl
 
-findings_stop : (rules : Rules) (m : Method) (listing : List PlacedInstr) (states : List Stated) (fault : Fault) → handlers_stand listing m.handlers ≡ Ok tt → states_stand rules m listing states ≡ Err fault → findings_of rules m listing states ≡ Err fault
+findings_stop : (rules : Rules) (m : CheckedMethod) (listing : List PlacedInstr) (states : List Stated) (fault : Fault) → handlers_stand listing m.handlers ≡ Ok tt → states_stand rules m listing states ≡ Err fault → findings_of rules m listing states ≡ Err fault
 unfolding findings_of
 findings_stop rules m listing states fault handlers e = rw (handlers, e) refl
 
-findings_stop_early : (rules : Rules) (m : Method) (listing : List PlacedInstr) (states : List Stated) (fault : Fault) → handlers_stand listing m.handlers ≡ Err fault → findings_of rules m listing states ≡ Err fault
+findings_stop_early : (rules : Rules) (m : CheckedMethod) (listing : List PlacedInstr) (states : List Stated) (fault : Fault) → handlers_stand listing m.handlers ≡ Err fault → findings_of rules m listing states ≡ Err fault
 unfolding findings_of
 findings_stop_early rules m listing states fault e = rw e refl
 
 -- where the states carry the method there is no first fault
-pub no_fault : (rules : Rules) (laws : ListingLaws rules.decoder) (m : Method) (states : List Stated) (fault : Fault) → IsFirstFault rules m states fault → Carries rules m states → ⊥
+pub no_fault : (rules : Rules) (laws : ListingLaws rules.decoder) (m : CheckedMethod) (states : List Stated) (fault : Fault) → IsFirstFault rules m states fault → Carries rules m states → ⊥
 no_fault rules laws m states fault (empty e) c = let n : length m.code ≡ 0 = ap (λ (w : List ℕ). length w) e in omega (arith, c.entry.0)
 no_fault rules laws m states fault (undecoded pc why s) c = laws.never_both m.code c.listing pc why c.whole s
 no_fault rules laws m states fault (found listing f whole some e) c =
@@ -53,15 +53,15 @@ no_fault rules laws m states fault (found listing f whole some e) c =
     ok_err tt f (sym (complete rules laws m states c) ∙ subst V same e)
 
 -- what is found in code that decodes decides
-by_findings : (rules : Rules) (laws : ListingLaws rules.decoder) (m : Method) (states : List Stated) (listing : List PlacedInstr) (r : Result ⊤ Fault) → IsListing rules.decoder m.code listing → m.code ≢ [] → findings_of rules m listing states ≡ r → Carries rules m states ⊎ ((fault : Fault) × IsFirstFault rules m states fault)
+by_findings : (rules : Rules) (laws : ListingLaws rules.decoder) (m : CheckedMethod) (states : List Stated) (listing : List PlacedInstr) (r : Result ⊤ Fault) → IsListing rules.decoder m.code listing → m.code ≢ [] → findings_of rules m listing states ≡ r → Carries rules m states ⊎ ((fault : Fault) × IsFirstFault rules m states fault)
 by_findings rules laws m states listing (Ok x) whole some e = inl (sound rules laws m listing states whole e)
 by_findings rules laws m states listing (Err fault) whole some e = inr (fault, found listing fault whole some e)
 
-by_decoding : (rules : Rules) (laws : ListingLaws rules.decoder) (m : Method) (states : List Stated) → m.code ≢ [] → ((listing : List PlacedInstr) × IsListing rules.decoder m.code listing) ⊎ ((pc : ℕ) × (fault : CodeFault) × StopsAt rules.decoder m.code pc fault) → Carries rules m states ⊎ ((fault : Fault) × IsFirstFault rules m states fault)
+by_decoding : (rules : Rules) (laws : ListingLaws rules.decoder) (m : CheckedMethod) (states : List Stated) → m.code ≢ [] → ((listing : List PlacedInstr) × IsListing rules.decoder m.code listing) ⊎ ((pc : ℕ) × (fault : CodeFault) × StopsAt rules.decoder m.code pc fault) → Carries rules m states ⊎ ((fault : Fault) × IsFirstFault rules m states fault)
 by_decoding rules laws m states some (inl listed) = by_findings rules laws m states listed.0 (findings_of rules m listed.0 states) listed.1 some refl
 by_decoding rules laws m states some (inr stop) = inr (fault_at stop.0 (reason_of stop.1), undecoded stop.0 stop.1 stop.2)
 
-by_length : (rules : Rules) (laws : ListingLaws rules.decoder) (m : Method) (states : List Stated) (code : List ℕ) → m.code ≡ code → Carries rules m states ⊎ ((fault : Fault) × IsFirstFault rules m states fault)
+by_length : (rules : Rules) (laws : ListingLaws rules.decoder) (m : CheckedMethod) (states : List Stated) (code : List ℕ) → m.code ≡ code → Carries rules m states ⊎ ((fault : Fault) × IsFirstFault rules m states fault)
 by_length rules laws m states [] e = inr (fault_at 0 FallsOff, empty e)
 by_length rules laws m states (b ∷ bytes) e = by_decoding rules laws m states (λ nil. no_bytes b bytes (sym e ∙ nil)) (laws.decides m.code)
   where
@@ -69,7 +69,7 @@ by_length rules laws m states (b ∷ bytes) e = by_decoding rules laws m states 
     no_bytes b bytes h = cc
 
 -- each method is carried or has a first fault
-pub either : (rules : Rules) (laws : ListingLaws rules.decoder) (m : Method) (states : List Stated) → Carries rules m states ⊎ ((fault : Fault) × IsFirstFault rules m states fault)
+pub either : (rules : Rules) (laws : ListingLaws rules.decoder) (m : CheckedMethod) (states : List Stated) → Carries rules m states ⊎ ((fault : Fault) × IsFirstFault rules m states fault)
 either rules laws m states = by_length rules laws m states m.code refl
 
 -- decoding stops nowhere in code without a byte
@@ -83,7 +83,7 @@ the_err : (a b : Fault) → ◌≡◌ {A = Result ⊤ Fault} (Err a) (Err b) →
 the_err a b e = cc
 
 -- a method has one first fault
-pub one_fault : (rules : Rules) (laws : ListingLaws rules.decoder) (m : Method) (states : List Stated) (a b : Fault) → IsFirstFault rules m states a → IsFirstFault rules m states b → a ≡ b
+pub one_fault : (rules : Rules) (laws : ListingLaws rules.decoder) (m : CheckedMethod) (states : List Stated) (a b : Fault) → IsFirstFault rules m states a → IsFirstFault rules m states b → a ≡ b
 one_fault rules laws m states a b (empty e) (empty f) = refl
 one_fault rules laws m states a b (empty e) (undecoded pc why s) = absurd (no_stop rules.decoder m.code pc why e s)
 one_fault rules laws m states a b (empty e) (found listing f whole some g) = absurd (some e)
@@ -97,25 +97,25 @@ one_fault rules laws m states a b (found k f u some g) (found l h v other i) =
     let V : List PlacedInstr → Type 0 = λ z. findings_of rules m z states ≡ Err f in
     the_err f h (sym (subst V same g) ∙ i)
 
-pub stopped : (rules : Rules) (m : Method) (states : List Stated) (f : Fault) → ((why : CodeFault) × StopsAt rules.decoder m.code f.pc why × (f.reason ≡ reason_of why)) → IsFirstFault rules m states f
+pub stopped : (rules : Rules) (m : CheckedMethod) (states : List Stated) (f : Fault) → ((why : CodeFault) × StopsAt rules.decoder m.code f.pc why × (f.reason ≡ reason_of why)) → IsFirstFault rules m states f
 stopped rules m states f h =
     let F : Fault → Type 0 = λ g. IsFirstFault rules m states g in
     subst F (ap (λ (r : Reason). fault_at f.pc r) (sym h.2)) (undecoded f.pc h.0 h.1)
 
 -- nothing is found only where the states carry the method, and what is found is the first fault
-pub accepted : (rules : Rules) (laws : ListingLaws rules.decoder) (m : Method) (listing : List PlacedInstr) (states : List Stated) (claims : List Claim) → IsListing rules.decoder m.code listing → Ok tt ≡ handlers_stand listing m.handlers → states_stand rules m listing states ≡ Ok claims
+pub accepted : (rules : Rules) (laws : ListingLaws rules.decoder) (m : CheckedMethod) (listing : List PlacedInstr) (states : List Stated) (claims : List Claim) → IsListing rules.decoder m.code listing → Ok tt ≡ handlers_stand listing m.handlers → states_stand rules m listing states ≡ Ok claims
     → Ok tt ≡ flow_findings_of rules m listing claims → Carries rules m states
 accepted rules laws m listing states claims whole handlers stand v = sound rules laws m listing states whole (findings_are rules m listing states claims (sym handlers) stand ∙ sym v)
 
-pub refused : (rules : Rules) (fault : Fault) (m : Method) (listing : List PlacedInstr) (states : List Stated) (claims : List Claim) → IsListing rules.decoder m.code listing → m.code ≢ [] → Ok tt ≡ handlers_stand listing m.handlers → states_stand rules m listing states ≡ Ok claims
+pub refused : (rules : Rules) (fault : Fault) (m : CheckedMethod) (listing : List PlacedInstr) (states : List Stated) (claims : List Claim) → IsListing rules.decoder m.code listing → m.code ≢ [] → Ok tt ≡ handlers_stand listing m.handlers → states_stand rules m listing states ≡ Ok claims
     → Err fault ≡ flow_findings_of rules m listing claims → IsFirstFault rules m states fault
 refused rules fault m listing states claims whole some handlers stand v = found listing fault whole some (findings_are rules m listing states claims (sym handlers) stand ∙ sym v)
 
-pub refused_handlers : (rules : Rules) (m : Method) (listing : List PlacedInstr) (states : List Stated) (fault : Fault) → IsListing rules.decoder m.code listing → m.code ≢ [] → Err fault ≡ handlers_stand listing m.handlers → IsFirstFault rules m states fault
+pub refused_handlers : (rules : Rules) (m : CheckedMethod) (listing : List PlacedInstr) (states : List Stated) (fault : Fault) → IsListing rules.decoder m.code listing → m.code ≢ [] → Err fault ≡ handlers_stand listing m.handlers → IsFirstFault rules m states fault
 refused_handlers rules m listing states fault whole some e = found listing fault whole some (findings_stop_early rules m listing states fault (sym e))
 
 -- a state that doesn't stand is the first fault, unless memory was wanting
-pub refused_or_memory : (rules : Rules) (m : Method) (listing : List PlacedInstr) (states : List Stated) (marks : List ByteMark) (fault : WordFault) → m.code ≢ [] → IsTable rules m listing [] marks → Ok tt ≡ handlers_stand listing m.handlers
+pub refused_or_memory : (rules : Rules) (m : CheckedMethod) (listing : List PlacedInstr) (states : List Stated) (marks : List ByteMark) (fault : WordFault) → m.code ≢ [] → IsTable rules m listing [] marks → Ok tt ≡ handlers_stand listing m.handlers
     → IfRefused fault (λ f. (any : List PlacedInstr) → IsTable rules m any [] marks → states_stand rules m any states ≡ Err f) → IfRefused fault (IsFirstFault rules m states)
 refused_or_memory rules m listing states marks faults.Memory some table handlers told = tt
 refused_or_memory rules m listing states marks (faults.Refused pc reason) some table handlers told = found listing (fault_at pc reason) table.whole some (findings_stop rules m listing states (fault_at pc reason) (sym handlers) (told listing table))

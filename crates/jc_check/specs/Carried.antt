@@ -9,7 +9,7 @@ use Rattle.jc_code.specs.Targets.{targets_of, falls_of}
 use Rattle.jc_types.specs.State.{Types, types_below, stated_types}
 use Rattle.jc_cert.specs.Cert.{IsCert, Row, Stated}
 use Rattle.jc_check.specs.Rules.{Rules, word_rules}
-use Rattle.jc_check.specs.Method.{Handler, Method, caught_types, covers, entry_of, word_method, states_of}
+use Rattle.jc_check.specs.Method.{CheckedHandler, CheckedMethod, caught_types, covers, entry_of, word_method, states_of}
 use Rattle.jc_check.specs.Claim.{Claim, claim_of}
 use Rattle.jc_check.specs.Typing.{Typing}
 
@@ -23,16 +23,16 @@ state_at [] pc = None
 state_at (c ∷ cs) pc = if c.pc == pc then Some (types_of c) else state_at cs pc
 
 -- a state has as many locals as the method, and at most its maximum of operands
-abbrev pub has_shape : Method → Stated → Bool
+abbrev pub has_shape : CheckedMethod → Stated → Bool
 has_shape m c = (length c.locals == length m.arguments + m.max_locals) && nat_le (length c.operands) m.max_stack
 
 -- an instruction begins at the pc of a certificate's state, which has the method's shape
-pub record Stands (m : Method) (listing : List PlacedInstr) (c : Stated) : Type 0 where
+pub record Stands (m : CheckedMethod) (listing : List PlacedInstr) (c : Stated) : Type 0 where
   pub begin : begins listing c.pc ≡ true
   pub shape : has_shape m c ≡ true
 
 -- a handler goes on where an instruction begins, and catches a class
-pub record HandlerStands (listing : List PlacedInstr) (h : Handler) : Type 0 where
+pub record HandlerStands (listing : List PlacedInstr) (h : CheckedHandler) : Type 0 where
   pub begin : begins listing h.goes_on ≡ true
   pub class : ClassName
   pub catches : h.caught ≡ Some class
@@ -58,13 +58,13 @@ NothingGoesOn None state = state ≡ None
 NothingGoesOn (Some c) state = ⊤
 
 -- what goes on to a pc; if anything does, the pc lies within the code
-abbrev pub GoesOnIf : Rules → Method → List Claim → Typing → Bool → Types → ℕ → Type 0
+abbrev pub GoesOnIf : Rules → CheckedMethod → List Claim → Typing → Bool → Types → ℕ → Type 0
 GoesOnIf rules m claims typing true t pc = (pc < length m.code) × GoesOn rules (state_at claims pc) (typing pc) t
 GoesOnIf rules m claims typing false t pc = NothingGoesOn (state_at claims pc) (typing pc)
 
 -- a handler catches a class, and where it goes on the certificate has a state that is above these types with the class
 -- caught
-pub record IsCaught (rules : Rules) (claims : List Claim) (t : Types) (h : Handler) : Type 0 where
+pub record IsCaught (rules : Rules) (claims : List Claim) (t : Types) (h : CheckedHandler) : Type 0 where
   pub class : ClassName
   pub catches : h.caught ≡ Some class
   pub state : Types
@@ -72,12 +72,13 @@ pub record IsCaught (rules : Rules) (claims : List Claim) (t : Types) (h : Handl
   pub below : types_below rules.below (caught_types class t) state ≡ true
 
 -- a handler that covers a pc catches with these types
-abbrev pub IsHandled : Rules → List Claim → ℕ → Types → Handler → Type 0
+abbrev pub IsHandled : Rules → List Claim → ℕ → Types → CheckedHandler → Type 0
 IsHandled rules claims pc t h = covers h pc ≡ true → IsCaught rules claims t h
 
 -- the handlers that cover an instruction catch in the state before it; the instruction has an effect on that state, and
 -- the state after goes on as the certificate says
-pub record IsCarriedAt (rules : Rules) (m : Method) (listing : List PlacedInstr) (claims : List Claim) (typing : Typing)
+pub record IsCarriedAt (rules : Rules) (m : CheckedMethod) (listing : List PlacedInstr) (claims : List Claim)
+    (typing : Typing)
     (x : PlacedInstr) (s : Types) : Type 0 where
   pub handled : AllByRecursion (IsHandled rules claims x.pc s) m.handlers
   pub after : Types
@@ -86,7 +87,7 @@ pub record IsCarriedAt (rules : Rules) (m : Method) (listing : List PlacedInstr)
   pub behind : GoesOnIf rules m claims typing (falls_of x.instr.operation) after x.instr.next_pc
 
 -- the states carry the method
-pub record Carries (rules : Rules) (m : Method) (states : List Stated) : Type 0 where
+pub record Carries (rules : Rules) (m : CheckedMethod) (states : List Stated) : Type 0 where
   -- their classes resolve
   pub claims : List Claim
   pub found : map (claim_of rules) states ≡ map Some claims

@@ -9,14 +9,14 @@ use Rattle.jc_cert.specs.Cert.{Stated, Row}
 
 -- an exception handler: the first pc that it covers and the number of pcs, the pc at which it goes on, and the class
 -- that it catches, if its entry of the constant pool names one that may be thrown
-pub record Handler : Type 0 where
+pub record CheckedHandler : Type 0 where
   pub start : ℕ
   pub length : ℕ
   pub goes_on : ℕ
   pub caught : Option ClassName
 
 -- a handler covers a pc
-abbrev pub covers : Handler → ℕ → Bool
+abbrev pub covers : CheckedHandler → ℕ → Bool
 covers h pc = nat_le h.start pc && nat_lt pc (h.start + h.length)
 
 -- the types where a handler goes on: the locals unchanged, and the class that it catches as the only operand
@@ -25,16 +25,16 @@ caught_types class s = record { locals = s.locals; operands = Class class ∷ []
 
 -- its code, the types of its arguments, the number of its other locals, the greatest number of its operands, the type
 -- of its result, if it isn't void, and its exception handlers
-pub record Method : Type 0 where
+pub record CheckedMethod : Type 0 where
   pub code : List ℕ
   pub arguments : List Ty
   pub max_locals : ℕ
   pub max_stack : ℕ
   pub returned : Option Ty
-  pub handlers : List Handler
+  pub handlers : List CheckedHandler
 
 -- the state at its entry
-abbrev pub entry_of : Method → Types
+abbrev pub entry_of : CheckedMethod → Types
 entry_of m = entry_types m.arguments m.max_locals
 
 -- the number of locals, and the greatest number of operands, of code alone
@@ -45,7 +45,7 @@ abbrev pub word_max_stack : ℕ
 word_max_stack = 8
 
 -- code alone: a static method without arguments and handlers that returns a short
-abbrev pub word_method : List ℕ → Method
+abbrev pub word_method : List ℕ → CheckedMethod
 word_method code =
     record {
       code = code;

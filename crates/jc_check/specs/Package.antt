@@ -24,7 +24,7 @@ use Rattle.jc_effects.specs.Method.{max_stack_of, own_method, result_of}
 use Rattle.jc_types.specs.Ty.{type_of_declared}
 use Rattle.jc_types.specs.declared.ty.Ty.{Ty}
 use Rattle.jc_types.specs.declared.ty.Ty.TheVariants.{Class}
-use Rattle.jc_check.specs.Method.{Handler, Method}
+use Rattle.jc_check.specs.Method.{CheckedHandler, CheckedMethod}
 use Rattle.jc_check.specs.Rules.{Rules}
 
 -- the place of a linked package: it is the last of its world
@@ -83,7 +83,7 @@ caught_class l index =
     else option_and_then (thrown_class l.world) (slice_get l.body.targets index)
 
 -- a handler of code that begins at an offset of the Method component
-abbrev pub handler_of : Linked → ℕ → rows.Handler → Handler
+abbrev pub handler_of : Linked → ℕ → rows.Handler → CheckedHandler
 handler_of l code_offset h = record {
   start = h.start - code_offset;
   length = h.active_length;
@@ -106,7 +106,7 @@ abbrev pub max_locals_of : DeclaredMethod → ℕ
 max_locals_of d = option_map_or (λ h. h.max_locals) d.method.header 0
 
 -- a method with code
-abbrev pub method_of : Linked → MethodBody → Method
+abbrev pub method_of : Linked → MethodBody → CheckedMethod
 method_of l b =
     let declared = own_method l b.offset in
     record {

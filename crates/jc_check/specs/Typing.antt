@@ -7,7 +7,7 @@ use Rattle.jc_names.specs.declared.name.ClassName.{ClassName}
 use Rattle.jc_code.specs.Listing.{PlacedInstr, IsListing, placed_at}
 use Rattle.jc_code.specs.Targets.{targets_of, falls_of}
 use Rattle.jc_types.specs.State.{Types, types_below}
-use Rattle.jc_check.specs.Method.{Handler, Method, caught_types, covers, entry_of, word_method}
+use Rattle.jc_check.specs.Method.{CheckedHandler, CheckedMethod, caught_types, covers, entry_of, word_method}
 use Rattle.jc_check.specs.Rules.{Rules, word_rules}
 
 -- a typing has a state at some pcs
@@ -28,18 +28,18 @@ pub record BranchLeads (rules : Rules) (typing : Typing) (t : Types) (place : �
 
 -- a handler catches a class, and where it goes on the typing has a state that is above these types with the class
 -- caught
-pub record CatchLeads (rules : Rules) (typing : Typing) (t : Types) (h : Handler) : Type 0 where
+pub record CatchLeads (rules : Rules) (typing : Typing) (t : Types) (h : CheckedHandler) : Type 0 where
   pub class : ClassName
   pub catches : h.caught ≡ Some class
   pub leads : Leads rules typing (caught_types class t) h.goes_on
 
 -- a handler that covers a pc catches with these types
-abbrev pub HandlerLeads : Rules → Typing → ℕ → Types → Handler → Type 0
+abbrev pub HandlerLeads : Rules → Typing → ℕ → Types → CheckedHandler → Type 0
 HandlerLeads rules typing pc t h = covers h pc ≡ true → CatchLeads rules typing t h
 
 -- the handlers that cover an instruction catch in the state before it; the instruction has an effect on that state, and
 -- leads only to places whose states are above the state after
-pub record IsFine (rules : Rules) (m : Method) (typing : Typing) (x : PlacedInstr) (s : Types) : Type 0 where
+pub record IsFine (rules : Rules) (m : CheckedMethod) (typing : Typing) (x : PlacedInstr) (s : Types) : Type 0 where
   pub handled : AllByRecursion (HandlerLeads rules typing x.pc s) m.handlers
   pub after : Types
   pub effect : rules.effect m.max_stack m.returned x.instr.operation s ≡ Ok after
@@ -47,26 +47,26 @@ pub record IsFine (rules : Rules) (m : Method) (typing : Typing) (x : PlacedInst
   pub falls : falls_of x.instr.operation ≡ true → Leads rules typing after x.instr.next_pc
 
 -- an instruction begins at a pc, and is fine with the state there
-pub record IsFineAt (rules : Rules) (m : Method) (typing : Typing) (listing : List PlacedInstr) (pc : ℕ)
+pub record IsFineAt (rules : Rules) (m : CheckedMethod) (typing : Typing) (listing : List PlacedInstr) (pc : ℕ)
     (s : Types) : Type 0 where
   pub instr : PlacedInstr
   pub stands : placed_at listing pc ≡ Some instr
   pub fine : IsFine rules m typing instr s
 
 -- the entry state is below the state at pc 0, and at each pc with a state an instruction begins and is fine
-pub record IsTyping (rules : Rules) (m : Method) (typing : Typing) : Type 0 where
+pub record IsTyping (rules : Rules) (m : CheckedMethod) (typing : Typing) : Type 0 where
   pub listing : List PlacedInstr
   pub whole : IsListing rules.decoder m.code listing
   pub entry : Leads rules typing (entry_of m) 0
   pub each : (pc : ℕ) (s : Types) → typing pc ≡ Some s → IsFineAt rules m typing listing pc s
 
 -- types with a method's shape: as many locals as the method, and at most its maximum of operands
-pub record HasShape (m : Method) (t : Types) : Type 0 where
+pub record HasShape (m : CheckedMethod) (t : Types) : Type 0 where
   pub locals : length t.locals ≡ length m.arguments + m.max_locals
   pub operands : length t.operands ≤ m.max_stack
 
 -- each state of a typing has the method's shape
-abbrev pub IsShaped : Method → Typing → Type 0
+abbrev pub IsShaped : CheckedMethod → Typing → Type 0
 IsShaped m typing = (pc : ℕ) (t : Types) → typing pc ≡ Some t → HasShape m t
 
 -- code alone is well typed, by a typing with its shape

@@ -11,7 +11,7 @@ ghost use Rattle.jc_link.specs.Linked.{AreHeaded, IsResolved};
 ghost use Rattle.jc_link.specs.Sound.{HaveMethods};
 ghost use Rattle.jc_types.specs.Known.{AreKnown};
 ghost use Rattle.jc_types.specs.State.{Types, joined_types};
-ghost use Rattle.jc_check.specs.Method.{Handler, entry_of};
+ghost use Rattle.jc_check.specs.Method.{CheckedHandler, entry_of};
 ghost use Rattle.jc_check.specs.Package.{method_of, package_rules};
 ghost use Rattle.jc_check.specs.PrivateKnown.{AreSmallFrames, IsSmallFrame, IsSmallHeader};
 
@@ -98,7 +98,7 @@ fn frames_are_small(linked: &Linked)
 pub fn types_name_classes(linked: &Linked)
     ensures entry { (n : ℕ) (b : MethodBody) → slice_get linked.now.body.kept.methods n ≡ Some b
         → AreKnown (is_class_at linked.now.world) (entry_of (method_of linked.now b)) }
-    ensures caught { (n : ℕ) (b : MethodBody) (h : Handler) (c : ClassName)
+    ensures caught { (n : ℕ) (b : MethodBody) (h : CheckedHandler) (c : ClassName)
         → slice_get linked.now.body.kept.methods n ≡ Some b → Contains (method_of linked.now b).handlers h
         → h.caught ≡ Some c → is_class_at linked.now.world c ≡ true }
     ensures effects { (n : ℕ) (b : MethodBody) → slice_get linked.now.body.kept.methods n ≡ Some b

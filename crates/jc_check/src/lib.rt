@@ -23,10 +23,10 @@ mod words;
 
 pub use class_names::{class_of_name, name_of_class};
 pub use fault::{Fault, WordFault, reason_for};
-pub use handler::Handler;
+pub use handler::CheckedHandler;
 pub use known::types_name_classes;
 pub use law::first_fault_laws;
-pub use method::{Method, WORD_LOCALS, WORD_MAX_STACK};
+pub use method::{CheckedMethod, WORD_LOCALS, WORD_MAX_STACK};
 pub use package::{Checked, carried_packages_are_typed, check};
 pub use package_method::method_of;
 pub use words::{CheckedWords, check_words};

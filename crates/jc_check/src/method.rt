@@ -3,7 +3,7 @@
 ghost use Rattle.std.specs.Prelude.{◌≡◌};
 ghost use Rattle.jc_check.specs.Method.{word_method};
 
-use crate::handler::Handler;
+use crate::handler::CheckedHandler;
 use jc_types::Ty;
 use std::alloc::Global;
 use std::marker::Model;
@@ -17,19 +17,19 @@ pub const WORD_MAX_STACK: usize = 8;
 /// A method: its code, the types of its arguments, the number of its other locals, the greatest number of its operands,
 /// the type of its result, if it isn't void, and its exception handlers.
 #[derive(Drop)]
-pub struct Method<'a> {
+pub struct CheckedMethod<'a> {
     pub code: &'a [u8],
     pub arguments: Vec<Ty>,
     pub max_locals: u8,
     pub max_stack: u8,
     pub returned: Option<Ty>,
-    pub handlers: Vec<Handler>,
+    pub handlers: Vec<CheckedHandler>,
 }
 
-impl<'a> Model for Method<'a> {
-    ghost use Rattle.jc_check.specs.Method.{Method};
+impl<'a> Model for CheckedMethod<'a> {
+    ghost use Rattle.jc_check.specs.Method.{CheckedMethod};
 
-    ghost Value = { Method };
+    ghost Value = { CheckedMethod };
 
     ghost view = { λ m. record {
       code = m.code.now;
@@ -41,12 +41,12 @@ impl<'a> Model for Method<'a> {
     } };
 }
 
-impl<'a> Method<'a> {
+impl<'a> CheckedMethod<'a> {
     /// Code alone: a static method without arguments and handlers that returns a short. It takes no memory.
-    pub(crate) fn of_words(alloc: Global, code: &'a [u8]) -> Method<'a>
+    pub(crate) fn of_words(alloc: Global, code: &'a [u8]) -> CheckedMethod<'a>
         ensures { result ≡ word_method code.now }
     {
-        Method {
+        CheckedMethod {
             code,
             arguments: Vec::new(alloc),
             max_locals: WORD_LOCALS as u8,
@@ -64,7 +64,7 @@ impl<'a> Method<'a> {
     }
 
     /// Its handlers.
-    pub fn handlers(&self) -> &[Handler]
+    pub fn handlers(&self) -> &[CheckedHandler]
         ensures { result.now ≡ self.now.handlers }
     {
         &self.handlers

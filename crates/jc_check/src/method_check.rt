@@ -14,7 +14,7 @@ ghost use Rattle.jc_check.specs.declared.mark.ByteMark.TheVariants.{Inside};
 use crate::fault::{Fault, WordFault};
 use crate::input::PassInput;
 use crate::mark::ByteMark;
-use crate::method::Method;
+use crate::method::CheckedMethod;
 use crate::pass::{fall_to, walk_code};
 use crate::rules::CheckRules;
 use crate::seen::SeenLocals;
@@ -50,7 +50,7 @@ fn check_flow<R: CheckRules>(
 fn check_code<R: CheckRules>(
     alloc: Global,
     rules: &R,
-    method: &Method,
+    method: &CheckedMethod,
     marks: &mut [ByteMark],
     state: &mut State,
     seen: &mut SeenLocals,
@@ -85,7 +85,7 @@ fn check_code<R: CheckRules>(
 pub(crate) fn check_method<R: CheckRules>(
     alloc: Global,
     rules: &R,
-    method: &Method,
+    method: &CheckedMethod,
     states: &[StateRow],
 ) -> Result<(), WordFault>
     requires short { length method.now.code < 2 ^ 16 }

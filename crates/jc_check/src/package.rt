@@ -16,7 +16,7 @@ use crate::law::first_fault_laws;
 use crate::package_method::check_body;
 use crate::states::{states_for, stray_offset};
 use jc_base::{LoadFault, Reason};
-use jc_cert::{Cert, MethodRow};
+use jc_cert::{Cert, MethodStates};
 use jc_code::listing_laws;
 use jc_effects::effects_keep_shapes;
 use jc_link::{Linked, MethodCode, built_worlds_are_sound};
@@ -72,7 +72,7 @@ pub(crate) fn methods_of(linked: &Linked) -> &[MethodCode]
 fn uncarried(
     alloc: Global,
     linked: &Linked,
-    of: &[MethodRow],
+    of: &[MethodStates],
     body: &MethodCode,
 ) -> Result<Option<MethodFault>, LoadFault>
     requires { IsCert (rows of.now) }
@@ -104,7 +104,7 @@ fn stands_before(body: &MethodCode, told: Option<MethodFault>) -> bool
 fn told_with(
     alloc: Global,
     linked: &Linked,
-    of: &[MethodRow],
+    of: &[MethodStates],
     body: &MethodCode,
     told: Option<MethodFault>,
 ) -> Result<Option<MethodFault>, LoadFault>
@@ -126,7 +126,7 @@ fn told_with(
 fn first_uncarried(
     alloc: Global,
     linked: &Linked,
-    of: &[MethodRow],
+    of: &[MethodStates],
 ) -> Result<Option<MethodFault>, LoadFault>
     requires { IsCert (rows of.now) }
     ensures least { IfOk result (LeastOf linked.now (rows of.now) (length linked.now.body.kept.methods)) }

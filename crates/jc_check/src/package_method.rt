@@ -12,8 +12,8 @@ ghost use Rattle.jc_check.specs.Package.{arguments_of, caught_class, handler_of,
 ghost use Rattle.jc_check.specs.Package.{package_rules, receiver_of, thrown_class};
 
 use crate::fault::WordFault;
-use crate::handler::Handler;
-use crate::method::Method;
+use crate::handler::CheckedHandler;
+use crate::method::CheckedMethod;
 use crate::method_check::check_method;
 use crate::package_rules::PackageRules;
 use jc_api::ApiClass;
@@ -69,10 +69,10 @@ fn pc_at(offset: u16, code_offset: usize) -> u16
 }
 
 /// A handler of code that begins at an offset of the Method component.
-fn handler_of(linked: &Linked, code_offset: usize, row: &HandlerRow) -> Handler
+fn handler_of(linked: &Linked, code_offset: usize, row: &HandlerRow) -> CheckedHandler
     ensures { result ≡ handler_of linked.now code_offset row.now }
 {
-    Handler {
+    CheckedHandler {
         start: pc_at(row.start, code_offset),
         length: row.active_length,
         goes_on: pc_at(row.handler, code_offset),
@@ -86,7 +86,7 @@ fn handlers_of(
     linked: &Linked,
     code_offset: usize,
     rows: &[HandlerRow],
-) -> Result<Vec<Handler>, AllocError>
+) -> Result<Vec<CheckedHandler>, AllocError>
     ensures handlers { IfOk result (λ handlers. handlers.items ≡ map (handler_of linked.now code_offset) rows.now) }
     ensures room { IfOk result (λ handlers. vec_capacity handlers ≡ length rows.now) }
 {
@@ -189,13 +189,13 @@ pub fn method_of<'m>(
     alloc: Global,
     linked: &Linked,
     body: &'m MethodCode,
-) -> Result<Method<'m>, AllocError>
+) -> Result<CheckedMethod<'m>, AllocError>
     ensures method { IfOk result (λ method. method ≡ method_of linked.now body.now) }
     ensures short { IfOk result (λ method. length method.code < 2 ^ 16) }
 {
     let types = frame_types_of(alloc, linked, body.offset)?;
     let handlers = handlers_of(alloc, linked, body.code_offset, &body.handlers)?;
-    Ok(Method {
+    Ok(CheckedMethod {
         code: &body.code,
         arguments: types.arguments,
         max_locals: types.max_locals,

@@ -16,7 +16,7 @@ ghost use Rattle.jc_check.specs.PrivateSeen.{HasSeen, WasCaught, WereCaught, loc
 
 use crate::claim::Claim;
 use crate::fault::Fault;
-use crate::handler::Handler;
+use crate::handler::CheckedHandler;
 use crate::input::PassInput;
 use crate::mark::ByteMark;
 use crate::rules::CheckRules;
@@ -107,7 +107,7 @@ fn handle<R: CheckRules>(
     pc: u16,
     seen: &SeenLocals,
     changed: LocalRange,
-    handler: &Handler,
+    handler: &CheckedHandler,
 ) -> Result<(), Reason>
     requires table { IsSafeInput input.now }
     requires agree { AgreeOutside changed seen.now.locals state.now.types.locals }
@@ -135,7 +135,7 @@ fn handle_each<R: CheckRules>(
     pc: u16,
     seen: &SeenLocals,
     changed: LocalRange,
-    handlers: &[Handler],
+    handlers: &[CheckedHandler],
 ) -> Result<(), Reason>
     requires table { IsSafeInput input.now }
     requires agree { AgreeOutside changed seen.now.locals state.now.types.locals }

@@ -4,7 +4,7 @@ ghost use Rattle.std.specs.Prelude.{◌≡◌, ◌≢◌, [], length, Some, None
 ghost use Rattle.jc_types.specs.PrivateRanges.{AgreeOutside};
 ghost use Rattle.jc_check.specs.PrivateSeen.{covers_seen};
 
-use crate::handler::Handler;
+use crate::handler::CheckedHandler;
 use jc_types::{LocalRange, Ty, differing};
 use std::alloc::{AllocError, Global};
 use std::marker::Model;
@@ -17,9 +17,9 @@ pub(crate) struct SeenLocals {
 }
 
 impl Model for SeenLocals {
-    ghost use Rattle.jc_check.specs.PrivateSeen.{Seen};
+    ghost use Rattle.jc_check.specs.PrivateSeen.{SeenLocals};
 
-    ghost Value = { Seen };
+    ghost Value = { SeenLocals };
 
     ghost view = { λ s. record { locals = s.locals.items; pc = s.pc } };
 }
@@ -29,7 +29,7 @@ impl SeenLocals {
     pub(crate) fn none(
         alloc: Global,
         locals: &[Ty],
-        handlers: &[Handler],
+        handlers: &[CheckedHandler],
     ) -> Result<SeenLocals, AllocError>
         ensures pc { IfOk result (λ seen. seen.pc ≡ None) }
         ensures len { IfOk result (λ seen. handlers.now ≢ [] → length seen.locals ≡ length locals.now) }
@@ -43,7 +43,7 @@ impl SeenLocals {
     }
 
     /// Whether a handler covers that instruction.
-    pub(crate) fn is_covered_by(&self, handler: &Handler) -> bool
+    pub(crate) fn is_covered_by(&self, handler: &CheckedHandler) -> bool
         ensures { result ≡ covers_seen handler.now self.now }
     {
         match self.pc {

@@ -8,18 +8,18 @@ ghost use Rattle.jc_cert.specs.Cert.{IsCert, row, rows, stated};
 ghost use Rattle.jc_check.specs.Checked.{has_code_at, stated_for, stray_offset};
 
 use jc_base::NumberSet;
-use jc_cert::{MethodRow, StateRow};
+use jc_cert::{MethodStates, StateRow};
 use jc_link::MethodCode;
 
 /// The row at an index.
-fn row_at(of: &[MethodRow], place: usize) -> Option<&MethodRow>
+fn row_at(of: &[MethodStates], place: usize) -> Option<&MethodStates>
     ensures { option_map (λ m. m.now) result ≡ slice_get of.now place }
 {
     of.get(place)
 }
 
 /// The row for the method at an offset, if there is one.
-fn row_for(of: &[MethodRow], offset: u16) -> Option<&MethodRow>
+fn row_for(of: &[MethodStates], offset: u16) -> Option<&MethodStates>
     requires { IsCert (rows of.now) }
     ensures found { option_map (λ m. row m.now) result ≡ find (λ r. r.offset == offset) (rows of.now) }
     ensures count { IfSome result (λ m. length m.now.states.items < 2 ^ 16) }
@@ -34,7 +34,7 @@ fn row_for(of: &[MethodRow], offset: u16) -> Option<&MethodRow>
 }
 
 /// The states of the row for the method at an offset; none if there is no row.
-pub(crate) fn states_for(of: &[MethodRow], offset: u16) -> &[StateRow]
+pub(crate) fn states_for(of: &[MethodStates], offset: u16) -> &[StateRow]
     requires { IsCert (rows of.now) }
     ensures states { map stated result.now ≡ stated_for (rows of.now) offset }
     ensures count { length result.now < 2 ^ 16 }
@@ -57,14 +57,14 @@ fn code_offsets(methods: &[MethodCode]) -> NumberSet
 }
 
 /// The first row for an offset that isn't in a set.
-fn row_outside<'c>(of: &'c [MethodRow], offsets: &NumberSet) -> Option<&'c MethodRow>
+fn row_outside<'c>(of: &'c [MethodStates], offsets: &NumberSet) -> Option<&'c MethodStates>
     ensures { option_map (λ m. m.now) result ≡ find (λ m. not (has_number offsets.now m.offset)) of.now }
 {
     of.iter().find(|row| !offsets.contains(row.offset))
 }
 
 /// The offset of the first row for an offset without a method with code.
-pub(crate) fn stray_offset(of: &[MethodRow], methods: &[MethodCode]) -> Option<u16>
+pub(crate) fn stray_offset(of: &[MethodStates], methods: &[MethodCode]) -> Option<u16>
     ensures { result ≡ stray_offset methods.now (rows of.now) }
 {
     let offsets = code_offsets(methods);

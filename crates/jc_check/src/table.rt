@@ -18,9 +18,9 @@ ghost use Rattle.jc_check.specs.declared.mark.ByteMark.TheVariants.{Inside};
 
 use crate::claim::{Claim, types_found};
 use crate::fault::{Fault, WordFault, reason_for};
-use crate::handler::Handler;
+use crate::handler::CheckedHandler;
 use crate::mark::ByteMark;
-use crate::method::Method;
+use crate::method::CheckedMethod;
 use crate::rules::CheckRules;
 use jc_base::Reason;
 use jc_cert::StateRow;
@@ -41,7 +41,7 @@ pub(crate) fn no_marks(alloc: Global, count: usize) -> Result<Vec<ByteMark>, All
 /// Steps from instruction to instruction, and marks where they begin. After a fault the marks mustn't be used.
 pub(crate) fn mark_starts<R: CheckRules>(
     rules: &R,
-    method: &Method,
+    method: &CheckedMethod,
     marks: &mut [ByteMark],
 ) -> Result<(), Fault>
     requires none { marks.old ≡ replicate (length method.now.code) Inside }
@@ -94,7 +94,7 @@ fn begins_at(marks: &[ByteMark], pc: usize) -> bool
     }
 }
 
-fn stand_handler(marks: &[ByteMark], handler: &Handler) -> Result<(), Reason>
+fn stand_handler(marks: &[ByteMark], handler: &CheckedHandler) -> Result<(), Reason>
     ensures { ForTable marks.now (λ listing. result ≡ handler_stands listing handler.now) }
 {
     if !begins_at(marks, usize::from(handler.goes_on)) {
@@ -107,7 +107,7 @@ fn stand_handler(marks: &[ByteMark], handler: &Handler) -> Result<(), Reason>
 }
 
 /// Tests the handlers in order: each goes on where an instruction begins, and catches a class.
-pub(crate) fn stand_handlers(marks: &[ByteMark], handlers: &[Handler]) -> Result<(), Fault>
+pub(crate) fn stand_handlers(marks: &[ByteMark], handlers: &[CheckedHandler]) -> Result<(), Fault>
     ensures { ForTable marks.now (λ listing. result ≡ handlers_stand listing handlers.now) }
 {
     for index in 0..handlers.len() {
@@ -122,7 +122,7 @@ pub(crate) fn stand_handlers(marks: &[ByteMark], handlers: &[Handler]) -> Result
     Ok(())
 }
 
-fn fits(method: &Method, row: &StateRow) -> bool
+fn fits(method: &CheckedMethod, row: &StateRow) -> bool
     ensures { result ≡ has_shape method.now (stated row.now) }
 {
     row.locals.len() == method.arguments.len() + usize::from(method.max_locals)
@@ -155,7 +155,7 @@ fn claim_found<R: CheckRules>(
 fn stand_state<R: CheckRules>(
     alloc: Global,
     rules: &R,
-    method: &Method,
+    method: &CheckedMethod,
     marks: &[ByteMark],
     row: &StateRow,
 ) -> Result<Claim, WordFault>
@@ -191,9 +191,9 @@ fn mismatch(pc: u16) -> WordFault
 fn hold(marks: &mut [ByteMark], pc: usize, number: u16)
     requires within { pc < length marks.old }
     ensures len { length marks.new ≡ length marks.old }
-    ensures table { (rules : Rules) (m : methods.Method) (listing : List PlacedInstr) (claims : List claimed.Claim)
-        (claim : claimed.Claim) → IsTable rules m listing claims marks.old → length claims ≡ number
-        → claim.pc ≡ pc → begins listing pc ≡ true → claim_fits m claim ≡ true
+    ensures table { (rules : Rules) (m : methods.CheckedMethod) (listing : List PlacedInstr)
+        (claims : List claimed.Claim) (claim : claimed.Claim) → IsTable rules m listing claims marks.old
+        → length claims ≡ number → claim.pc ≡ pc → begins listing pc ≡ true → claim_fits m claim ≡ true
         → IsTable rules m listing (claims ++ claim ∷ []) marks.new }
 {
     match marks[pc] {
@@ -207,7 +207,7 @@ fn hold(marks: &mut [ByteMark], pc: usize, number: u16)
 pub(crate) fn mark_states<R: CheckRules>(
     alloc: Global,
     rules: &R,
-    method: &Method,
+    method: &CheckedMethod,
     marks: &mut [ByteMark],
     states: &[StateRow],
 ) -> Result<Vec<Claim>, WordFault>

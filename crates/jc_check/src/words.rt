@@ -10,7 +10,7 @@ ghost use Rattle.jc_check.specs.FirstFault.{IsFirstFaultOf};
 
 use crate::fault::WordFault;
 use crate::law::first_fault_laws;
-use crate::method::Method;
+use crate::method::CheckedMethod;
 use crate::method_check::check_method;
 use crate::rules::WordRules;
 use jc_base::Reason;
@@ -95,7 +95,7 @@ pub fn check_words<'a>(
     check_method(
         alloc,
         &WordRules::new(),
-        &Method::of_words(alloc, code),
+        &CheckedMethod::of_words(alloc, code),
         states,
     )?;
     Ok(CheckedWords { code })

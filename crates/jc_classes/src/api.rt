@@ -15,7 +15,7 @@ ghost use Rattle.jc_classes.specs.PrivateApi.{counts, if_token, with_room};
 ghost use Rattle.jc_classes.specs.PrivateShape.{record_of};
 ghost use Rattle.jc_classes.specs.declared.api.Tokens.TheVariants as Of;
 
-use crate::shape::{Body, Class, ClassBody, Export, Method, PackageShape, Table};
+use crate::shape::{Body, Class, ClassBody, DescribedMethod, Export, PackageShape, Table};
 use crate::shapes::Shapes;
 use crate::table::ClassTable;
 use jc_api::{
@@ -257,13 +257,13 @@ fn method_in(
     binding: &Binding,
     number: u8,
     member: Member,
-) -> Result<Method, AllocError>
+) -> Result<DescribedMethod, AllocError>
     requires { length member.parameters.now < 255 }
     ensures { IfOk result (λ method. method ≡ method_in binding.now number (shown member)) }
 {
     let which = member.class.package();
     let parameters = parameters_in(alloc, binding, which, member.parameters)?;
-    Ok(Method {
+    Ok(DescribedMethod {
         token: 0,
         is_static: is_static(member.kind),
         offset: u16::from(number),
@@ -293,7 +293,7 @@ fn declared_by(class: ApiClass, number: u8) -> Option<Member>
 
 /// Appends the method with a number, if a class declares it.
 fn put_method(
-    methods: &mut Vec<Method>,
+    methods: &mut Vec<DescribedMethod>,
     binding: &Binding,
     class: ApiClass,
     number: u8,
@@ -311,7 +311,11 @@ fn put_method(
 
 /// The methods that a class declares.
 #[tactic(auto, using(crate::proofs::Numbering::those_more, crate::proofs::Numbering::those_none))]
-fn methods_in(alloc: Global, binding: &Binding, class: ApiClass) -> Result<Vec<Method>, AllocError>
+fn methods_in(
+    alloc: Global,
+    binding: &Binding,
+    class: ApiClass,
+) -> Result<Vec<DescribedMethod>, AllocError>
     ensures methods { IfOk result (λ methods. methods.items ≡ those_to last_member (method_of binding.now class)) }
     ensures few { IfOk result (λ methods. length methods.items < 2 ^ 16) }
 {

@@ -7,7 +7,8 @@ ghost use Rattle.jc_classes.specs.PrivateShape.{record_of};
 ghost use Rattle.jc_classes.specs.declared.shape.Body.TheVariants as Kept;
 
 use crate::shape::{
-    Body, Class, ClassBody, Export, Field, ImplementedInterface, Method, PackageShape, Table,
+    Body, Class, ClassBody, DescribedMethod, Export, Field, ImplementedInterface, PackageShape,
+    Table,
 };
 use jc_base::{U2s, owned_rows};
 use jc_cap::{ClassRecord, ExportedClass, RecordBody, VirtualTable};
@@ -106,12 +107,12 @@ fn fields_of(alloc: Global, class: &jc_cap_desc::Class) -> Result<Vec<Field>, Al
     Ok(copied)
 }
 
-fn method_of(alloc: Global, method: &ClassMethod) -> Result<Method, AllocError>
+fn method_of(alloc: Global, method: &ClassMethod) -> Result<DescribedMethod, AllocError>
     ensures { IfOk result (λ copied. copied ≡ method.now) }
 {
     let signature = method.signature();
     let parameters = owned_rows(alloc, &signature.parameters())?;
-    Ok(Method {
+    Ok(DescribedMethod {
         token: method.token(),
         is_static: method.is_static(),
         offset: method.offset(),
@@ -121,7 +122,7 @@ fn method_of(alloc: Global, method: &ClassMethod) -> Result<Method, AllocError>
     })
 }
 
-fn methods_of(alloc: Global, class: &jc_cap_desc::Class) -> Result<Vec<Method>, AllocError>
+fn methods_of(alloc: Global, class: &jc_cap_desc::Class) -> Result<Vec<DescribedMethod>, AllocError>
     ensures copied { IfOk result (λ copied. copied.items ≡ class.now.methods) }
     ensures room { IfOk result (λ copied. vec_capacity copied ≡ length class.now.methods) }
     ensures few { IfOk result (λ copied. length copied.items < 2 ^ 16) }

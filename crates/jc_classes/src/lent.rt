@@ -6,7 +6,9 @@ ghost use Rattle.jc_classes.specs.Record.{declared_size, public_entries, package
 ghost use Rattle.jc_classes.specs.Record.{interface_rows};
 ghost use Rattle.jc_classes.specs.World.{superclass_ref, listed_refs};
 
-use crate::shape::{Body, Class, Export, Field, ImplementedInterface, Method, PackageShape, Table};
+use crate::shape::{
+    Body, Class, DescribedMethod, Export, Field, ImplementedInterface, PackageShape, Table,
+};
 use jc_base::{ClassRef, DeclaredType, PackageInfo, ReturnType};
 use jc_cap::{MethodHeader, Superinterface};
 use jc_cap_desc::FieldPlace;
@@ -165,7 +167,7 @@ impl Class {
     }
 
     /// Its methods.
-    pub fn methods(&self) -> &[Method]
+    pub fn methods(&self) -> &[DescribedMethod]
         ensures { result.now ≡ self.now.methods }
     {
         &self.methods
@@ -204,7 +206,7 @@ impl Field {
     }
 }
 
-impl Method {
+impl DescribedMethod {
     /// Its token, which is used only in an interface.
     pub fn token(&self) -> u8
         ensures { result ≡ self.now.token }

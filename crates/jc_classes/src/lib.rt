@@ -26,7 +26,7 @@ pub use found::FoundMethods;
 pub use growth::{adding_keeps_lookups, growing_keeps_lookups};
 pub use members::DeclaredMethod;
 pub use methods::method_name;
-pub use shape::{Class, Export, Field, ImplementedInterface, Method, PackageShape};
+pub use shape::{Class, DescribedMethod, Export, Field, ImplementedInterface, PackageShape};
 pub use subtypes::{found_subtypes_are_subtypes, superclass_laws};
 pub use table::ClassTable;
 pub use walk::anchor_behind;

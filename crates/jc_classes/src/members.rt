@@ -4,7 +4,7 @@ ghost use Rattle.std.specs.Prelude.{◌≡◌, ◌≤◌, IfSome};
 ghost use Rattle.jc_names.specs.Names.{method_home, method_offset};
 ghost use Rattle.jc_classes.specs.Members.{declared_in, name_of, method_at};
 
-use crate::shape::{Class, Method, PackageShape};
+use crate::shape::{Class, DescribedMethod, PackageShape};
 use crate::table::ClassTable;
 use jc_names::{ClassName, MethodName, PackagePlace, name_in};
 use std::marker::Model;
@@ -13,7 +13,7 @@ use std::marker::Model;
 #[derive(Drop)]
 pub struct DeclaredMethod<'t> {
     pub class: ClassName,
-    pub method: &'t Method,
+    pub method: &'t DescribedMethod,
 }
 
 impl<'t> Model for DeclaredMethod<'t> {

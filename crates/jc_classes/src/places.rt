@@ -6,7 +6,7 @@ ghost use Rattle.jc_classes.specs.Limits.{most_classes_of_one};
 ghost use Rattle.jc_classes.specs.PrivatePlaces.{place_at, place_or, position_in, first_method, AreClassPlaces};
 ghost use Rattle.jc_classes.specs.PrivatePlaces.{AreMethodPlaces};
 
-use crate::shape::{Body, Class, Export, Method, MethodPlace, PackageShape};
+use crate::shape::{Body, Class, DescribedMethod, Export, MethodPlace, PackageShape};
 use jc_base::PackageInfo;
 use std::alloc::{AllocError, Global};
 use std::marker::Model;
@@ -61,7 +61,7 @@ fn class_places(alloc: Global, classes: &[Class]) -> Result<Vec<Option<u8>>, All
 fn put_methods(
     places: &mut Vec<Option<MethodPlace>>,
     class: u8,
-    methods: &[Method],
+    methods: &[DescribedMethod],
 ) -> Result<(), AllocError>
     requires { length methods.now < 2 ^ 16 }
     ensures { IfOk result (λ u. (i : ℕ) → place_at places.new.items i ≡ place_or class
@@ -114,7 +114,7 @@ fn method_places(alloc: Global, classes: &[Class]) -> Result<Vec<Option<MethodPl
 #[derive(Drop)]
 pub(crate) struct PlacedMethod<'t> {
     pub(crate) class: &'t Class,
-    pub(crate) method: &'t Method,
+    pub(crate) method: &'t DescribedMethod,
 }
 
 impl<'t> Model for PlacedMethod<'t> {

@@ -91,7 +91,7 @@ impl Model for Field {
 
 /// A method.
 #[derive(Drop)]
-pub struct Method {
+pub struct DescribedMethod {
     pub(crate) token: u8,
     pub(crate) is_static: bool,
     pub(crate) offset: u16,
@@ -100,7 +100,7 @@ pub struct Method {
     pub(crate) result: ReturnType<ClassRef>,
 }
 
-impl Model for Method {
+impl Model for DescribedMethod {
     ghost use Rattle.jc_cap_desc.specs.Shape.{MethodShape};
 
     ghost Value = { MethodShape };
@@ -121,7 +121,7 @@ pub struct Class {
     pub(crate) body: Body,
     pub(crate) is_abstract: bool,
     pub(crate) fields: Vec<Field>,
-    pub(crate) methods: Vec<Method>,
+    pub(crate) methods: Vec<DescribedMethod>,
 }
 
 impl Model for Class {

@@ -16,7 +16,7 @@ use crate::row::{Demand, Given};
 use crate::setting::Setting;
 use crate::words::takes;
 use jc_base::ReturnType;
-use jc_classes::{Class, ClassTable, Method};
+use jc_classes::{Class, ClassTable, DescribedMethod};
 use jc_code::Invocation;
 use jc_link::{MemberType, PoolTarget, is_known_method, return_found};
 use jc_names::ClassName;
@@ -105,14 +105,14 @@ fn static_call_row<'a>(target: &'a PoolTarget) -> Option<Row<'a>>
 }
 
 /// The method with a token in a class's rows.
-fn method_with(found: &Class, token: u8) -> Option<&Method>
+fn method_with(found: &Class, token: u8) -> Option<&DescribedMethod>
     ensures { option_map (λ m. m.now) result ≡ find (λ m. m.token == token) found.now.methods }
 {
     found.methods().iter().find(|m| m.token() == token)
 }
 
 /// The method of an interface with a token, from the interface's own rows.
-fn interface_method(table: &ClassTable, interface: ClassName, token: u8) -> Option<&Method>
+fn interface_method(table: &ClassTable, interface: ClassName, token: u8) -> Option<&DescribedMethod>
     ensures { option_map (λ m. m.now) result ≡ option_and_then
         (λ k. if is_class k.body then None else find (λ m. m.token == token) k.methods) (class_at table.now interface) }
 {
@@ -130,7 +130,7 @@ fn spelled_row<'a>(
     table: &'a ClassTable,
     interface: ClassName,
     arguments: u8,
-    method: &'a Method,
+    method: &'a DescribedMethod,
 ) -> Option<Row<'a>>
     ensures { option_map row_said result ≡ option_and_then (objects.interface_row arguments)
         (member_type_of table.now (home_of interface) method.now.signature) }

@@ -11,12 +11,12 @@ ghost use Rattle.jc_safety.specs.Loading.{HaveOwnOffsets, byte_at, loaded_static
 use jc_base::{ClassRef, DeclaredType};
 use jc_cap_desc::FieldPlace;
 use jc_classes::{Class, Field, PackageShape};
-use jc_link::{Linked, Statics};
+use jc_link::{Linked, StaticImage};
 use jc_safety::static_fields_have_own_offsets;
 use std::alloc::{AllocError, Global};
 
 /// The byte at an offset of the image after the references: 0, except for the last bytes, which have values.
-fn byte_at(statics: &Statics, offset: usize) -> u16
+fn byte_at(statics: &StaticImage, offset: usize) -> u16
     ensures byte { result ≡ byte_at statics.now offset }
     ensures small { result < 256 }
 {
@@ -33,14 +33,14 @@ fn byte_at(statics: &Statics, offset: usize) -> u16
 }
 
 /// Two bytes, the high one first.
-fn short_at(statics: &Statics, offset: u16) -> u16
+fn short_at(statics: &StaticImage, offset: u16) -> u16
     ensures { result ≡ short_at statics.now offset }
 {
     256 * byte_at(statics, usize::from(offset)) + byte_at(statics, usize::from(offset) + 1)
 }
 
 /// The reference at an offset: the first ones are to the initialised arrays, which follow so many objects.
-fn reference_at(statics: &Statics, objects: u16, offset: u16) -> u16
+fn reference_at(statics: &StaticImage, objects: u16, offset: u16) -> u16
     ensures { result ≡ reference_word objects statics.now offset }
 {
     let place = offset / 2;
@@ -52,7 +52,12 @@ fn reference_at(statics: &Statics, objects: u16, offset: u16) -> u16
 }
 
 /// The word of a field of a type at an offset of the image.
-fn word_at(statics: &Statics, objects: u16, offset: u16, declared: DeclaredType<ClassRef>) -> u16
+fn word_at(
+    statics: &StaticImage,
+    objects: u16,
+    offset: u16,
+    declared: DeclaredType<ClassRef>,
+) -> u16
     ensures { result ≡ word_at objects statics.now offset declared }
 {
     match declared {
@@ -78,7 +83,7 @@ fn put_word(words: &mut [u16], offset: u16, word: u16)
 }
 
 /// Puts the word of a field at its offset, if the field is static.
-fn put_field(words: &mut [u16], statics: &Statics, objects: u16, field: &Field)
+fn put_field(words: &mut [u16], statics: &StaticImage, objects: u16, field: &Field)
     ensures { words.new ≡ with_field objects statics.now words.old field.now }
 {
     match field.place() {
@@ -91,7 +96,7 @@ fn put_field(words: &mut [u16], statics: &Statics, objects: u16, field: &Field)
 }
 
 /// Puts the words of those fields that are static.
-fn put_fields(words: &mut [u16], statics: &Statics, objects: u16, fields: &[Field])
+fn put_fields(words: &mut [u16], statics: &StaticImage, objects: u16, fields: &[Field])
     ensures { words.new ≡ with_fields objects statics.now words.old fields.now }
 {
     for field in fields {
@@ -100,7 +105,7 @@ fn put_fields(words: &mut [u16], statics: &Statics, objects: u16, fields: &[Fiel
 }
 
 /// Puts the words of the static fields of some classes.
-fn put_classes(words: &mut [u16], statics: &Statics, objects: u16, classes: &[Class])
+fn put_classes(words: &mut [u16], statics: &StaticImage, objects: u16, classes: &[Class])
     ensures { words.new ≡ with_classes objects statics.now words.old classes.now }
 {
     for class in classes {
@@ -109,7 +114,7 @@ fn put_classes(words: &mut [u16], statics: &Statics, objects: u16, classes: &[Cl
 }
 
 /// The static fields of a linked package.
-fn statics_of(linked: &Linked) -> &Statics
+fn statics_of(linked: &Linked) -> &StaticImage
     ensures { result.now ≡ linked.now.body.kept.statics }
 {
     &linked.body().kept().statics

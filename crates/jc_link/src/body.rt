@@ -37,7 +37,7 @@ impl Model for InitialArray {
 
 /// The static fields of a package.
 #[derive(Drop)]
-pub struct Statics {
+pub struct StaticImage {
     /// The size of their image in bytes.
     pub size: u16,
     /// How many references it begins with.
@@ -50,7 +50,7 @@ pub struct Statics {
     pub values: Vec<u8>,
 }
 
-impl Model for Statics {
+impl Model for StaticImage {
     ghost use Rattle.jc_cap.specs.Statics.{StaticImage};
 
     ghost Value = { StaticImage };
@@ -99,7 +99,7 @@ pub struct PackageBody {
     /// The applets, or `None` if the package is a library.
     pub applets: Option<Vec<Applet>>,
     pub pool: Vec<PoolEntry>,
-    pub statics: Statics,
+    pub statics: StaticImage,
     /// The methods with code.
     pub methods: Vec<MethodCode>,
 }
@@ -192,12 +192,12 @@ fn arrays_of(alloc: Global, from: &StaticFields) -> Result<Vec<InitialArray>, Al
     Ok(arrays)
 }
 
-fn statics_of(alloc: Global, from: &StaticFields) -> Result<Statics, AllocError>
+fn statics_of(alloc: Global, from: &StaticFields) -> Result<StaticImage, AllocError>
     ensures { IfOk result (λ statics. statics ≡ from.now) }
 {
     let arrays = arrays_of(alloc, from)?;
     let values = Vec::from_slice(alloc, from.values())?;
-    Ok(Statics {
+    Ok(StaticImage {
         size: from.image_size(),
         references: from.reference_count(),
         arrays,

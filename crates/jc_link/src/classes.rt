@@ -14,7 +14,7 @@ ghost use Rattle.jc_link.specs.Classes.{is_bad_entry, has_bad_entry, argument_co
 use crate::types::{is_known_field, is_known_method};
 use jc_base::ClassRef;
 use jc_cap_desc::FieldPlace;
-use jc_classes::{Class, ClassTable, DeclaredMethod, Field, Method, method_name};
+use jc_classes::{Class, ClassTable, DeclaredMethod, DescribedMethod, Field, method_name};
 use jc_names::{ClassName, PackagePlace};
 
 /// The greatest number of classes and interfaces.
@@ -235,7 +235,7 @@ pub(crate) fn has_field_past_size(found: &Class) -> bool
 }
 
 /// How many words of arguments a method takes by its type, `this` included.
-fn argument_count(method: &Method) -> usize
+fn argument_count(method: &DescribedMethod) -> usize
     ensures { result ≡ argument_count method.now }
 {
     let parameters = method.parameters().len();
@@ -247,7 +247,7 @@ fn argument_count(method: &Method) -> usize
 }
 
 /// Whether a method's header states another number.
-fn has_other_words(method: &Method) -> bool
+fn has_other_words(method: &DescribedMethod) -> bool
     ensures { result
         ≡ option_map_or (λ header. not (header.nargs == argument_count method.now)) method.now.header false }
 {

@@ -16,7 +16,7 @@ use crate::classes::MOST_CLASSES;
 use crate::methods::ClassMethods;
 use crate::pool::{is_abstract_method, is_concrete};
 use crate::types::{implements_type, is_known_method, same_method_type};
-use jc_classes::{Class, ClassTable, ImplementedInterface, Method, Places, anchor_behind};
+use jc_classes::{Class, ClassTable, DescribedMethod, ImplementedInterface, Places, anchor_behind};
 use jc_names::{ClassName, MethodName, PackagePlace};
 
 /// Tokens from this one on are package-visible.
@@ -194,7 +194,7 @@ fn is_unimplemented(
     class: &ClassMethods<'_>,
     indexes: &[u8],
     home: PackagePlace,
-    method: &Method,
+    method: &DescribedMethod,
 ) -> bool
     ensures { result ≡ is_unimplemented class.now.world class.now.class indexes.now home method.now }
 {
@@ -211,7 +211,7 @@ fn lacks_one_of(
     class: &ClassMethods<'_>,
     indexes: &[u8],
     home: PackagePlace,
-    methods: &[Method],
+    methods: &[DescribedMethod],
 ) -> bool
     ensures { result ≡ list_any (is_unimplemented class.now.world class.now.class indexes.now home) methods.now }
 {

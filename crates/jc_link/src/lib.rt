@@ -19,7 +19,7 @@ mod types;
 mod well_formed;
 mod world;
 
-pub use body::{ArrayKind, InitialArray, MethodCode, PackageBody, Statics};
+pub use body::{ArrayKind, InitialArray, MethodCode, PackageBody, StaticImage};
 pub use growth::{
     adding_keeps_linking, an_applet_is_well_formed, built_worlds_are_sound,
     built_worlds_have_the_api, built_worlds_name_classes, built_worlds_stand_on_the_api,

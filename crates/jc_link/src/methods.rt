@@ -16,18 +16,18 @@ const PACKAGE_VISIBLE: u8 = 128;
 
 /// The methods of a class at all virtual tokens; the package-visible ones for one package.
 #[derive(Drop)]
-struct Methods {
+struct MethodsByToken {
     public: FoundMethods,
     visible: FoundMethods,
 }
 
-impl Methods {
+impl MethodsByToken {
     /// Looks them up, for the package at place `asker`.
     #[tactic(auto, using(crate::proofs::Looking::all_methods))]
-    fn new(table: &ClassTable, class: ClassName, asker: usize) -> Methods
+    fn new(table: &ClassTable, class: ClassName, asker: usize) -> MethodsByToken
         ensures { AreAllMethodsOf table.now class asker result }
     {
-        Methods {
+        MethodsByToken {
             public: table.public_methods(class),
             visible: table.visible_methods(class, asker),
         }
@@ -51,8 +51,8 @@ pub(crate) struct ClassMethods<'t> {
     table: &'t ClassTable,
     home: PackagePlace,
     class: ClassName,
-    own: Methods,
-    above: Option<Methods>,
+    own: MethodsByToken,
+    above: Option<MethodsByToken>,
 }
 
 impl<'t> Model for ClassMethods<'t> {
@@ -67,11 +67,11 @@ impl<'t> Model for ClassMethods<'t> {
 }
 
 /// The methods of the superclass, if there is one.
-fn methods_above(table: &ClassTable, home: PackagePlace, class: ClassName) -> Option<Methods>
+fn methods_above(table: &ClassTable, home: PackagePlace, class: ClassName) -> Option<MethodsByToken>
     ensures { AreMethodsAbove table.now home class result }
 {
     let above = table.superclass_of(class)?;
-    Some(Methods::new(table, above, home.index()))
+    Some(MethodsByToken::new(table, above, home.index()))
 }
 
 impl<'t> ClassMethods<'t> {
@@ -83,7 +83,7 @@ impl<'t> ClassMethods<'t> {
             table,
             home,
             class,
-            own: Methods::new(table, class, home.index()),
+            own: MethodsByToken::new(table, class, home.index()),
             above: methods_above(table, home, class),
         }
     }

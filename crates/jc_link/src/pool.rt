@@ -15,7 +15,7 @@ use crate::named::{Named, StaticPlace};
 use jc_base::LoadFault;
 use jc_cap::{MemberRef, PoolEntry, StaticRef};
 use jc_cap_desc::Package;
-use jc_classes::{ClassTable, Export, Method, method_name};
+use jc_classes::{ClassTable, DescribedMethod, Export, method_name};
 use jc_names::{ClassName, MethodName, PackagePlace};
 use std::alloc::Global;
 
@@ -81,7 +81,7 @@ fn static_method_place(
 }
 
 /// Whether a method's header states that it is abstract.
-pub(crate) fn is_abstract_method(method: &Method) -> bool
+pub(crate) fn is_abstract_method(method: &DescribedMethod) -> bool
     ensures { result ≡ is_abstract_method method.now }
 {
     match method.header() {

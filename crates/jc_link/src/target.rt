@@ -12,7 +12,7 @@ use crate::fields::{cells_above, instance_field_at, static_field_at};
 use crate::named::{Named, StaticPlace};
 use crate::types::{return_found, type_found};
 use jc_base::{ClassRef, DeclaredType, ReturnType};
-use jc_classes::{ClassTable, Method};
+use jc_classes::{ClassTable, DescribedMethod};
 use jc_names::{ClassName, MethodName, PackagePlace};
 use std::alloc::{AllocError, Global};
 use std::marker::Model;
@@ -96,7 +96,7 @@ pub fn member_type(
     alloc: Global,
     table: &ClassTable,
     home: PackagePlace,
-    method: &Method,
+    method: &DescribedMethod,
 ) -> Result<Option<MemberType>, AllocError>
     ensures { IfOk result (λ type. type ≡ member_type_of table.now home method.now.signature) }
 {

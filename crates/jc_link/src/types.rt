@@ -10,7 +10,7 @@ ghost use Rattle.jc_link.specs.PrivateAgree.{type_agrees, types_agree, return_ag
 
 use jc_api::ApiClass;
 use jc_base::{ClassRef, DeclaredType, ReturnType};
-use jc_classes::{ClassTable, DeclaredMethod, Field, Method};
+use jc_classes::{ClassTable, DeclaredMethod, DescribedMethod, Field};
 use jc_names::{ClassName, MethodName, PackagePlace};
 
 /// A class as types count it: an interface counts as Object.
@@ -167,9 +167,9 @@ fn types_agree(
 fn same_spelled_type(
     table: &ClassTable,
     home: PackagePlace,
-    one: &Method,
+    one: &DescribedMethod,
     there: PackagePlace,
-    other: &Method,
+    other: &DescribedMethod,
 ) -> bool
     ensures { result ≡ have_same_type (member_type_of table.now home one.now.signature)
         (member_type_of table.now there other.now.signature) }
@@ -196,7 +196,7 @@ fn are_known_types(table: &ClassTable, home: PackagePlace, types: &[DeclaredType
 
 /// Whether a method's type resolves.
 #[tactic(auto, using(crate::proofs::Agree::signature_there))]
-pub fn is_known_method(table: &ClassTable, home: PackagePlace, method: &Method) -> bool
+pub fn is_known_method(table: &ClassTable, home: PackagePlace, method: &DescribedMethod) -> bool
     ensures { result ≡ is_some (member_type_of table.now home method.now.signature) }
 {
     are_known_types(table, home, method.parameters())
@@ -236,7 +236,7 @@ pub(crate) fn same_method_type(table: &ClassTable, one: MethodName, other: Metho
 pub(crate) fn implements_type(
     table: &ClassTable,
     home: PackagePlace,
-    spelled: &Method,
+    spelled: &DescribedMethod,
     method: Option<MethodName>,
 ) -> bool
     ensures { result ≡ have_same_type (member_type_of table.now home spelled.now.signature)

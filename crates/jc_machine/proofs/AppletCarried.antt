@@ -8,7 +8,7 @@ use Rattle.jc_api.specs.Token.{chain, is_at_or_above}
 use Rattle.jc_api.specs.declared.class.ApiClass.TheVariants.{Apdu}
 use Rattle.jc_check.specs.Carried.{Carries, IsCarriedAt, NothingGoesOn, state_at}
 use Rattle.jc_check.specs.Checked.{IsMethodCarried, IsMethodTyped, IsPackageCarried, IsPackageTyped}
-use Rattle.jc_check.specs.Method.{Method}
+use Rattle.jc_check.specs.Method.{CheckedMethod}
 use Rattle.jc_check.specs.Package.{method_of}
 use Rattle.jc_check.specs.Typing.{HasShape, IsFineAt, IsShaped, IsTyping, Typing}
 use Rattle.jc_classes.specs.Api.{api_world, each_below, number_to, room_to, those_to}
@@ -124,7 +124,7 @@ install_carried = record {
 
 -- ---- process, as the check sees it: it returns
 
-abbrev process : Method
+abbrev process : CheckedMethod
 process = method_of applet_linked process_code
 
 abbrev only_returns : PlacedInstr

@@ -6,7 +6,7 @@ use Rattle.std.specs.List.{AllByRecursion}
 use Rattle.std.specs.Option.{option_and_then}
 use Rattle.jc_api.specs.Token.{chain, is_at_or_above}
 use Rattle.jc_cap_desc.specs.Shape.{MethodBody}
-use Rattle.jc_check.specs.Method.{Method}
+use Rattle.jc_check.specs.Method.{CheckedMethod}
 use Rattle.jc_check.specs.Package.{method_of, package_rules}
 use Rattle.jc_check.specs.Rules.{Rules}
 use Rattle.jc_check.specs.Typing.{IsFineAt, IsShaped, IsTyping, Typing}
@@ -58,7 +58,7 @@ rules = package_rules applet_linked
 abbrev pub install_code : MethodBody
 install_code = record { offset = 1; code_offset = 3; code = 0x8F ∷ 0 ∷ 0 ∷ 0x8B ∷ 0 ∷ 1 ∷ 0x7A ∷ []; handlers = [] }
 
-abbrev pub install : Method
+abbrev pub install : CheckedMethod
 install = method_of applet_linked install_code
 
 -- its instructions: the applet is made, it is registered, and install returns

@@ -19,7 +19,7 @@ use Rattle.jc_natives.specs.Checks.{UsesUnlessNull, access_of, are_aids, calls_o
 use Rattle.jc_natives.specs.Checks.{uses_value}
 use Rattle.jc_natives.specs.Kept.{Kept}
 use Rattle.jc_natives.specs.PrivateCells.{argument, bare, bared, size_of}
-use Rattle.jc_natives.specs.PrivateSeen.{Seen, arguments_of, seen_of}
+use Rattle.jc_natives.specs.PrivateSeen.{NativeInput, arguments_of, seen_of}
 use Rattle.jc_natives.specs.PrivateTests.{Tested, by_verdict, facts_of, fails, followed, goes_on, is_in_range}
 use Rattle.jc_natives.specs.PrivateTests.{length_of, on_object, passes, ranged, test, tested, used}
 use Rattle.jc_natives.specs.Taking.{Called, called}
@@ -108,7 +108,7 @@ module _ (w : World) (call : NativeCall Kept) where
   abbrev h : Called
   h = called w call
 
-  abbrev s : Seen
+  abbrev s : NativeInput
   s = seen_of w call
 
   abbrev args : List ℕ

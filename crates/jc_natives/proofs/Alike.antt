@@ -18,7 +18,7 @@ use Rattle.jc_natives.specs.Meaning.{answer_of, begun, done, ended, unchanged, w
 use Rattle.jc_natives.specs.Members.{member_of_native, natives}
 use Rattle.jc_natives.specs.PrivateMeaning.{answer_on_words, begun_on_words, ended_on_words, work_of}
 use Rattle.jc_natives.specs.PrivateMeaning.{row_of}
-use Rattle.jc_natives.specs.PrivateSeen.{Seen, arguments_of, seen_of}
+use Rattle.jc_natives.specs.PrivateSeen.{NativeInput, arguments_of, seen_of}
 use Rattle.jc_natives.specs.PrivateTests.{tested}
 use Rattle.jc_natives.specs.Taking.{Called, called}
 use Rattle.jc_natives.specs.Work.{Work}
@@ -87,7 +87,7 @@ module _ (w : World) (call : NativeCall Kept) where
   abbrev h : Called
   h = called w call
 
-  abbrev s : Seen
+  abbrev s : NativeInput
   s = seen_of w call
 
   abbrev args : List ℕ

@@ -24,7 +24,7 @@ use Rattle.jc_natives.specs.PrivateCells.{argument}
 use Rattle.jc_natives.specs.PrivateMeaning.{answer_on_words, begun_on_words, ended_on_words, work_of}
 use Rattle.jc_natives.specs.PrivateMeaning.{row_of}
 use Rattle.jc_natives.specs.declared.native.Elements.{Elements}
-use Rattle.jc_natives.specs.PrivateSeen.{Seen, arguments_of, seen_of}
+use Rattle.jc_natives.specs.PrivateSeen.{NativeInput, arguments_of, seen_of}
 use Rattle.jc_natives.specs.PrivateTests.{Tested, by_verdict, followed, on_object, tested, used}
 use Rattle.jc_natives.specs.Work.{Asks, Does, Ending, Makes, NewArray, Throws, Work, no_transient_space}
 use Rattle.jc_natives.specs.declared.native.Native.{Native}
@@ -182,7 +182,7 @@ module _ (w : World) (call : NativeCall Kept) where
           } ∷ []) call.runtime (Throws system_exception) uses fine ((owns call touches).system, tt)
   done_fine touches (Asks question) uses fine placed = unchanged_fine touches _ uses (allowed fine) (asks_so _ refl)
 
-  abbrev s : Seen
+  abbrev s : NativeInput
   s = seen_of w call
 
   abbrev args : List ℕ

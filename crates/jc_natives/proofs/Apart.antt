@@ -35,7 +35,7 @@ use Rattle.jc_natives.specs.PrivateApplets.{owner_of}
 use Rattle.jc_natives.specs.PrivateCells.{bare, bared}
 use Rattle.jc_natives.specs.PrivateMeaning.{answer_on_words, begun_on_words, ended_on_words, work_of}
 use Rattle.jc_natives.specs.PrivateMeaning.{row_of}
-use Rattle.jc_natives.specs.PrivateSeen.{Seen, arguments_of, seen_of}
+use Rattle.jc_natives.specs.PrivateSeen.{NativeInput, arguments_of, seen_of}
 use Rattle.jc_natives.specs.PrivateTests.{tested}
 use Rattle.jc_natives.specs.declared.kept.Installing.{Installing}
 use Rattle.jc_natives.specs.Work.{Asks, Does, Makes, Work}
@@ -148,7 +148,7 @@ module _ (w : World) (call : NativeCall Kept) (apart : IsSetApart call.heap)
   all_spare (t ∷ touches) h = (judged_spares t.by t (h.0).active, all_spare touches h.1)
 
   -- what the runtime keeps
-  abbrev s : Seen
+  abbrev s : NativeInput
   s = seen_of w call
 
   abbrev args : List ℕ

@@ -17,7 +17,7 @@ use Rattle.jc_natives.specs.Meaning.{meaning}
 use Rattle.jc_natives.specs.Members.{natives}
 use Rattle.jc_natives.specs.PrivateAtOnce.{WorksAtOnce}
 use Rattle.jc_natives.specs.PrivateMeaning.{answer_on_words}
-use Rattle.jc_natives.specs.PrivateSeen.{Seen}
+use Rattle.jc_natives.specs.PrivateSeen.{NativeInput}
 use Rattle.jc_natives.specs.PrivateWords.{Done, done_of, seen_in, word_work}
 use Rattle.jc_natives.specs.Work.{NoResult, Work, gives}
 use Rattle.jc_natives.specs.declared.ended.Ended.TheVariants as ends
@@ -53,7 +53,7 @@ module _ (before after : Store) (k : Kept) (member : ℕ) (arguments : List ℕ)
   answered_at_once NotAtOnce means works = λ word is same active. tt
 
   -- what any call in this context shows
-  abbrev any_seen : Seen
+  abbrev any_seen : NativeInput
   any_seen = record {
     shapes = [];
     objects = before.objects;

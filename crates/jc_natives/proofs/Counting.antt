@@ -19,7 +19,7 @@ use Rattle.jc_natives.specs.Meaning.{answer_of, done, meaning, unchanged, with_r
 use Rattle.jc_natives.specs.Members.{natives}
 use Rattle.jc_natives.specs.PrivateMeaning.{answer_on_words, begun_on_words, ended_on_words, work_of}
 use Rattle.jc_natives.specs.PrivateObjects.{object_work}
-use Rattle.jc_natives.specs.PrivateSeen.{Seen, seen_of}
+use Rattle.jc_natives.specs.PrivateSeen.{NativeInput, seen_of}
 use Rattle.jc_natives.specs.PrivateSystem.{asks, makes, system_work}
 use Rattle.jc_natives.specs.PrivateUtilities.{utility_work}
 use Rattle.jc_natives.specs.Work.{Asks, Does, Makes, Work}
@@ -38,7 +38,7 @@ use Rattle.jc_store.specs.declared.kind.ClearingEvent.{ClearingEvent}
 
 -- ---- works
 
-module _ (s : Seen) (k : Kept) where
+module _ (s : NativeInput) (k : Kept) where
   -- as many numbers were given out behind it
   abbrev pub LeavesAsMany : Work → Type 0
   LeavesAsMany (Does writes after ending) = after.numbers ≡ k.numbers
@@ -95,7 +95,7 @@ module _ (s : Seen) (k : Kept) where
 -- ---- answers
 
 module _ (w : World) (call : NativeCall Kept) where
-  abbrev s : Seen
+  abbrev s : NativeInput
   s = seen_of w call
 
   done_same : (touches : List Touch) (work : Work) → LeavesAsMany s call.runtime work

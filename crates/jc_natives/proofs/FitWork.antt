@@ -27,7 +27,7 @@ use Rattle.jc_natives.specs.Kept.{Kept}
 use Rattle.jc_natives.specs.Meaning.{array_or_refusal, asked, did, done, end_of, fits_kept, new_array, reference}
 use Rattle.jc_natives.specs.Meaning.{with_room}
 use Rattle.jc_natives.specs.PrivateMeaning.{ended_on_words}
-use Rattle.jc_natives.specs.PrivateSeen.{Seen}
+use Rattle.jc_natives.specs.PrivateSeen.{NativeInput}
 use Rattle.jc_natives.specs.PrivateTests.{Tested, by_verdict, followed, on_object, ranged, test, tested, used}
 use Rattle.jc_natives.specs.Work.{Asks, Does, Ending, GivesReference, GivesWord, Makes, NoResult, Throws, Work}
 use Rattle.jc_natives.specs.declared.ended.Question.{Question}
@@ -148,28 +148,28 @@ module _ (known : Known) where
   Thrown None = ⊤
   Thrown (Some object) = IsThrown w call.heap object
 
-  verdict_thrown : (s : Seen) (way : Use) (number : ℕ) (v : Verdict) → Thrown (by_verdict s way number v).thrown
+  verdict_thrown : (s : NativeInput) (way : Use) (number : ℕ) (v : Verdict) → Thrown (by_verdict s way number v).thrown
   verdict_thrown s way number v = grind (arith, security_thrown)
 
-  object_thrown : (s : Seen) (way : Use) (number : ℕ) (o : Option (Object ℕ)) → Thrown (on_object s way number o).thrown
+  object_thrown : (s : NativeInput) (way : Use) (number : ℕ) (o : Option (Object ℕ)) → Thrown (on_object s way number o).thrown
   object_thrown s way number o = grind (arith, null_thrown, verdict_thrown)
 
   either_thrown : (b : Bool) (t u : Tested) → Thrown t.thrown → Thrown u.thrown → Thrown (cond b t u).thrown
   either_thrown b t u h1 h2 = grind arith
 
-  used_thrown : (s : Seen) (way : Use) (number : ℕ) → Thrown (used s way number).thrown
+  used_thrown : (s : NativeInput) (way : Use) (number : ℕ) → Thrown (used s way number).thrown
   used_thrown s way number = object_thrown s way number (object_at s.objects number)
 
-  test_thrown : (s : Seen) (arguments : List ℕ) (one : Test) → Thrown (test s arguments one).thrown
+  test_thrown : (s : NativeInput) (arguments : List ℕ) (one : Test) → Thrown (test s arguments one).thrown
   test_thrown s arguments one = grind (arith, used_thrown, either_thrown)
 
-  range_thrown : (s : Seen) (arguments : List ℕ) (r : Option Range) → Thrown (ranged s arguments r).thrown
+  range_thrown : (s : NativeInput) (arguments : List ℕ) (r : Option Range) → Thrown (ranged s arguments r).thrown
   range_thrown s arguments r = grind (arith, either_thrown, index_thrown)
 
   followed_thrown : (t u : Tested) → Thrown t.thrown → Thrown u.thrown → Thrown (followed t u).thrown
   followed_thrown t u p q = grind arith
 
-  pub tested_thrown : (s : Seen) (arguments : List ℕ) (row : MemberRow) → Thrown (tested s arguments row).thrown
+  pub tested_thrown : (s : NativeInput) (arguments : List ℕ) (row : MemberRow) → Thrown (tested s arguments row).thrown
   tested_thrown s arguments row = grind (arith, followed_thrown, test_thrown, range_thrown)
 
   pub ended_fits : (touches : List _) (thrown : Option ℕ) (work : Work) → Thrown thrown → Fits work

@@ -45,7 +45,7 @@ use Rattle.jc_natives.specs.PrivateApplets.{applet_work}
 use Rattle.jc_natives.specs.PrivateCells.{aid_bytes, aid_count, argument, bared, bytes_of, cell_of, cells_from}
 use Rattle.jc_natives.specs.PrivateMeaning.{begun_on_words, work_of}
 use Rattle.jc_natives.specs.PrivateObjects.{equals, object_work}
-use Rattle.jc_natives.specs.PrivateSeen.{Seen, arguments_of, seen_of}
+use Rattle.jc_natives.specs.PrivateSeen.{NativeInput, arguments_of, seen_of}
 use Rattle.jc_natives.specs.PrivateSystem.{asks, system_work}
 use Rattle.jc_natives.specs.PrivateUtilities.{utility_work}
 use Rattle.jc_natives.specs.Cells as cells
@@ -85,7 +85,7 @@ module _ (known : Known) where
         result = Value (types.Reference (Api api.Object));
       })
     where
-      abbrev s : Seen
+      abbrev s : NativeInput
       s = seen_of w call
 
       abbrev args : List ℕ

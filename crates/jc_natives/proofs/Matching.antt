@@ -11,7 +11,7 @@ use Rattle.jc_natives.specs.Cells.{bits, low}
 use Rattle.jc_natives.specs.Checks.{are_aids, is_aid_at, is_aid_value}
 use Rattle.jc_natives.specs.Kept.{Kept}
 use Rattle.jc_natives.specs.PrivateCells.{aid_bytes, argument, bared, bytes_of, cell_of, size_of, cells_from}
-use Rattle.jc_natives.specs.PrivateSeen.{Seen, arguments_of, is_aid_object, seen_of}
+use Rattle.jc_natives.specs.PrivateSeen.{NativeInput, arguments_of, is_aid_object, seen_of}
 use Rattle.jc_natives.specs.PrivateTests.{length_of}
 use Rattle.jc_natives.specs.Taking.{Called, aid_in, as_reference, as_word, bytes_in, called, on_aid, on_bytes}
 use Rattle.jc_natives.specs.Taking.{on_component, on_length, on_object, on_range, on_reference, on_word, on_words}
@@ -94,7 +94,7 @@ module _ (w : World) (call : NativeCall Kept) where
   abbrev h : Called
   h = called w call
 
-  abbrev s : Seen
+  abbrev s : NativeInput
   s = seen_of w call
 
   abbrev args : List ℕ

@@ -7,7 +7,7 @@ use Rattle.jc_firewall.specs.Own.{OwnIsAllowed}
 use Rattle.jc_firewall.specs.Verdict.{is_never_stored, row_of, stores_reference, verdict_for_runtime}
 use Rattle.jc_firewall.specs.declared.access.Facts.{Facts}
 use Rattle.jc_natives.specs.Checks.{access_of}
-use Rattle.jc_natives.specs.PrivateSeen.{Seen}
+use Rattle.jc_natives.specs.PrivateSeen.{NativeInput}
 use Rattle.jc_natives.specs.PrivateTests.{by_verdict, used}
 use Rattle.jc_natives.specs.declared.row.Use.{Use}
 use Rattle.jc_store.specs.Store.{IsOwn, IsReference, Store}
@@ -17,11 +17,11 @@ stores_none : (way : Use) → (stores_reference (access_of way) && option_map_or
 stores_none way = grind arith
 
 -- the runtime may use each object in each way
-runtime_may : (s : Seen) (way : Use) (number : ℕ) (f : Facts)
+runtime_may : (s : NativeInput) (way : Use) (number : ℕ) (f : Facts)
     → (by_verdict s way number (verdict_for_runtime (row_of (access_of way) f) f)).thrown ≡ None
 runtime_may s way number f = grind (arith, f)
 
-pub own_passes : OwnIsAllowed → (s : Seen) (store : Store) (way : Use) (number : ℕ) → s.objects ≡ store.objects
+pub own_passes : OwnIsAllowed → (s : NativeInput) (store : Store) (way : Use) (number : ℕ) → s.objects ≡ store.objects
     → IsOwn store number s.active.context → (used s way number).thrown ≡ None
 own_passes law s store way number same own = grind (arith, runtime_may, both_ways, eq-eqb, stores_none)
 

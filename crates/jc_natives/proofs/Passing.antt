@@ -7,7 +7,7 @@ use Rattle.jc_machine.specs.Runtime.{null_pointer_exception}
 use Rattle.jc_natives.specs.Cells.{is_within}
 use Rattle.jc_natives.specs.PrivateCells.{argument, size_of}
 use Rattle.jc_natives.specs.PrivateRows.{on_array, on_arrays}
-use Rattle.jc_natives.specs.PrivateSeen.{Seen}
+use Rattle.jc_natives.specs.PrivateSeen.{NativeInput}
 use Rattle.jc_natives.specs.PrivateTests.{Tested, followed, goes_on, is_in_range, length_of, on_object}
 use Rattle.jc_natives.specs.PrivateTests.{ranged, tested, used}
 use Rattle.jc_natives.specs.declared.row.Length.{Length}
@@ -30,7 +30,7 @@ both_pass : (first later : Tested) → (followed first later).thrown ≡ None
     → (first.thrown ≡ None) × (later.thrown ≡ None)
 both_pass first later e = first_passes first.touches first.thrown later e
 
-module _ (s : Seen) (store : Store) (same : s.objects ≡ store.objects) where
+module _ (s : NativeInput) (store : Store) (same : s.objects ≡ store.objects) where
   -- an object that may be used is there
   there : (way : Use) (number : ℕ) → (used s way number).thrown ≡ None → IsThere store number
   there way number passed = by_object (object_at s.objects number) refl passed

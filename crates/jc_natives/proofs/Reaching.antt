@@ -8,7 +8,7 @@ use Rattle.jc_machine.specs.Guarded.{may_change}
 use Rattle.jc_machine.specs.Machine.{Touch}
 use Rattle.jc_natives.specs.Checks.{access_of}
 use Rattle.jc_natives.specs.PrivateCells.{argument}
-use Rattle.jc_natives.specs.PrivateSeen.{Seen}
+use Rattle.jc_natives.specs.PrivateSeen.{NativeInput}
 use Rattle.jc_natives.specs.PrivateTests.{Tested, by_verdict, followed, ranged, test, tested, used}
 use Rattle.jc_natives.proofs.Changed.{is_change_of, is_changed}
 use Rattle.jc_natives.specs.declared.row.MemberRow.{MemberRow}
@@ -24,7 +24,7 @@ touched_behind : (xs ys : List Touch) (number : ℕ) → is_changed ys number �
 touched_behind [] ys number e = e
 touched_behind (x ∷ xs) ys number e = grind (arith, is_change_of, is_changed, touched_behind xs ys number e)
 
-module _ (s : Seen) where
+module _ (s : NativeInput) where
   -- by a way in which objects may change
   itself : (way : Use) (number : ℕ) → may_change (access_of way) ≡ true
       → ((number == number && may_change (access_of way)) || false) ≡ true

@@ -29,7 +29,7 @@ use Rattle.jc_natives.specs.Members as members
 use Rattle.jc_natives.specs.Members.{ends_with, in_buffer, member_of_native, natives, on_installing, sends_at_once}
 use Rattle.jc_natives.specs.PrivateCells.{argument}
 use Rattle.jc_natives.specs.PrivateMeaning.{answer_on_words, begun_on_words}
-use Rattle.jc_natives.specs.PrivateSeen.{Seen, arguments_of, is_aid_object, seen_of}
+use Rattle.jc_natives.specs.PrivateSeen.{NativeInput, arguments_of, is_aid_object, seen_of}
 use Rattle.jc_natives.specs.Taking.{Called, called, on_range}
 use Rattle.jc_natives.specs.Work.{Ending, GivesWord, Work, bad_length, buffer_bounds, illegal_use, illegal_value}
 use Rattle.jc_natives.specs.declared.kept.Installing.{Installing}
@@ -78,7 +78,7 @@ module _ (known : Known) (c : ApiClass) where
   abbrev h : Called
   h = called w call
 
-  abbrev s : Seen
+  abbrev s : NativeInput
   s = seen_of w call
 
   abbrev args : List ℕ

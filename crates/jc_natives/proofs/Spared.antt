@@ -30,7 +30,7 @@ use Rattle.jc_natives.specs.PrivateAids.{aid_row}
 use Rattle.jc_natives.specs.PrivateMeaning.{row_of}
 use Rattle.jc_natives.specs.PrivateObjects.{object_row}
 use Rattle.jc_natives.specs.PrivateUtilities.{utility_row}
-use Rattle.jc_natives.specs.PrivateSeen.{Seen}
+use Rattle.jc_natives.specs.PrivateSeen.{NativeInput}
 use Rattle.jc_natives.specs.PrivateSystem.{asks, makes, system_work}
 use Rattle.jc_natives.specs.PrivateUtilities.{utility_work}
 use Rattle.jc_natives.specs.Apart.{installs_applet, names_applets}
@@ -114,7 +114,7 @@ pub record SparesOwn (Spared : By → ℕ → Type 0) (k : Kept) : Type 0 where
   pub buffer : Spared ByRuntime apdu_buffer
   pub registers : (i : Installing) → k.installing ≡ Some i → Spared ByRuntime (aid_object i.owner.instance)
 
-module _ (Spared : By → ℕ → Type 0) (s : Seen) (k : Kept) where
+module _ (Spared : By → ℕ → Type 0) (s : NativeInput) (k : Kept) where
   -- each object that is written is spared
   abbrev pub AreSpared : List Write → Type 0
   AreSpared writes = AllByRecursion (λ (x : Write). Spared x.by x.object) writes

@@ -28,7 +28,7 @@ use Rattle.jc_natives.specs.PrivateCells.{aid_bytes, aid_count, argument, bared,
 use Rattle.jc_natives.specs.PrivateMeaning.{work_of}
 use Rattle.jc_natives.specs.PrivateObjects.{equals, have_same_aid, object_work}
 use Rattle.jc_natives.specs.PrivateMeaning.{row_of}
-use Rattle.jc_natives.specs.PrivateSeen.{Seen, arguments_of, is_aid_object, seen_of}
+use Rattle.jc_natives.specs.PrivateSeen.{NativeInput, arguments_of, is_aid_object, seen_of}
 use Rattle.jc_natives.specs.PrivateSystem as systems
 use Rattle.jc_natives.specs.PrivateSystem.{system_work}
 use Rattle.jc_natives.specs.PrivateUtilities.{utility_work}
@@ -73,7 +73,7 @@ module _ (w : World) (call : NativeCall Kept) where
   abbrev h : Called
   h = called w call
 
-  abbrev s : Seen
+  abbrev s : NativeInput
   s = seen_of w call
 
   abbrev args : List ℕ

@@ -3,7 +3,7 @@ use Rattle.std.specs.Prelude.{ℕ, ◌==◌, ◌&&◌, Bool, false, List, ◌∷
 use Rattle.jc_natives.specs.Cells.{bit, extended, word}
 use Rattle.jc_natives.specs.Kept.{Kept, has_aid_length}
 use Rattle.jc_natives.specs.PrivateCells.{aid_bytes, aid_count, argument, bytes_of}
-use Rattle.jc_natives.specs.PrivateSeen.{Seen}
+use Rattle.jc_natives.specs.PrivateSeen.{NativeInput}
 use Rattle.jc_natives.specs.Work.{GivesWord, NoResult, Work, gives, illegal_value, unless_system, writes_to}
 use Rattle.jc_natives.specs.declared.native.AidNative.{AidNative}
 use Rattle.jc_natives.specs.declared.native.AidNative.TheVariants.{Construct, Equals, GetBytes}
@@ -20,24 +20,24 @@ aid_row Equals = called_on (ObjectOrNull 1 Loads) (ByteAt 3)
 aid_row GetBytes = called_on (Object 1 Stores) (AsAid 0)
 
 -- `count` bytes of an array, from an offset on
-abbrev pub range_bytes : Seen → ℕ → ℕ → ℕ → List ℕ
+abbrev pub range_bytes : NativeInput → ℕ → ℕ → ℕ → List ℕ
 range_bytes s array offset count = bytes_of s.objects array offset count
 
 -- whether the bytes of an AID equal those of a range; null has no range
-abbrev pub is_range : Seen → ℕ → ℕ → ℕ → ℕ → Bool
+abbrev pub is_range : NativeInput → ℕ → ℕ → ℕ → ℕ → Bool
 is_range s aid array offset count =
     if array == 0 then false
     else aid_count s.objects aid == count && bytes_eq (aid_bytes s.objects aid) (range_bytes s array offset count)
 
 -- stores `count` bytes of an array, after their count
-abbrev pub constructs : Seen → Kept → ℕ → ℕ → ℕ → ℕ → Work
+abbrev pub constructs : NativeInput → Kept → ℕ → ℕ → ℕ → ℕ → Work
 constructs s k aid array offset count =
     unless_system k illegal_value (has_aid_length count)
     (writes_to k aid 0 (count ∷ range_bytes s array offset count) NoResult)
 
 -- the constructor stores 5 to 16 bytes, after their count; equals compares all bytes; getBytes writes all of them, and
 -- returns their number
-abbrev pub aid_work : Seen → Kept → List ℕ → AidNative → Work
+abbrev pub aid_work : NativeInput → Kept → List ℕ → AidNative → Work
 aid_work s k arguments Construct =
     constructs s k (argument arguments 0) (argument arguments 1) (argument arguments 2)
     (extended (argument arguments 3))

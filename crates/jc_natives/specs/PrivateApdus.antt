@@ -7,7 +7,7 @@ use Rattle.jc_natives.specs.Kept.{with_announced, with_sent, with_state}
 use Rattle.jc_natives.specs.Members.{data_offset}
 use Rattle.jc_natives.specs.PrivateAids.{range_bytes}
 use Rattle.jc_natives.specs.PrivateCells.{argument, size_of}
-use Rattle.jc_natives.specs.PrivateSeen.{Seen}
+use Rattle.jc_natives.specs.PrivateSeen.{NativeInput}
 use Rattle.jc_natives.specs.Work.{GivesReference, GivesWord, NoResult, Work, bad_length, buffer_bounds, gives}
 use Rattle.jc_natives.specs.Work.{illegal_use, throws_apdu, writes_own}
 use Rattle.jc_natives.specs.declared.kept.ApduState.TheVariants.{LengthSet, Outgoing, Received}
@@ -37,11 +37,11 @@ unless_apdu k reason passes work = if passes then work else throws_apdu k reason
 
 -- ---- sent data
 
-abbrev pub is_in_buffer : Seen → ℕ → ℕ → Bool
+abbrev pub is_in_buffer : NativeInput → ℕ → ℕ → Bool
 is_in_buffer s offset count = is_within (size_of s.objects apdu_buffer) offset count
 
 -- sends `count` more bytes of an array, if that doesn't exceed the announced length
-abbrev pub sends : Seen → Kept → ℕ → ℕ → ℕ → Work
+abbrev pub sends : NativeInput → Kept → ℕ → ℕ → ℕ → Work
 sends s k array offset count =
     unless_apdu k illegal_use (nat_le (length k.sent + count) k.announced)
     (gives (with_sent k (k.sent ++ range_bytes s array offset count)) NoResult)
@@ -53,14 +53,14 @@ abbrev pub in_state : Kept → Bool → Work → Work
 in_state k fits work = unless_apdu k illegal_use fits work
 
 -- sends these bytes as the whole answer
-abbrev pub sends_at_once : Seen → Kept → ℕ → ℕ → Work
+abbrev pub sends_at_once : NativeInput → Kept → ℕ → ℕ → Work
 sends_at_once s k offset count =
     in_state k (is_incoming k.state)
     (unless_apdu k bad_length (nat_le count most_sent)
     (unless_apdu k buffer_bounds (is_in_buffer s offset count)
     (gives (with_sent (with_announced k LengthSet count) (range_bytes s apdu_buffer offset count)) NoResult)))
 
-abbrev pub apdu_work : Seen → Kept → List ℕ → ApduNative → Work
+abbrev pub apdu_work : NativeInput → Kept → List ℕ → ApduNative → Work
 apdu_work s k arguments GetBuffer = gives k (GivesReference apdu_buffer)
 apdu_work s k arguments SetIncomingAndReceive =
     in_state k (is_fresh k.state)

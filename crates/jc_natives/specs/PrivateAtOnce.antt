@@ -5,7 +5,7 @@ use Rattle.jc_machine.specs.declared.natives.AtOnce.{AtOnce}
 use Rattle.jc_natives.specs.Cells.{is_within}
 use Rattle.jc_natives.specs.Kept.{Kept}
 use Rattle.jc_natives.specs.PrivateCells.{argument, size_of}
-use Rattle.jc_natives.specs.PrivateSeen.{Seen}
+use Rattle.jc_natives.specs.PrivateSeen.{NativeInput}
 use Rattle.jc_natives.specs.PrivateTests.{used}
 use Rattle.jc_natives.specs.PrivateWords.{done_of, word_work}
 use Rattle.jc_natives.specs.declared.ended.Ended.TheVariants as ends
@@ -16,7 +16,7 @@ use Rattle.jc_store.specs.Store.{IsThere, Store}
 -- there is an object with a number, and a context may use it in every way
 pub record MayBeUsed (store : Store) (number context : ℕ) : Type 0 where
   pub there : IsThere store number
-  pub used : (s : Seen) (way : Use) → s.objects ≡ store.objects → s.active.context ≡ context
+  pub used : (s : NativeInput) (way : Use) → s.objects ≡ store.objects → s.active.context ≡ context
       → (used s way number).thrown ≡ None
 
 -- there is such an array, and it has `count` components from an index on
@@ -33,6 +33,6 @@ pub record HasOwnParts (store : Store) (arguments : List ℕ) (context : ℕ) : 
 -- has in this context
 abbrev pub WorksAtOnce : Option Native → List ℕ → ℕ → Store → Store → AtOnce → Type 0
 WorksAtOnce native arguments context before after given =
-    (s : Seen) (k : Kept) → s.objects ≡ before.objects → s.active.context ≡ context
+    (s : NativeInput) (k : Kept) → s.objects ≡ before.objects → s.active.context ≡ context
     → IfDone given (λ value. record { store = after; kept = k; ended = ends.Returned value }
     ≡ done_of s.active before k (word_work s k arguments native))

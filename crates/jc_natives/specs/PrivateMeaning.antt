@@ -11,7 +11,7 @@ use Rattle.jc_natives.specs.PrivateAids.{aid_row, aid_work}
 use Rattle.jc_natives.specs.PrivateApdus.{apdu_row, apdu_work}
 use Rattle.jc_natives.specs.PrivateApplets.{applet_row, applet_work}
 use Rattle.jc_natives.specs.PrivateObjects.{object_row, object_work}
-use Rattle.jc_natives.specs.PrivateSeen.{Seen, arguments_of, seen_of}
+use Rattle.jc_natives.specs.PrivateSeen.{NativeInput, arguments_of, seen_of}
 use Rattle.jc_natives.specs.PrivateSystem.{system_row, system_work}
 use Rattle.jc_natives.specs.PrivateTests.{tested}
 use Rattle.jc_natives.specs.PrivateUtilities.{utility_row, utility_work}
@@ -31,7 +31,7 @@ row_of (OfUtility native) = utility_row native
 
 -- ---- the work of a member
 
-abbrev pub work_of : Seen → Kept → List ℕ → Native → Work
+abbrev pub work_of : NativeInput → Kept → List ℕ → Native → Work
 work_of s k arguments (OfObject native) = object_work s k arguments native
 work_of s k arguments (OfAid native) = aid_work s k arguments native
 work_of s k arguments (OfApdu native) = apdu_work s k arguments native

@@ -3,7 +3,7 @@ use Rattle.std.specs.Prelude.{ℕ, ◌==◌, ◌&&◌, ◌||◌, Bool, List, [],
 use Rattle.jc_natives.specs.Cells.{bit, word}
 use Rattle.jc_natives.specs.Kept.{Kept}
 use Rattle.jc_natives.specs.PrivateCells.{aid_bytes, aid_count, argument, cell_of}
-use Rattle.jc_natives.specs.PrivateSeen.{Seen, is_aid_object}
+use Rattle.jc_natives.specs.PrivateSeen.{NativeInput, is_aid_object}
 use Rattle.jc_natives.specs.Work.{GivesWord, NoResult, Work, gives, throws_with, writes_to}
 use Rattle.jc_natives.specs.declared.native.ObjectNative.{ObjectNative}
 use Rattle.jc_natives.specs.declared.native.ObjectNative.TheVariants.{Construct, ConstructWithReason, Equals, GetReason}
@@ -28,15 +28,15 @@ abbrev pub have_same_aid : Heap ℕ → ℕ → ℕ → Bool
 have_same_aid objects one other =
     aid_count objects one == aid_count objects other && bytes_eq (aid_bytes objects one) (aid_bytes objects other)
 
-abbrev pub are_same_aids : Seen → ℕ → ℕ → Bool
+abbrev pub are_same_aids : NativeInput → ℕ → ℕ → Bool
 are_same_aids s one other = (is_aid_object s one && is_aid_object s other) && have_same_aid s.objects one other
 
 -- the same object, or two AIDs with the same bytes
-abbrev pub equals : Seen → ℕ → ℕ → Bool
+abbrev pub equals : NativeInput → ℕ → ℕ → Bool
 equals s one other = one == other || are_same_aids s one other
 
 -- constructors do nothing, or set the reason; throwIt sets the reason of the runtime's exception, and throws it
-abbrev pub object_work : Seen → Kept → List ℕ → ObjectNative → Work
+abbrev pub object_work : NativeInput → Kept → List ℕ → ObjectNative → Work
 object_work s k arguments Construct = gives k NoResult
 object_work s k arguments Equals = gives k (GivesWord (bit (equals s (argument arguments 0) (argument arguments 1))))
 object_work s k arguments ConstructWithReason =

@@ -14,7 +14,7 @@ use Rattle.jc_store.specs.Heap.{Heap, object_at}
 
 -- the packages; the objects; the active owner, and the one before the last switch; the context of the selected applet;
 -- and the most objects and cells
-pub record Seen : Type 0 where
+pub record NativeInput : Type 0 where
   pub shapes : List Shape
   pub objects : Heap ℕ
   pub active : Owner
@@ -24,7 +24,7 @@ pub record Seen : Type 0 where
   pub most_cells : ℕ
 
 -- the input from a call on tagged values, and its arguments
-abbrev pub seen_of : {C : Type 0} → World → NativeCall C → Seen
+abbrev pub seen_of : {C : Type 0} → World → NativeCall C → NativeInput
 seen_of w call = record {
   shapes = w.shapes;
   objects = bared call.heap;
@@ -39,6 +39,6 @@ abbrev pub arguments_of : {C : Type 0} → NativeCall C → List ℕ
 arguments_of call = map bits call.arguments
 
 -- whether a number is an AID's: of an object of class AID or below it
-abbrev pub is_aid_object : Seen → ℕ → Bool
+abbrev pub is_aid_object : NativeInput → ℕ → Bool
 is_aid_object s number =
     option_map_or (λ object. is_of_class s.shapes (Api Aid) object.kind.object_type) (object_at s.objects number) false

@@ -6,7 +6,7 @@ use Rattle.jc_natives.specs.Members as members
 use Rattle.jc_natives.specs.Members.{aid_of, aid_of_owner, event_of}
 use Rattle.jc_natives.specs.PrivateAids.{range_bytes}
 use Rattle.jc_natives.specs.PrivateCells.{aid_bytes, argument}
-use Rattle.jc_natives.specs.PrivateSeen.{Seen}
+use Rattle.jc_natives.specs.PrivateSeen.{NativeInput}
 use Rattle.jc_natives.specs.Work.{GivesReference, Work, gives}
 use Rattle.jc_natives.specs.declared.kept.Instance.{Instance}
 use Rattle.jc_natives.specs.declared.native.Elements.{Elements}
@@ -34,21 +34,21 @@ system_row MakeShorts = untested
 system_row MakeReferences = untested
 
 -- the active owner asks an instance
-abbrev pub asks : Seen → Kept → ℕ → Option Instance → Work
+abbrev pub asks : NativeInput → Kept → ℕ → Option Instance → Work
 asks s k word o = members.asks k s.active word o
 
 -- a transient array, of the active context
-abbrev pub may_make : Seen → ClearingEvent → Bool
+abbrev pub may_make : NativeInput → ClearingEvent → Bool
 may_make s event = members.may_make s.active.context s.selected event
 
-abbrev pub makes : Seen → Kept → Elements → ℕ → Option ClearingEvent → Work
+abbrev pub makes : NativeInput → Kept → Elements → ℕ → Option ClearingEvent → Work
 makes s k elements size event = members.makes k s.active.context s.selected elements size event
 
-abbrev pub makes_array : Seen → Kept → List ℕ → Elements → Work
+abbrev pub makes_array : NativeInput → Kept → List ℕ → Elements → Work
 makes_array s k arguments elements =
     makes s k elements (argument arguments 0) (event_of (extended (argument arguments 1)))
 
-abbrev pub system_work : Seen → Kept → List ℕ → SystemNative → Work
+abbrev pub system_work : NativeInput → Kept → List ℕ → SystemNative → Work
 system_work s k arguments GetAid = gives k (GivesReference (aid_of_owner k (Some s.active)))
 system_work s k arguments LookupAid =
     gives k (GivesReference (aid_of (instance_with k.instances

@@ -11,7 +11,7 @@ use Rattle.jc_machine.specs.Runtime.{array_index_exception, null_pointer_excepti
 use Rattle.jc_natives.specs.Cells.{extended, is_within}
 use Rattle.jc_natives.specs.Checks.{access_of}
 use Rattle.jc_natives.specs.PrivateCells.{aid_count, argument, size_of}
-use Rattle.jc_natives.specs.PrivateSeen.{Seen, is_aid_object}
+use Rattle.jc_natives.specs.PrivateSeen.{NativeInput, is_aid_object}
 use Rattle.jc_natives.specs.declared.row.Length.{Length}
 use Rattle.jc_natives.specs.declared.row.Length.TheVariants.{ByteAt, Fixed, OfAid, ShortAt}
 use Rattle.jc_natives.specs.declared.row.Range.{Range}
@@ -47,7 +47,7 @@ followed first later = goes_on first.touches first.thrown later
 -- ---- accesses
 
 -- the facts for the verdict. No such access is about a shareable interface, and none stores a reference
-abbrev pub facts_of : Seen → heaps.Object ℕ → Facts
+abbrev pub facts_of : NativeInput → heaps.Object ℕ → Facts
 facts_of s object = record {
   owner = object.owner;
   mark = object.kind.mark;
@@ -59,7 +59,7 @@ facts_of s object = record {
   selected = s.selected;
 }
 
-abbrev pub touch_of : Seen → Use → ℕ → Verdict → Touch
+abbrev pub touch_of : NativeInput → Use → ℕ → Verdict → Touch
 touch_of s way number verdict = record {
   by = ByCode;
   active = s.active.context;
@@ -71,28 +71,28 @@ touch_of s way number verdict = record {
 }
 
 -- a denied access is the last, and throws
-abbrev pub by_verdict : Seen → Use → ℕ → Verdict → Tested
+abbrev pub by_verdict : NativeInput → Use → ℕ → Verdict → Tested
 by_verdict s way number Allowed = record { touches = touch_of s way number Allowed ∷ []; thrown = None }
 by_verdict s way number (AllowedSwitch owner) =
     record { touches = touch_of s way number (AllowedSwitch owner) ∷ []; thrown = None }
 by_verdict s way number (Denied rule) =
     record { touches = touch_of s way number (Denied rule) ∷ []; thrown = Some security_exception }
 
-abbrev pub judged : Seen → Use → ℕ → heaps.Object ℕ → Tested
+abbrev pub judged : NativeInput → Use → ℕ → heaps.Object ℕ → Tested
 judged s way number object = by_verdict s way number (verdict_of (access_of way) s.active.context (facts_of s object))
 
 -- null is no object
-abbrev pub on_object : Seen → Use → ℕ → Option (heaps.Object ℕ) → Tested
+abbrev pub on_object : NativeInput → Use → ℕ → Option (heaps.Object ℕ) → Tested
 on_object s way number None = fails null_pointer_exception
 on_object s way number (Some object) = judged s way number object
 
-abbrev pub used : Seen → Use → ℕ → Tested
+abbrev pub used : NativeInput → Use → ℕ → Tested
 used s way number = on_object s way number (object_at s.objects number)
 
 -- ---- one test
 
 -- no test; an object; an object, if it isn't null; the second argument, if the first two are AIDs
-abbrev pub test : Seen → List ℕ → Test → Tested
+abbrev pub test : NativeInput → List ℕ → Test → Tested
 test s arguments Nothing = passes
 test s arguments (Object place way) = used s way (argument arguments place)
 test s arguments (ObjectOrNull place way) =
@@ -105,26 +105,26 @@ test s arguments BesideAid =
 
 -- the number of components: a short, the low byte of an argument, sign-extended, a fixed number, or the number of an
 -- AID's bytes
-abbrev pub length_of : Seen → List ℕ → Length → ℕ
+abbrev pub length_of : NativeInput → List ℕ → Length → ℕ
 length_of s arguments (ShortAt place) = argument arguments place
 length_of s arguments (ByteAt place) = extended (argument arguments place)
 length_of s arguments (Fixed count) = count
 length_of s arguments (OfAid place) = aid_count s.objects (argument arguments place)
 
 -- a range lies within its array; a range in null always passes
-abbrev pub is_in_range : Seen → List ℕ → Range → Bool
+abbrev pub is_in_range : NativeInput → List ℕ → Range → Bool
 is_in_range s arguments r =
     argument arguments r.array == 0
     || is_within (size_of s.objects (argument arguments r.array)) (argument arguments r.offset)
     (length_of s arguments r.length)
 
-abbrev pub ranged : Seen → List ℕ → Option Range → Tested
+abbrev pub ranged : NativeInput → List ℕ → Option Range → Tested
 ranged s arguments None = passes
 ranged s arguments (Some r) = if is_in_range s arguments r then passes else fails array_index_exception
 
 -- ---- all tests of a member
 
-abbrev pub tested : Seen → List ℕ → MemberRow → Tested
+abbrev pub tested : NativeInput → List ℕ → MemberRow → Tested
 tested s arguments row =
     followed (test s arguments row.first)
     (followed (test s arguments row.second)

@@ -4,7 +4,7 @@ use Rattle.jc_natives.specs.Cells.{high, low, order_of, word, word_of_bytes}
 use Rattle.jc_natives.specs.Kept.{Kept}
 use Rattle.jc_natives.specs.PrivateAids.{range_bytes}
 use Rattle.jc_natives.specs.PrivateCells.{argument, byte_of, cells_from}
-use Rattle.jc_natives.specs.PrivateSeen.{Seen}
+use Rattle.jc_natives.specs.PrivateSeen.{NativeInput}
 use Rattle.jc_natives.specs.Work.{GivesWord, Work, gives, writes_to}
 use Rattle.jc_natives.specs.declared.native.UtilityNative.{UtilityNative}
 use Rattle.jc_natives.specs.declared.native.UtilityNative.TheVariants.{ArrayCompare, ArrayCopy, ArrayFill, GetShort}
@@ -26,7 +26,7 @@ utility_row MakeShort = untested
 
 -- A copy works as if the source was copied first, and writes its components unchanged: arrays of bytes hold bytes, so
 -- these are bytes. Members that write return the offset after the written components.
-abbrev pub utility_work : Seen → Kept → List ℕ → UtilityNative → Work
+abbrev pub utility_work : NativeInput → Kept → List ℕ → UtilityNative → Work
 utility_work s k arguments ArrayCopy =
     writes_to k (argument arguments 2) (argument arguments 3)
     (cells_from s.objects (argument arguments 0) (argument arguments 1) (argument arguments 4))

@@ -9,7 +9,7 @@ use Rattle.jc_natives.specs.Cells.{Write, put_all}
 use Rattle.jc_natives.specs.Kept.{Kept}
 use Rattle.jc_natives.specs.Meaning.{with_room}
 use Rattle.jc_natives.specs.PrivateMeaning.{row_of, work_of}
-use Rattle.jc_natives.specs.PrivateSeen.{Seen}
+use Rattle.jc_natives.specs.PrivateSeen.{NativeInput}
 use Rattle.jc_natives.specs.PrivateTests.{tested}
 use Rattle.jc_machine.specs.Natives.{shareable_member}
 use Rattle.jc_natives.specs.Work.{Asks, Does, Ending, GivesReference, GivesWord, Makes, NewArray, NoResult, Throws}
@@ -24,7 +24,7 @@ use Rattle.jc_store.specs.declared.kind.ObjectKind.{ObjectKind}
 use Rattle.jc_store.specs.declared.kind.Mark.TheVariants.{Plain}
 
 -- the input from a call on words
-abbrev pub seen_in : Store → WordCall → Seen
+abbrev pub seen_in : Store → WordCall → NativeInput
 seen_in store call = record {
   shapes = call.world.now.shapes;
   objects = store.objects;
@@ -70,7 +70,7 @@ done_of owner store k work =
     did_on_words owner store k (with_room store.most_objects store.most_cells store.objects k work)
 
 -- the arguments of a member pass its tests
-abbrev pub Passes : Seen → List ℕ → Native → Type 0
+abbrev pub Passes : NativeInput → List ℕ → Native → Type 0
 Passes s arguments native = (tested s arguments (row_of native)).thrown ≡ None
 
 -- the work of a member with its tests: to throw, if a test fails
@@ -78,12 +78,12 @@ abbrev pub tested_work : Kept → Option ℕ → Work → Work
 tested_work k (Some object) work = throws k object
 tested_work k None work = work
 
-abbrev pub native_work : Seen → Kept → List ℕ → Native → Work
+abbrev pub native_work : NativeInput → Kept → List ℕ → Native → Work
 native_work s k arguments native =
     tested_work k (tested s arguments (row_of native)).thrown (work_of s k arguments native)
 
 -- without a member there is no work
-abbrev pub word_work : Seen → Kept → List ℕ → Option Native → Work
+abbrev pub word_work : NativeInput → Kept → List ℕ → Option Native → Work
 word_work s k arguments None = gives k NoResult
 word_work s k arguments (Some native) = native_work s k arguments native
 

@@ -22,7 +22,7 @@ use Rattle.jc_check.specs.Checked.{CarriesPackage, IsFirstRefusal, stated_for}
 use Rattle.jc_check.specs.Checked.IsFirstRefusal.{method, stray}
 use Rattle.jc_check.specs.FirstFault.{IsFirstFault}
 use Rattle.jc_check.specs.Package.{method_of, package_rules}
-use Rattle.jc_check.specs.Method.{Method}
+use Rattle.jc_check.specs.Method.{CheckedMethod}
 use Rattle.jc_check.specs.Rules.{Rules}
 use Rattle.jc_check.specs.declared.fault.Fault.{Fault}
 use Rattle.jc_code.specs.Instructions.{instr_at}
@@ -38,7 +38,7 @@ use Rattle.jc_refusals.specs.Order.{IsBetween}
 
 -- ---- a package that is carried isn't refused
 
-module _ (listing : ListingLaws instr_at) (never : (rules : Rules) → ListingLaws rules.decoder → (m : Method)
+module _ (listing : ListingLaws instr_at) (never : (rules : Rules) → ListingLaws rules.decoder → (m : CheckedMethod)
     (states : List Stated) (fault : Fault) → IsFirstFault rules m states fault → Carries rules m states → ⊥)
     (l : Linked) (rows : List Row) (carried : CarriesPackage l rows) where
   first_faults_none : (fault : LoadFault) → IsFirstRefusal l rows fault → ⊥
@@ -47,7 +47,7 @@ module _ (listing : ListingLaws instr_at) (never : (rules : Rules) → ListingLa
       never (package_rules l) listing (method_of l b) (stated_for rows b.offset) fault u.first
       (carried.methods u.place b u.is)
 
-pub never_refused : ListingLaws instr_at → ((rules : Rules) → ListingLaws rules.decoder → (m : Method)
+pub never_refused : ListingLaws instr_at → ((rules : Rules) → ListingLaws rules.decoder → (m : CheckedMethod)
     (states : List Stated) (fault : Fault) → IsFirstFault rules m states fault → Carries rules m states → ⊥)
     → (l : Linked) (rows : List Row) (fault : LoadFault) → IsFirstRefusal l rows fault → CarriesPackage l rows → ⊥
 never_refused listing never l rows fault first carried = first_faults_none listing never l rows carried fault first

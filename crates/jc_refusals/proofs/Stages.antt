@@ -32,7 +32,7 @@ use Rattle.jc_cap_desc.specs.Shape.{Package, Shape}
 use Rattle.jc_cap_desc.specs.Types.{descriptor_of}
 use Rattle.jc_cap_desc.specs.declared.component.DescriptorInfo.{DescriptorInfo}
 use Rattle.jc_cap.specs.Header.{Heading, header_of}
-use Rattle.jc_cap.specs.MethodComponent.{Methods, methods_of}
+use Rattle.jc_cap.specs.MethodComponent.{MethodComponent, methods_of}
 use Rattle.jc_cap.specs.Pool.{pool_of}
 use Rattle.jc_cap.specs.declared.entry.PoolEntry.{PoolEntry}
 use Rattle.jc_cert.specs.Cert.{Row}
@@ -132,7 +132,7 @@ told_component parts =
     (told_both 5 9 (fault_of (exports_of parts.export)) _ (told_of 5 9 _ (in_exports parts.export))
     (told_of 5 9 (descriptor_of parts.descriptor) (in_descriptor parts.descriptor)))))))))
 
-told_methods : (records : List (Placed Record)) (info : DescriptorInfo) (methods : Option Methods)
+told_methods : (records : List (Placed Record)) (info : DescriptorInfo) (methods : Option MethodComponent)
     → Tells 5 9 (methods_fault records info methods)
 told_methods records info None = silent 5 9
 told_methods records info (Some methods) =
@@ -150,7 +150,7 @@ told_applets records info (Some (Some applets)) =
     told_unless (applets_install records info.classes info.types applets) applet_tag
 
 told_classes : (records : Option (List (Placed Record))) (info : DescriptorInfo)
-    (applets : Option (Option (List Applet))) (methods : Option Methods)
+    (applets : Option (Option (List Applet))) (methods : Option MethodComponent)
     → Tells 5 9 (classes_fault records info applets methods)
 told_classes None info applets methods = silent 5 9
 told_classes (Some records) info applets methods =
@@ -163,7 +163,7 @@ told_pool None info = silent 5 9
 told_pool (Some pool) info = told_unless (length pool == length info.pool_types) descriptor_tag
 
 told_across : (info : Option DescriptorInfo) (records : Option (List (Placed Record))) (pool : Option (List PoolEntry))
-    (applets : Option (Option (List Applet))) (methods : Option Methods)
+    (applets : Option (Option (List Applet))) (methods : Option MethodComponent)
     → Tells 5 9 (across_fault info records pool applets methods)
 told_across None records pool applets methods = silent 5 9
 told_across (Some info) records pool applets methods =

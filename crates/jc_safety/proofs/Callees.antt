@@ -7,7 +7,7 @@ use Rattle.jc_base.specs.declared.declared_type.DeclaredType.{DeclaredType}
 use Rattle.jc_cap_desc.specs.Shape.{MethodBody, MethodShape, Shape}
 use Rattle.jc_cap.specs.declared.method_header.MethodHeader.{MethodHeader}
 use Rattle.jc_check.specs.Checked.{IsMethodTyped}
-use Rattle.jc_check.specs.Method.{Method, entry_of}
+use Rattle.jc_check.specs.Method.{CheckedMethod, entry_of}
 use Rattle.jc_check.specs.Package.{arguments_of, method_of}
 use Rattle.jc_classes.specs.Members.{DeclaredMethod, declared_in, method_at}
 use Rattle.jc_classes.specs.Subtype.{is_class_below}
@@ -143,7 +143,7 @@ module _ {C : Type 0} (s : Surroundings C) (ground : Ground s) (heap : Heap Tagg
   abbrev shapes : List Shape
   shapes = s.world.shapes
 
-  abbrev callee : Method
+  abbrev callee : CheckedMethod
   callee = method_of (linked_as s.world place.number body) code
 
   entry_typed : HaveTypes shapes heap (arguments ++ replicate of.header.max_locals Unset) (entry_of callee).locals

@@ -3,7 +3,7 @@ use Rattle.std.proofs.Common.{◌≡◌, ℕ, ℤ, ◌+◌, ◌-◌, List, ◌�
 use Rattle.std.proofs.Common.{arith, length-drop}
 use Rattle.std.proofs.lemmas.Bool.{lt-ltb, ltb-false}
 use Rattle.jc_cap_desc.specs.Shape.{Shape}
-use Rattle.jc_check.specs.Method.{Method}
+use Rattle.jc_check.specs.Method.{CheckedMethod}
 use Rattle.jc_check.specs.Package.{method_of, package_rules}
 use Rattle.jc_check.specs.Rules.{Rules}
 use Rattle.jc_check.specs.Typing.{BranchLeads, Leads}
@@ -57,7 +57,7 @@ module _ {C : Type 0} (s : Surroundings C) (ground : Ground s) where
     abbrev pub rules : Rules
     rules = package_rules (linked_as s.world m.top.method.number placed.body)
 
-    abbrev pub method : Method
+    abbrev pub method : CheckedMethod
     method = method_of (linked_as s.world m.top.method.number placed.body) placed.code
 
     -- values of types that lead to a pc, with other objects and static fields

@@ -8,7 +8,7 @@ use Rattle.jc_api.specs.declared.class.ApiClass.TheVariants as api
 use Rattle.jc_cap_desc.specs.Shape.{MethodBody, Shape}
 use Rattle.jc_cap.specs.declared.handler.Handler as rows
 use Rattle.jc_cap.specs.declared.method_header.MethodHeader.{MethodHeader}
-use Rattle.jc_check.specs.Method.{Method, caught_types}
+use Rattle.jc_check.specs.Method.{CheckedMethod, caught_types}
 use Rattle.jc_check.specs.Method as checked
 use Rattle.jc_check.specs.Package.{caught_class, handler_of, method_of, package_rules, thrown_class, throwable}
 use Rattle.jc_check.specs.Typing.{CatchLeads, HandlerLeads}
@@ -171,11 +171,11 @@ module _ {C : Type 0} (s : Surroundings C) (ground : Ground s) where
       abbrev body : LinkedBody
       body = p.body
 
-      abbrev check_method : Method
+      abbrev check_method : CheckedMethod
       check_method = method_of (linked_as s.world f.method.number p.body) p.code
 
       -- what the typing says of the handlers of the frame's method
-      abbrev Lead : checked.Handler → Type 0
+      abbrev Lead : checked.CheckedHandler → Type 0
       Lead h = HandlerLeads (package_rules (linked_as s.world f.method.number p.body)) p.typing f.pc p.state h
 
       its_handlers : AllByRecursion Lead check_method.handlers
@@ -186,7 +186,7 @@ module _ {C : Type 0} (s : Surroundings C) (ground : Ground s) where
           AllByRecursion (HandlerLeads (package_rules (linked_as s.world f.method.number p.body)) p.typing pc p.state)
           check_method.handlers) has.0 fine.fine.handled
 
-      abbrev seen_as : rows.Handler → checked.Handler
+      abbrev seen_as : rows.Handler → checked.CheckedHandler
       seen_as h = handler_of (linked_as s.world f.method.number p.body) p.code.code_offset h
 
       -- a handler that covers the frame's pc leads on

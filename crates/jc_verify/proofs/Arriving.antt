@@ -4,7 +4,7 @@ use Rattle.std.specs.Option.{option_and_then, option_map}
 use Rattle.std.proofs.Math.Nat.{mul-le-mul_right}
 use Rattle.std.proofs.lemmas.Bool.{cases_eq}
 use Rattle.std.proofs.lemmas.Option.{none-some, same_Some, slice_get_within}
-use Rattle.jc_check.specs.Method.{Method}
+use Rattle.jc_check.specs.Method.{CheckedMethod}
 use Rattle.jc_check.specs.Package.{package_rules}
 use Rattle.jc_check.specs.Typing.{HasShape, Leads}
 use Rattle.jc_classes.specs.Subtype.{classes_above, is_class_below}
@@ -58,7 +58,7 @@ below_lengths below s t h = let parts = both (all_below below s.locals t.locals)
     both : (p q : Bool) → p && q ≡ true → (p ≡ true) × (q ≡ true)
     both p q h1 = grind arith
 
-pub shape_above : (below : ClassName → ClassName → Bool) (m : Method) (s t : Types) → types_below below s t ≡ true → HasShape m s → HasShape m t
+pub shape_above : (below : ClassName → ClassName → Bool) (m : CheckedMethod) (s t : Types) → types_below below s t ≡ true → HasShape m s → HasShape m t
 shape_above below m s t h shape =
     let parts = both (all_below below s.locals t.locals) (all_below below s.operands t.operands) h in
     let locals = all_below_length below s.locals t.locals parts.0 in
@@ -69,15 +69,15 @@ shape_above below m s t h shape =
     both p q h1 = grind arith
 
 -- a state to work on is in the shape of its method
-pub in_room : (m : Method) (s : StateWithRoom) → HasRoom m s → length s.types.operands ≤ s.room → HasShape m s.types
+pub in_room : (m : CheckedMethod) (s : StateWithRoom) → HasRoom m s → length s.types.operands ≤ s.room → HasShape m s.types
 in_room m s room h = record { locals = room.locals; operands = omega (arith, room.room, h) }
 
-pub low_enough : (l : Linked) → HasLaws l → (m : Method) (t : Types) → HasShape m t → height_of_types (classes_above l.world) most_classes t ≤ most_height m
+pub low_enough : (l : Linked) → HasLaws l → (m : CheckedMethod) (t : Types) → HasShape m t → height_of_types (classes_above l.world) most_classes t ≤ most_height m
 low_enough l laws m t shape = grind (arith, mul-le-mul_right)
 
 -- ---- a place that took in a state
 
-module _ (l : Linked) (laws : HasLaws l) (m : Method) (numbers : List (Option ℕ)) where
+module _ (l : Linked) (laws : HasLaws l) (m : CheckedMethod) (numbers : List (Option ℕ)) where
   pub at_number : (places : Places) (pc n : ℕ) (p : Place StateWithRoom) → number_at numbers pc ≡ Some n → slice_get places n ≡ Some p → held_at numbers places pc ≡ types_held p
   at_number places pc n p e f = ap (λ o. option_and_then types_held (option_and_then (slice_get places) o)) e ∙ ap (option_and_then types_held) f
 

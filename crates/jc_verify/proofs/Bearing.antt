@@ -19,7 +19,7 @@ use Rattle.jc_types.specs.declared.ty.Ty.{Ty}
 use Rattle.jc_check.specs.Carried.{Arrives, Carries, GoesOn, IsCarriedAt, IsHandled, Stands, state_at, types_of}
 use Rattle.jc_check.specs.Checked.{CarriesPackage, stated_for}
 use Rattle.jc_check.specs.Claim.{Claim, claim_of, type_claimed, types_claimed}
-use Rattle.jc_check.specs.Method.{Handler, Method, entry_of}
+use Rattle.jc_check.specs.Method.{CheckedHandler, CheckedMethod, entry_of}
 use Rattle.jc_check.specs.Package.{method_of, package_rules}
 use Rattle.jc_check.specs.Rules.{Rules}
 use Rattle.jc_check.specs.Typing.{BranchLeads, HandlerLeads, IsFine, Leads, Typing}
@@ -63,17 +63,17 @@ claim_is rules c claim e = by_parts (types_claimed rules.class_of c.locals) (typ
         subst (IsClaimOf c) (same_Some (record { pc = c.pc; locals = locals; operands = operands }) claim h) (record { at = refl; depth = types_count rules.class_of c.operands operands f })
 
 -- a claimed state is stated, where an instruction begins, in the shape of the method
-pub record IsStatedAt (m : Method) (listing : List PlacedInstr) (states : List Stated) (pc : ℕ) (t : Types) : Type 0 where
+pub record IsStatedAt (m : CheckedMethod) (listing : List PlacedInstr) (states : List Stated) (pc : ℕ) (t : Types) : Type 0 where
   pub state : Stated
   pub among : Contains states state
   pub at : state.pc ≡ pc
   pub stands : Stands m listing state
   pub depth : length t.operands ≡ length state.operands
 
-stated_behind : (m : Method) (listing : List PlacedInstr) (c : Stated) (states : List Stated) (pc : ℕ) (t : Types) → IsStatedAt m listing states pc t → IsStatedAt m listing (c ∷ states) pc t
+stated_behind : (m : CheckedMethod) (listing : List PlacedInstr) (c : Stated) (states : List Stated) (pc : ℕ) (t : Types) → IsStatedAt m listing states pc t → IsStatedAt m listing (c ∷ states) pc t
 stated_behind m listing c states pc t h = record { state = h.state; among = (suc h.among.0, omega (arith, h.among.1), h.among.2); at = h.at; stands = h.stands; depth = h.depth }
 
-stated_here : (rules : Rules) (m : Method) (listing : List PlacedInstr) (states : List Stated) (claims : List Claim) → map (claim_of rules) states ≡ map Some claims → AllByRecursion (Stands m listing) states
+stated_here : (rules : Rules) (m : CheckedMethod) (listing : List PlacedInstr) (states : List Stated) (claims : List Claim) → map (claim_of rules) states ≡ map Some claims → AllByRecursion (Stands m listing) states
     → (pc : ℕ) (t : Types) → state_at claims pc ≡ Some t → IsStatedAt m listing states pc t
 unfolding state_at
 stated_here rules m listing [] [] found fitting pc t e = absurd (none-some t e)
@@ -101,7 +101,7 @@ stated_here rules m listing (c ∷ states) (claim ∷ claims) found fitting pc t
     }
     by_test false f later k = stated_behind m listing c states pc t (later k)
 
-module _ (rules : Rules) (m : Method) (states : List Stated) (k : Carries rules m states) where
+module _ (rules : Rules) (m : CheckedMethod) (states : List Stated) (k : Carries rules m states) where
   -- what is claimed where control flow enters
   pub record IsClaimedAt (pc : ℕ) : Type 0 where
     pub state : Types
@@ -125,7 +125,7 @@ module _ (rules : Rules) (m : Method) (states : List Stated) (k : Carries rules 
 
 -- ---- the typing of a certificate that carries a method, where control flow reaches it
 
-module _ (l : Linked) (laws : HasLaws l) (m : Method) (numbers : List (Option ℕ)) (states : List Stated) (k : Carries (package_rules l) m states) (live : List ℕ)
+module _ (l : Linked) (laws : HasLaws l) (m : CheckedMethod) (numbers : List (Option ℕ)) (states : List Stated) (k : Carries (package_rules l) m states) (live : List ℕ)
     (all : (pc : ℕ) → IsLive m k.listing pc → has_number live pc ≡ true) (only : (pc : ℕ) → has_number live pc ≡ true → IsLive m k.listing pc)
     (has_place : (pc : ℕ) → IsEntered m k.listing pc → HasPlace numbers pc) (entered : (pc : ℕ) → HasPlace numbers pc → IsEntered m k.listing pc) where
   abbrev rules : Rules
@@ -159,7 +159,7 @@ module _ (l : Linked) (laws : HasLaws l) (m : Method) (numbers : List (Option �
     is_carried : IsCarriedAt rules m k.listing k.claims k.typing (placed pc instr) t
     is_carried = k.live pc (placed pc instr) t at (of_live pc t e).1
 
-    handler_leads : (n : ℕ) (h : Handler) → slice_get m.handlers n ≡ Some h → HandlerLeads rules live_typing pc t h
+    handler_leads : (n : ℕ) (h : CheckedHandler) → slice_get m.handlers n ≡ Some h → HandlerLeads rules live_typing pc t h
     handler_leads n h is covered =
         let a = all_at (IsHandled rules k.claims pc t) m.handlers n h is is_carried.handled covered in
         let there = by_handler (placed pc instr) h at is_live (contains_at m.handlers n h is) covered in
@@ -202,7 +202,7 @@ module _ (l : Linked) (laws : HasLaws l) (m : Method) (numbers : List (Option �
   }
 
 -- where nothing is a carrier, no states carry the method
-pub denied : (l : Linked) (laws : HasLaws l) (m : Method) (numbers : List (Option ℕ)) (places : Places) (entries : List ℕ) → IsNumbered numbers places → HasEntries m entries
+pub denied : (l : Linked) (laws : HasLaws l) (m : CheckedMethod) (numbers : List (Option ℕ)) (places : Places) (entries : List ℕ) → IsNumbered numbers places → HasEntries m entries
     → ((n : ℕ) (p : Place StateWithRoom) → slice_get places n ≡ Some p → has_number entries p.pc ≡ true) → ((pc : ℕ) → pc < length m.code → has_number entries pc ≡ true → HasPlace numbers pc)
     → ((typing : Typing) → IsCarrier l m numbers typing → ⊥) ⊎ (KeepsNames l m → ⊥) → IsDenied l m
 denied l laws m numbers places entries numbered of at_entries has_place (inr unnamed) = inr unnamed

@@ -18,7 +18,7 @@ use Rattle.jc_check.specs.FirstFault.{IsFirstFault, empty, undecoded, found, all
 use Rattle.jc_check.specs.FirstFault.{catches_at, falls_if, falls_to, findings_of, flow_findings_of, handlers_stand}
 use Rattle.jc_check.specs.FirstFault.{handles, meets_claim, state_stands, states_stand, visit, visit_live, visit_on}
 use Rattle.jc_check.specs.FirstFault.{walk}
-use Rattle.jc_check.specs.Method.{Handler, Method, covers, entry_of}
+use Rattle.jc_check.specs.Method.{CheckedHandler, CheckedMethod, covers, entry_of}
 use Rattle.jc_check.specs.Package.{class_of_name, package_rules}
 use Rattle.jc_check.specs.declared.fault.Fault.{Fault}
 use Rattle.jc_check.specs.Rules.{Rules}
@@ -88,7 +88,7 @@ claimed_one (q ∷ places) (suc n) pc p s e is held only = by_held q.held (claim
         zero_suc : 0 ≡ suc n → ⊥
         zero_suc h = omega (arith, h)
 
-module _ (l : Linked) (laws : HasLaws l) (m : Method) (numbers : List (Option ℕ)) (places : Places) (numbered : IsNumbered numbers places) where
+module _ (l : Linked) (laws : HasLaws l) (m : CheckedMethod) (numbers : List (Option ℕ)) (places : Places) (numbered : IsNumbered numbers places) where
   pub claimed : (pc : ℕ) → state_at (claims_of places) pc ≡ held_at numbers places pc
   claimed pc = by_held (held_at numbers places pc) refl
     where
@@ -128,14 +128,14 @@ module _ (l : Linked) (laws : HasLaws l) (m : Method) (numbers : List (Option �
     all_arrived t [] h = refl
     all_arrived t (place ∷ places_of) h = rw (arrived t place h.0) (all_arrived t places_of h.1)
 
-    handled : (pc : ℕ) (t : Types) (h : Handler) → HandlerLeads rules (held_at numbers places) pc t h → handles rules claims pc t h ≡ Ok tt
+    handled : (pc : ℕ) (t : Types) (h : CheckedHandler) → HandlerLeads rules (held_at numbers places) pc t h → handles rules claims pc t h ≡ Ok tt
     unfolding handles
     handled pc t h leads = by_cover (covers h pc) refl
       where
         by_cover : (b : Bool) → covers h pc ≡ b → cond b (catches_at rules claims t h.goes_on h.caught) (Ok tt) ≡ Ok tt
         by_cover b h1 = grind (arith, met)
 
-    all_handled : (pc : ℕ) (t : Types) (hs : List Handler) → AllByRecursion (HandlerLeads rules (held_at numbers places) pc t) hs → all_handle rules claims pc t hs ≡ Ok tt
+    all_handled : (pc : ℕ) (t : Types) (hs : List CheckedHandler) → AllByRecursion (HandlerLeads rules (held_at numbers places) pc t) hs → all_handle rules claims pc t hs ≡ Ok tt
     all_handled pc t [] leads = refl
     all_handled pc t (h ∷ hs) leads = rw (handled pc t h leads.0) (all_handled pc t hs leads.1)
 
@@ -217,12 +217,12 @@ module _ (l : Linked) (laws : HasLaws l) (m : Method) (numbers : List (Option �
 
 -- ---- handlers and states stand
 
-pub handlers_fine : (listing : List PlacedInstr) (hs : List Handler) → AllByRecursion (HandlerStands listing) hs → handlers_stand listing hs ≡ Ok tt
+pub handlers_fine : (listing : List PlacedInstr) (hs : List CheckedHandler) → AllByRecursion (HandlerStands listing) hs → handlers_stand listing hs ≡ Ok tt
 unfolding handlers_stand
 handlers_fine listing [] h = refl
 handlers_fine listing (x ∷ hs) h = rw (h.0.begin, h.0.catches) (handlers_fine listing hs h.1)
 
-module _ (l : Linked) (m : Method) (listing : List PlacedInstr) where
+module _ (l : Linked) (m : CheckedMethod) (listing : List PlacedInstr) where
   -- what a place holds stands where an instruction begins, in the shape of the method
   abbrev IsFit : Place StateWithRoom → Type 0
   IsFit p = (begins listing p.pc ≡ true) × ((s : StateWithRoom) → p.held ≡ Some s → HasShape m s.types)
@@ -252,7 +252,7 @@ all_by_place P [] h = tt
 all_by_place P (x ∷ xs) h = (h 0 x refl, all_by_place P xs (λ n y e. h (suc n) y e))
 
 -- what is found of the rows of places from which control flow was followed
-pub found_fine : (l : Linked) (laws : HasLaws l) (m : Method) (numbers : List (Option ℕ)) (places : Places) (listing : List PlacedInstr) (cs : List Stated) → IsNumbered numbers places → length numbers ≡ length m.code
+pub found_fine : (l : Linked) (laws : HasLaws l) (m : CheckedMethod) (numbers : List (Option ℕ)) (places : Places) (listing : List PlacedInstr) (cs : List Stated) → IsNumbered numbers places → length numbers ≡ length m.code
     → IsListing (package_rules l).decoder m.code listing → ((n : ℕ) (p : Place StateWithRoom) → slice_get places n ≡ Some p → begins listing p.pc ≡ true) → AreShaped m places → AreAllClosed l m numbers places → IsEntryMet l m numbers (held_at numbers places)
     → AllByRecursion (HandlerStands listing) m.handlers → AreStateRows (class_of_name l.world) places cs → findings_of (package_rules l) m listing cs ≡ Ok tt
 unfolding findings_of
@@ -261,7 +261,7 @@ found_fine l laws m numbers places listing cs numbered sized whole starts shaped
     rw (handlers_fine listing m.handlers handlers, states_fine l m listing places cs fit rows) (flow_fine l laws m numbers places numbered sized listing whole starts closed entered)
 
 -- where nothing is found, the method is carried
-pub carried : (l : Linked) (laws : HasLaws l) (m : Method) (listing : List PlacedInstr) (cs : List Stated) → IsListing (package_rules l).decoder m.code listing → m.code ≢ [] → findings_of (package_rules l) m listing cs ≡ Ok tt
+pub carried : (l : Linked) (laws : HasLaws l) (m : CheckedMethod) (listing : List PlacedInstr) (cs : List Stated) → IsListing (package_rules l).decoder m.code listing → m.code ≢ [] → findings_of (package_rules l) m listing cs ≡ Ok tt
     → Carries (package_rules l) m cs ⊎ ((fault : Fault) × IsFirstFault (package_rules l) m cs fault) → Carries (package_rules l) m cs
 carried l laws m listing cs whole some fine (inl h) = h
 carried l laws m listing cs whole some fine (inr (fault, h)) = absurd (no_fault fault h)
@@ -290,7 +290,7 @@ rows_each class_of Q (p ∷ places) cs are holds = by_held p.held refl (λ ds h.
     by_held (Some s) e rest are = subst (AllByRecursion Q) (sym are.are) (holds 0 p s are.row refl e are.states, rest are.rest are.behind)
 
 -- a typing, by what code decodes to
-pub upper_of : (l : Linked) → HasLaws l → (m : Method) (typing : Typing) → IsTyping (package_rules l) m typing → IsUpper l m typing
+pub upper_of : (l : Linked) → HasLaws l → (m : CheckedMethod) (typing : Typing) → IsTyping (package_rules l) m typing → IsUpper l m typing
 upper_of l laws m typing typed = record {
   entry = typed.entry;
   each = λ pc t instr e decoded.
@@ -301,7 +301,7 @@ upper_of l laws m typing typed = record {
 }
 
 -- rows of places that lie below a typing lie below it
-pub rows_least : (l : Linked) (laws : HasLaws l) (m : Method) (numbers : List (Option ℕ)) (places : Places) (cs : List Stated) → IsNumbered numbers places → AreStateRows (class_of_name l.world) places cs
+pub rows_least : (l : Linked) (laws : HasLaws l) (m : CheckedMethod) (numbers : List (Option ℕ)) (places : Places) (cs : List Stated) → IsNumbered numbers places → AreStateRows (class_of_name l.world) places cs
     → (typing : Typing) → IsUnder l numbers places typing → AllByRecursion (LiesBelow l typing) cs
 rows_least l laws m numbers places cs numbered are typing under =
     rows_each (class_of_name l.world) (LiesBelow l typing) places cs are (λ n p s c at held row. record {

@@ -7,9 +7,9 @@ use Rattle.std.proofs.lemmas.List.Sorted.{IsPermutation-sym, length_permutation}
 use Rattle.std.proofs.lemmas.Map.Keys.{IsDistinct-IsPermutation, IsDistinct-from_apart, apart_from_distinct}
 use Rattle.std.proofs.lemmas.Option.{get_or_from_slice_get, none-some, same_Some, slice_get-get_or, slice_get_within}
 use Rattle.jc_cert.specs.Cert.{IsCert, IsRow, IsStated, OffsetsAscend, Row, Stated, row, rows}
-use Rattle.jc_cert.specs.declared.cert.MethodRow.{MethodRow}
+use Rattle.jc_cert.specs.declared.cert.MethodStates.{MethodStates}
 use Rattle.jc_link.specs.Linked.{Linked}
-use Rattle.jc_check.specs.Method.{Method}
+use Rattle.jc_check.specs.Method.{CheckedMethod}
 use Rattle.jc_verify.specs.PrivateGathered.{AreGathered, IsInShape, IsRowOf}
 use Rattle.jc_verify.specs.PrivateRefused.{HasFitMethods}
 use Rattle.jc_verify.proofs.Carrying.{all_by_place}
@@ -22,7 +22,7 @@ offsets_ascend [] least from up = tt
 offsets_ascend (c ∷ cs) least from up =
     (from 0 c refl, offsets_ascend cs (c.offset + 1) (λ n r e. let lt = up 0 (suc n) c r refl e (omega arith) in omega (arith, lt)) (λ j k r s e f lt. up (suc j) (suc k) r s e f (omega (arith, lt))))
 
-all_stated : (m : Method) → length m.arguments + m.max_locals < 2 ^ 16 → (cs : List Stated) → AllByRecursion (IsInShape m) cs → AllByRecursion IsStated cs
+all_stated : (m : CheckedMethod) → length m.arguments + m.max_locals < 2 ^ 16 → (cs : List Stated) → AllByRecursion (IsInShape m) cs → AllByRecursion IsStated cs
 all_stated m few [] h = tt
 all_stated m few (c ∷ cs) h = search (arith, all_stated m few cs h.1)
 
@@ -30,13 +30,13 @@ is_row : (l : Linked) → HasFitMethods l → (n : ℕ) (r : Row) → IsRowOf l 
 is_row l fit n r h = grind (arith, all_stated)
 
 -- what stands at a place among the rows of rows
-row_of : (ms : List MethodRow) (n : ℕ) (r : Row) → slice_get (rows ms) n ≡ Some r → (x : MethodRow) × (slice_get ms n ≡ Some x) × (row x ≡ r)
+row_of : (ms : List MethodStates) (n : ℕ) (r : Row) → slice_get (rows ms) n ≡ Some r → (x : MethodStates) × (slice_get ms n ≡ Some x) × (row x ≡ r)
 row_of [] n r e = absurd (none-some r e)
 row_of (x ∷ ms) zero r e = (x, refl, same_Some (row x) r e)
 row_of (x ∷ ms) (suc n) r e = row_of ms n r e
 
-module _ (l : Linked) (of : List Row) (put : List MethodRow) (gathered : AreGathered l (length l.body.kept.methods) of) (order : IsPermutation of (rows put))
-    (ascend : IsNonDecreasingBy (λ (m : MethodRow). m.offset) put) (fit : HasFitMethods l) (few : length l.body.kept.methods < 2 ^ 16) where
+module _ (l : Linked) (of : List Row) (put : List MethodStates) (gathered : AreGathered l (length l.body.kept.methods) of) (order : IsPermutation of (rows put))
+    (ascend : IsNonDecreasingBy (λ (m : MethodStates). m.offset) put) (fit : HasFitMethods l) (few : length l.body.kept.methods < 2 ^ 16) where
   distinct : IsDistinct (λ (r s : Row). r.offset == s.offset) of
   distinct = grind (arith, IsDistinct-from_apart, ne_eqb, get_or, slice_get-get_or)
 
@@ -57,8 +57,8 @@ module _ (l : Linked) (of : List Row) (put : List MethodRow) (gathered : AreGath
       let le = ascend j k x.0 (omega (arith, lt)) within in
       let one : get_or put j x.0 ≡ x.0 = get_or_from_slice_get put j x.0 x.0 x.1 in
       let other : get_or put k x.0 ≡ y.0 = get_or_from_slice_get put k y.0 x.0 y.1 in
-      let a = ap (λ (m : MethodRow). m.offset) one in
-      let b = ap (λ (m : MethodRow). m.offset) other in
+      let a = ap (λ (m : MethodStates). m.offset) one in
+      let b = ap (λ (m : MethodStates). m.offset) other in
       let c = ap (λ (m : Row). m.offset) x.2 in
       let d = ap (λ (m : Row). m.offset) y.2 in
       let past = slice_get_within (rows put) k s f in

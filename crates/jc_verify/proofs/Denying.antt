@@ -6,7 +6,7 @@ use Rattle.jc_classes.specs.Subtype.{is_class_below}
 use Rattle.jc_names.specs.declared.name.ClassName.{ClassName}
 use Rattle.jc_link.specs.Linked.{Linked}
 use Rattle.jc_types.specs.State.{Types}
-use Rattle.jc_check.specs.Method.{Method, caught_types}
+use Rattle.jc_check.specs.Method.{CheckedMethod, caught_types}
 use Rattle.jc_check.specs.Package.{package_rules}
 use Rattle.jc_check.specs.Typing.{Leads, Typing}
 use Rattle.jc_check.specs.declared.fault.WordFault.{WordFault}
@@ -27,7 +27,7 @@ pub no_place : (numbers : List (Option ℕ)) (pc : ℕ) → number_at numbers pc
 no_place numbers pc none place = none-some place.number (sym none ∙ place.is)
 
 -- there is room for what is caught
-pub no_room : {l : Linked} {m : Method} {numbers : List (Option ℕ)} {typing : Typing} → IsCarrier l m numbers typing → (class : ClassName) (t : Types) (pc : ℕ) → m.max_stack ≡ 0
+pub no_room : {l : Linked} {m : CheckedMethod} {numbers : List (Option ℕ)} {typing : Typing} → IsCarrier l m numbers typing → (class : ClassName) (t : Types) (pc : ℕ) → m.max_stack ≡ 0
     → Leads (package_rules l) typing (caught_types class t) pc → HasPlace numbers pc → ⊥
 no_room {l} carrier class t pc none leads place =
     let few = carrier.room pc leads.state place leads.typed in

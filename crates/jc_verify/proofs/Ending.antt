@@ -6,7 +6,7 @@ use Rattle.jc_code.specs.Listing.{PlacedInstr}
 use Rattle.jc_link.specs.Linked.{Linked}
 use Rattle.jc_check.specs.Carried.{HandlerStands}
 use Rattle.jc_check.specs.FirstFault.{fault_at as fault_of, handler_stands, handlers_stand, told_at}
-use Rattle.jc_check.specs.Method.{Handler, Method}
+use Rattle.jc_check.specs.Method.{CheckedHandler, CheckedMethod}
 use Rattle.jc_check.specs.Package.{package_rules}
 use Rattle.jc_check.specs.Rules.{Rules}
 use Rattle.jc_check.specs.declared.fault.Fault.{Fault}
@@ -21,12 +21,12 @@ use Rattle.jc_verify.specs.declared.flow.Flow.{Flow}
 use Rattle.jc_verify.specs.MethodFault.{IsToldOf, astray, handler, undecoded}
 use Rattle.jc_verify.proofs.Lists.{drop_get}
 
-pub tells_undecoded : (l : Linked) (m : Method) (fault : WordFault) → IfRefusal fault (IsUndecoded m.code)
+pub tells_undecoded : (l : Linked) (m : CheckedMethod) (fault : WordFault) → IfRefusal fault (IsUndecoded m.code)
     → Tells (package_rules l) m fault
 tells_undecoded l m (faults.Refused pc reason) off = rw off.2 (undecoded pc off.0 off.1)
 tells_undecoded l m faults.Memory off = tt
 
-module _ (l : Linked) (m : Method) (listing : List PlacedInstr) (starts : List ℕ) where
+module _ (l : Linked) (m : CheckedMethod) (listing : List PlacedInstr) (starts : List ℕ) where
   pub tells_handler : IsDecoded m.code listing starts → m.code ≢ [] → (pc : ℕ) (reason : Reason) → handlers_stand listing m.handlers ≡ Err (fault_of pc reason) → IsToldOf (package_rules l) m (fault_of pc reason)
   tells_handler decoded some pc reason e = handler listing (fault_of pc reason) decoded.whole some e
 
@@ -38,28 +38,28 @@ module _ (l : Linked) (m : Method) (listing : List PlacedInstr) (starts : List �
 
 -- ---- handlers in order
 
-stands_ok : (listing : List PlacedInstr) (h : Handler) → HandlerStands listing h → handler_stands listing h ≡ Ok tt
+stands_ok : (listing : List PlacedInstr) (h : CheckedHandler) → HandlerStands listing h → handler_stands listing h ≡ Ok tt
 stands_ok listing h s = rw (s.begin, s.catches) refl
 
-unfold_one : (listing : List PlacedInstr) (h : Handler) (hs : List Handler) → handlers_stand listing (h ∷ hs) ≡ (told_at h.goes_on (handler_stands listing h) >>= λ _. handlers_stand listing hs)
+unfold_one : (listing : List PlacedInstr) (h : CheckedHandler) (hs : List CheckedHandler) → handlers_stand listing (h ∷ hs) ≡ (told_at h.goes_on (handler_stands listing h) >>= λ _. handlers_stand listing hs)
 unfolding handlers_stand
 unfold_one listing h hs = refl
 
-pub stand_on : (listing : List PlacedInstr) (h : Handler) (hs : List Handler) → HandlerStands listing h → handlers_stand listing (h ∷ hs) ≡ handlers_stand listing hs
+pub stand_on : (listing : List PlacedInstr) (h : CheckedHandler) (hs : List CheckedHandler) → HandlerStands listing h → handlers_stand listing (h ∷ hs) ≡ handlers_stand listing hs
 stand_on listing h hs s = unfold_one listing h hs ∙ rw (stands_ok listing h s) refl
 
-pub stand_not : (listing : List PlacedInstr) (h : Handler) (hs : List Handler) (fault : Fault) → told_at h.goes_on (handler_stands listing h) ≡ Err fault → handlers_stand listing (h ∷ hs) ≡ Err fault
+pub stand_not : (listing : List PlacedInstr) (h : CheckedHandler) (hs : List CheckedHandler) (fault : Fault) → told_at h.goes_on (handler_stands listing h) ≡ Err fault → handlers_stand listing (h ∷ hs) ≡ Err fault
 stand_not listing h hs fault e = unfold_one listing h hs ∙ rw e refl
 
-pub stand_one : (listing : List PlacedInstr) (hs : List Handler) (k : ℕ) (h : Handler) → slice_get hs k ≡ Some h → HandlerStands listing h → handlers_stand listing (drop k hs) ≡ handlers_stand listing (drop (k + 1) hs)
+pub stand_one : (listing : List PlacedInstr) (hs : List CheckedHandler) (k : ℕ) (h : CheckedHandler) → slice_get hs k ≡ Some h → HandlerStands listing h → handlers_stand listing (drop k hs) ≡ handlers_stand listing (drop (k + 1) hs)
 stand_one listing hs k h at s = ap (λ xs. handlers_stand listing xs) (drop_get hs k h at) ∙ stand_on listing h (drop (k + 1) hs) s
 
-pub stop_one : (listing : List PlacedInstr) (hs : List Handler) (k : ℕ) (h : Handler) (fault : Fault) → slice_get hs k ≡ Some h → told_at h.goes_on (handler_stands listing h) ≡ Err fault → handlers_stand listing (drop k hs) ≡ Err fault
+pub stop_one : (listing : List PlacedInstr) (hs : List CheckedHandler) (k : ℕ) (h : CheckedHandler) (fault : Fault) → slice_get hs k ≡ Some h → told_at h.goes_on (handler_stands listing h) ≡ Err fault → handlers_stand listing (drop k hs) ≡ Err fault
 stop_one listing hs k h fault at e = ap (λ xs. handlers_stand listing xs) (drop_get hs k h at) ∙ stand_not listing h (drop (k + 1) hs) fault e
 
 -- ---- reasons
 
-pub never_told : (rules : Rules) (m : Method) (fault : WordFault) → ((pc : ℕ) (reason : Reason) → fault ≡ faults.Refused pc reason → ⊥) → Tells rules m fault
+pub never_told : (rules : Rules) (m : CheckedMethod) (fault : WordFault) → ((pc : ℕ) (reason : Reason) → fault ≡ faults.Refused pc reason → ⊥) → Tells rules m fault
 never_told rules m fault h1 = grind arith
 
 pub denial_tells : {f : Flow} {asks : Typing → Type 0} {places : Places} (fault : WordFault) → IsDenial f asks places fault → Tells (package_rules f.linked.now) f.method.now fault

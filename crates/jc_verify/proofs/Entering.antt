@@ -11,7 +11,7 @@ use Rattle.jc_code.specs.Listing.{PlacedInstr, begins, placed_at}
 use Rattle.jc_code.specs.Targets.{falls_of, targets_of}
 use Rattle.jc_code.specs.declared.fault.CodeFault.{CodeFault}
 use Rattle.jc_check.specs.Carried.{HandlerStands}
-use Rattle.jc_check.specs.Method.{Handler, Method, covers}
+use Rattle.jc_check.specs.Method.{CheckedHandler, CheckedMethod, covers}
 use Rattle.jc_check.specs.declared.fault.WordFault.{WordFault}
 use Rattle.jc_verify.specs.Live.{IsLive, behind, caught}
 use Rattle.jc_verify.specs.PrivateLive.{IfRefusal, IsAstray, IsDone, IsFollowed, IsFound, IsGround, IsReached, ToldAt, leads}
@@ -22,10 +22,10 @@ use Rattle.jc_verify.proofs.Passing.{all_contained, if_refusal}
 use Rattle.jc_verify.proofs.Starting.{behind_begins, placed_begins}
 
 -- the pc that control flow is followed from now is reached
-pub reached_now : (m : Method) (listing : List PlacedInstr) (pc : ℕ) (f : Followed) → IsFollowed m listing (Some pc) f → IsReached m listing pc
+pub reached_now : (m : CheckedMethod) (listing : List PlacedInstr) (pc : ℕ) (f : Followed) → IsFollowed m listing (Some pc) f → IsReached m listing pc
 reached_now m listing pc f h = h.live pc (h.awaited pc (inl refl))
 
-module _ (m : Method) (listing : List PlacedInstr) (starts : List ℕ) (ground : IsGround m listing starts) where
+module _ (m : CheckedMethod) (listing : List PlacedInstr) (starts : List ℕ) (ground : IsGround m listing starts) where
   -- code is decoded where an instruction begins
   pub never_stops : (pc : ℕ) (why : CodeFault) → begins listing pc ≡ true → instr_at m.code pc ≡ Err why → ⊥
   never_stops pc why begin e =
@@ -37,7 +37,7 @@ module _ (m : Method) (listing : List PlacedInstr) (starts : List ℕ) (ground :
       apart e = absurd cc
 
   module _ (x : PlacedInstr) (at : placed_at listing x.pc ≡ Some x) (live : IsLive m listing x.pc) where
-    pub handler_found : (h : Handler) → Contains m.handlers h → covers h x.pc ≡ true → IsFound m listing h.goes_on
+    pub handler_found : (h : CheckedHandler) → Contains m.handlers h → covers h x.pc ≡ true → IsFound m listing h.goes_on
     handler_found h among covered = record { entered = caught x h at live among covered; begin = (all_contained (HandlerStands listing) m.handlers h among ground.handlers).begin }
 
     pub behind_reached : falls_of x.instr.operation ≡ true → x.instr.next_pc < length m.code → IsReached m listing x.instr.next_pc

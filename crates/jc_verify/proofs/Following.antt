@@ -5,7 +5,7 @@ use Rattle.std.proofs.lemmas.List.Elements.{Contains-append_left, Contains-push,
 use Rattle.std.proofs.lemmas.Option.{none-some, same_Some}
 use Rattle.jc_base.specs.NumberSet.{has_number}
 use Rattle.jc_code.specs.Listing.{PlacedInstr, begins, placed_at}
-use Rattle.jc_check.specs.Method.{Method}
+use Rattle.jc_check.specs.Method.{CheckedMethod}
 use Rattle.jc_verify.specs.Live.{IsEntered, IsLive, first, behind, by_branch, by_handler, branched, caught}
 use Rattle.jc_code.specs.Targets.{targets_of}
 use Rattle.jc_verify.specs.MethodFault.{GoesStraight, falls_off, no_target}
@@ -25,7 +25,7 @@ held_on f g grown pc h = record { live = grown.live pc h.live; entered = grown.e
 
 -- what was done stays so while the sets keep their pcs
 done_on : (f g : Followed) → ((pc : ℕ) → has_number f.live pc ≡ true → has_number g.live pc ≡ true) → ((pc : ℕ) → has_number f.entered pc ≡ true → has_number g.entered pc ≡ true)
-    → (m : Method) (x : PlacedInstr) → IsDone m f x → IsDone m g x
+    → (m : CheckedMethod) (x : PlacedInstr) → IsDone m f x → IsDone m g x
 done_on f g live entered m x d = record {
   handlers = λ h among covered. let k = d.handlers h among covered in record { live = live h.goes_on k.live; entered = entered h.goes_on k.entered };
   branches = λ place among. let k = d.branches place among in record { pc = k.pc; is = k.is; held = record { live = live k.pc k.held.live; entered = entered k.pc k.held.entered } };
@@ -33,7 +33,7 @@ done_on f g live entered m x d = record {
 }
 
 -- what is entered is reached
-pub reached_of : (m : Method) (listing : List PlacedInstr) (pc : ℕ) → IsFound m listing pc → IsReached m listing pc
+pub reached_of : (m : CheckedMethod) (listing : List PlacedInstr) (pc : ℕ) → IsFound m listing pc → IsReached m listing pc
 reached_of m listing pc h = record { live = by h.entered; begin = h.begin }
   where
     by : {q : ℕ} → IsEntered m listing q → IsLive m listing q
@@ -53,7 +53,7 @@ module _ (before after : Followed) (pc : ℕ) (live : (n : ℕ) → has_number a
   pub reached_grown : has_number before.live pc ≡ false → pc < 65_536 → Grown before after
   reached_grown fresh small = grind (arith, live_on, entered_on, one_less, length-append)
 
-  pub reached_followed : (m : Method) (listing : List PlacedInstr) (now : Option ℕ) → IsReached m listing pc → IsFollowed m listing now before → IsFollowed m listing now after
+  pub reached_followed : (m : CheckedMethod) (listing : List PlacedInstr) (now : Option ℕ) → IsReached m listing pc → IsFollowed m listing now before → IsFollowed m listing now after
   reached_followed m listing now reached h = record {
     first = live_on 0 h.first;
     live = λ n e. of_live n (has_cases before.live after.live pc live n e);
@@ -97,7 +97,7 @@ module _ (before after : Followed) (pc : ℕ) (live : after.live ≡ before.live
   pub entered_grown : Grown before after
   entered_grown = grind (arith, same_live, more_entered)
 
-  pub entered_followed : (m : Method) (listing : List PlacedInstr) (now : Option ℕ) → IsFound m listing pc → IsFollowed m listing now before → IsFollowed m listing now after
+  pub entered_followed : (m : CheckedMethod) (listing : List PlacedInstr) (now : Option ℕ) → IsFound m listing pc → IsFollowed m listing now before → IsFollowed m listing now after
   entered_followed m listing now found h = record {
     first = same_live 0 h.first;
     live = λ n e. h.live n (was_live n e);
@@ -125,7 +125,7 @@ module _ (before after : Followed) (pc : ℕ) (live : after.live ≡ before.live
 -- ---- one pc after the other
 
 -- control flow was followed from the pc that it was followed from
-pub is_done : (m : Method) (listing : List PlacedInstr) (pc : ℕ) (f : Followed) → ((x : PlacedInstr) → placed_at listing x.pc ≡ Some x → x.pc ≡ pc → IsDone m f x)
+pub is_done : (m : CheckedMethod) (listing : List PlacedInstr) (pc : ℕ) (f : Followed) → ((x : PlacedInstr) → placed_at listing x.pc ≡ Some x → x.pc ≡ pc → IsDone m f x)
     → IsFollowed m listing (Some pc) f → IsFollowed m listing None f
 is_done m listing pc f done h = record {
   first = h.first;
@@ -143,7 +143,7 @@ is_done m listing pc f done h = record {
 
 -- control flow is followed from the pc that was put on the stack last
 module _ (before after : Followed) (pc : ℕ) (live : after.live ≡ before.live) (entered : after.entered ≡ before.entered) (stack : before.stack.items ≡ after.stack.items ++ pc ∷ []) where
-  pub taken : (m : Method) (listing : List PlacedInstr) → IsFollowed m listing None before → IsFollowed m listing (Some pc) after
+  pub taken : (m : CheckedMethod) (listing : List PlacedInstr) → IsFollowed m listing None before → IsFollowed m listing (Some pc) after
   taken m listing h = record {
     first = live_on 0 h.first;
     live = λ n e. h.live n (was_live n e);
@@ -177,7 +177,7 @@ module _ (before after : Followed) (pc : ℕ) (live : after.live ≡ before.live
       of_before x (inr d) = inr (done_on before after live_on entered_on m x d)
 
 -- pc 0 is reached, and nothing else yet
-pub followed_first : (m : Method) (listing : List PlacedInstr) (none : List ℕ) (f : Followed) → ((n : ℕ) → has_number none n ≡ false) → ((n : ℕ) → has_number f.live n ≡ (n == 0 || has_number none n))
+pub followed_first : (m : CheckedMethod) (listing : List PlacedInstr) (none : List ℕ) (f : Followed) → ((n : ℕ) → has_number none n ≡ false) → ((n : ℕ) → has_number f.live n ≡ (n == 0 || has_number none n))
     → ((n : ℕ) → has_number f.entered n ≡ false) → f.stack.items ≡ 0 ∷ [] → begins listing 0 ≡ true → IsFollowed m listing None f
 followed_first m listing none f empty puts nothing stack begin = record {
   first = has_itself none f.live 0 puts;
@@ -207,7 +207,7 @@ followed_first m listing none f empty puts nothing stack begin = record {
 
 -- ---- at the end
 
-module _ (m : Method) (listing : List PlacedInstr) (f : Followed) (h : IsFollowed m listing None f) (stack : f.stack.items ≡ []) where
+module _ (m : CheckedMethod) (listing : List PlacedInstr) (f : Followed) (h : IsFollowed m listing None f) (stack : f.stack.items ≡ []) where
   all_done : (x : PlacedInstr) → placed_at listing x.pc ≡ Some x → has_number f.live x.pc ≡ true → IsDone m f x
   all_done x at e = by (h.done x at e)
     where

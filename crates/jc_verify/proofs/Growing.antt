@@ -1,6 +1,6 @@
 -- What holds while the places of a method are raised.
 use Rattle.std.proofs.Common.{ℕ, List, Option}
-use Rattle.jc_check.specs.Method.{Method}
+use Rattle.jc_check.specs.Method.{CheckedMethod}
 use Rattle.jc_check.specs.Package.{package_rules}
 use Rattle.jc_check.specs.Typing.{Leads}
 use Rattle.jc_link.specs.Linked.{Linked}
@@ -8,7 +8,7 @@ use Rattle.jc_types.specs.State.{Types}
 use Rattle.jc_verify.specs.PrivateFlow.{Grown, HasLaws, Places, Risen, below_in, held_at, height_in, most_height}
 use Rattle.jc_verify.proofs.Stepping.{steps_none, steps_through}
 
-module _ (l : Linked) (laws : HasLaws l) (m : Method) (numbers : List (Option ℕ)) where
+module _ (l : Linked) (laws : HasLaws l) (m : CheckedMethod) (numbers : List (Option ℕ)) where
   pub risen_self : (places : Places) → Risen l m numbers places places
   risen_self places = record {
     rises = λ pc s e. record { state = s; typed = e; below = laws.itself s };

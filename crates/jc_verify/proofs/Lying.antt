@@ -9,7 +9,7 @@ use Rattle.jc_base.proofs.Binding.{ok_err, the_ok}
 use Rattle.jc_base.specs.declared.reason.Reason.{Reason}
 use Rattle.jc_code.specs.Targets.{falls_of, targets_of}
 use Rattle.jc_code.specs.declared.instr.Instr.{Instr}
-use Rattle.jc_check.specs.Method.{Handler, Method, caught_types, covers}
+use Rattle.jc_check.specs.Method.{CheckedHandler, CheckedMethod, caught_types, covers}
 use Rattle.jc_check.specs.Package.{package_rules}
 use Rattle.jc_check.specs.Rules.{Rules}
 use Rattle.jc_check.specs.Typing.{BranchLeads, CatchLeads, HandlerLeads, IsFine, Leads, Typing}
@@ -26,7 +26,7 @@ use Rattle.jc_verify.specs.declared.flow.Flow.{Flow}
 use Rattle.jc_verify.specs.declared.place.Place.{Place}
 use Rattle.jc_verify.proofs.Arriving.{IsHeldBy, at_number, below_lengths, held_by, set_other, set_same}
 
-module _ (l : Linked) (laws : HasLaws l) (m : Method) (numbers : List (Option ℕ)) (places : Places) (numbered : IsNumbered numbers places) (typing : Typing) (under : IsUnder l numbers places typing)
+module _ (l : Linked) (laws : HasLaws l) (m : CheckedMethod) (numbers : List (Option ℕ)) (places : Places) (numbered : IsNumbered numbers places) (typing : Typing) (under : IsUnder l numbers places typing)
     (number pc : ℕ) (p : Place StateWithRoom) (value : StateWithRoom) (at : slice_get places number ≡ Some p) (is : number_at numbers pc ≡ Some number) (leads : Leads (package_rules l) typing value.types pc) where
   -- the state of the typing there
   abbrev above_all : StateWithRoom
@@ -91,20 +91,20 @@ module _ {rules : Rules} {t : Types} {typing : Typing} where
   branch_on targets index {pc} at is leads = branch_at targets index at is (record { pc = pc; is = refl; leads = leads })
 
 -- a handler that was looked at by its parts catches the class that it names, and goes on where it says
-module _ {h : Handler} (view : Handler) (same : view ≡ h) (class : ClassName) (is : view.caught ≡ Some class) where
+module _ {h : CheckedHandler} (view : CheckedHandler) (same : view ≡ h) (class : ClassName) (is : view.caught ≡ Some class) where
   named : h.caught ≡ Some class
-  named = ap (λ (x : Handler). x.caught) (sym same) ∙ is
+  named = ap (λ (x : CheckedHandler). x.caught) (sym same) ∙ is
 
   pub catch_here : {rules : Rules} {t : Types} {typing : Typing} → CatchLeads rules typing t h → Leads rules typing (caught_types class t) view.goes_on
   catch_here {rules} {t} {typing} k = grind (arith, same_Some, named)
 
   pub catch_on : {rules : Rules} {t : Types} {typing : Typing} → Leads rules typing (caught_types class t) view.goes_on → CatchLeads rules typing t h
-  catch_on {rules} {t} {typing} leads = record { class = class; catches = named; leads = subst (Leads rules typing (caught_types class t)) (ap (λ (x : Handler). x.goes_on) same) leads }
+  catch_on {rules} {t} {typing} leads = record { class = class; catches = named; leads = subst (Leads rules typing (caught_types class t)) (ap (λ (x : CheckedHandler). x.goes_on) same) leads }
 
   pub way_here : {f : Flow} {t : Types} → IsWay f t h → FlowsIn f view.goes_on (caught_types class t)
   way_here {f} {t} way = grind (arith, same_Some, named)
 
-  pub uncaught_here : {l : Linked} {m : Method} {pc : ℕ} {t : Types} {reason : Reason} → covers h pc ≡ true → IsUncaughtAt l m view.goes_on (caught_types class t) reason → IsUncaught l m (λ x. x ≡ h) pc t reason
+  pub uncaught_here : {l : Linked} {m : CheckedMethod} {pc : ℕ} {t : Types} {reason : Reason} → covers h pc ≡ true → IsUncaughtAt l m view.goes_on (caught_types class t) reason → IsUncaught l m (λ x. x ≡ h) pc t reason
   uncaught_here {l} {m} {pc} {t} {reason} covered why = grind (arith, named)
 
 module _ (l : Linked) (laws : HasLaws l) (typing : Typing) (s t : Types) (lower : types_below (is_class_below l.world) s t ≡ true) where
@@ -124,7 +124,7 @@ module _ (l : Linked) (laws : HasLaws l) (typing : Typing) (s t : Types) (lower 
       both : (p q : Bool) → p && q ≡ true → (p ≡ true) × (q ≡ true)
       both p q h1 = grind arith
 
-  pub handlers_down : (pc : ℕ) (hs : List Handler) → AllByRecursion (HandlerLeads (package_rules l) typing pc t) hs → AllByRecursion (HandlerLeads (package_rules l) typing pc s) hs
+  pub handlers_down : (pc : ℕ) (hs : List CheckedHandler) → AllByRecursion (HandlerLeads (package_rules l) typing pc t) hs → AllByRecursion (HandlerLeads (package_rules l) typing pc s) hs
   handlers_down pc [] h = tt
   handlers_down pc (x ∷ hs) h = (one, handlers_down pc hs h.1)
     where

@@ -13,7 +13,7 @@ use Rattle.jc_link.specs.Linked.{Linked}
 use Rattle.jc_types.specs.Known.{AreKnown, is_known}
 use Rattle.jc_types.specs.State.{IsJoin, Types, has_shape_of, joined_types, types_below}
 use Rattle.jc_types.specs.declared.ty.Ty.{Ty}
-use Rattle.jc_check.specs.Method.{Handler, Method, entry_of}
+use Rattle.jc_check.specs.Method.{CheckedHandler, CheckedMethod, entry_of}
 use Rattle.jc_check.specs.Package.{package_rules}
 use Rattle.jc_verify.specs.PrivateFlow.{Places}
 use Rattle.jc_verify.specs.PrivateNames.{AreNamed, HasNames, HasUnnamed, KeepsNames, TypeHasName}
@@ -62,8 +62,8 @@ of_one_shape : (below : ClassName → ClassName → Bool) (s t u : Types) → ty
 of_one_shape below s t u one other = grind (arith, below_lengths, both, eq-eqb)
 
 -- whatever control flow does to types of a method leaves them known, so it leaves names to their classes
-pub keeps_names : (l : Linked) (m : Method) → AreKnown (is_class_at l.world) (entry_of m)
-    → ((h : Handler) (c : ClassName) → Contains m.handlers h → h.caught ≡ Some c → is_class_at l.world c ≡ true)
+pub keeps_names : (l : Linked) (m : CheckedMethod) → AreKnown (is_class_at l.world) (entry_of m)
+    → ((h : CheckedHandler) (c : ClassName) → Contains m.handlers h → h.caught ≡ Some c → is_class_at l.world c ≡ true)
     → ((operation : Operation) (s t : Types) → (package_rules l).effect m.max_stack m.returned operation s ≡ Ok t → AreKnown (is_class_at l.world) s → AreKnown (is_class_at l.world) t)
     → ((s t u : Types) → joined_types (common_class l.world) s t ≡ u → AreKnown (is_class_at l.world) s → AreKnown (is_class_at l.world) t → AreKnown (is_class_at l.world) u)
     → ((s t : Types) → has_shape_of s t ≡ true → IsJoin (is_class_below l.world) s t (joined_types (common_class l.world) s t))

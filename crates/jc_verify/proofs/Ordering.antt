@@ -6,7 +6,7 @@ use Rattle.jc_cert.specs.declared.stated_type.SpelledClass.{SpelledClass}
 use Rattle.jc_names.specs.declared.name.ClassName.{ClassName}
 use Rattle.jc_link.specs.Linked.{Linked}
 use Rattle.jc_types.specs.State.{StateWithRoom}
-use Rattle.jc_check.specs.Method.{Method}
+use Rattle.jc_check.specs.Method.{CheckedMethod}
 use Rattle.jc_check.specs.Package.{class_of_name}
 use Rattle.jc_verify.specs.PrivateFlow.{AreShaped, IsNumbered, Places}
 use Rattle.jc_verify.specs.PrivateGathered.{AreInOrder, IsInShape}
@@ -40,7 +40,7 @@ few_ascend : (cs : List Stated) (least most : ℕ) → PcsAscend least cs → Al
 few_ascend [] least most up below le = omega (arith, le)
 few_ascend (c ∷ cs) least most up below le = let k = few_ascend cs (c.pc + 1) most up.1 below.1 (omega (arith, below.0)) in omega (arith, k, up.0)
 
-pub in_order : (l : Linked) (m : Method) (numbers : List (Option ℕ)) (places : Places) (cs : List Stated) → IsNumbered numbers places → AreAscending numbers → length numbers ≡ length m.code → length m.code < 2 ^ 16 → m.max_stack < 2 ^ 8
+pub in_order : (l : Linked) (m : CheckedMethod) (numbers : List (Option ℕ)) (places : Places) (cs : List Stated) → IsNumbered numbers places → AreAscending numbers → length numbers ≡ length m.code → length m.code < 2 ^ 16 → m.max_stack < 2 ^ 8
     → AreShaped m places → AreStateRows (class_of_name l.world) places cs → AreInOrder m cs
 in_order l m numbers places cs numbered ascending sized short most shaped are = record {
   few = let n = few_ascend cs 0 (length m.code) up below (omega arith) in omega (arith, n, short);

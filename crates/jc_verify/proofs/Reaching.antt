@@ -13,7 +13,7 @@ use Rattle.jc_code.specs.declared.instr.Instr.{Instr}
 use Rattle.jc_link.specs.Linked.{Linked}
 use Rattle.jc_types.specs.State.{StateWithRoom, Types}
 use Rattle.jc_check.specs.Carried.{HandlerStands}
-use Rattle.jc_check.specs.Method.{Method, caught_types, entry_of}
+use Rattle.jc_check.specs.Method.{CheckedMethod, caught_types, entry_of}
 use Rattle.jc_check.specs.Package.{package_rules}
 use Rattle.jc_check.specs.Rules.{Rules}
 use Rattle.jc_verify.specs.Live.{IsEntered, IsLive, first, behind, by_branch, by_handler, branched, caught}
@@ -33,19 +33,19 @@ use Rattle.jc_verify.proofs.Starting.{behind_begins, first_begins, none_past, pl
 
 -- ---- where states flow control flow goes
 
-passes_live : (rules : Rules) (m : Method) (listing : List PlacedInstr) (x : PlacedInstr) (s : Types) {pc : ℕ} {t : Types} → placed_at listing x.pc ≡ Some x → IsLive m listing x.pc → Passes rules m x s pc t → IsLive m listing pc
+passes_live : (rules : Rules) (m : CheckedMethod) (listing : List PlacedInstr) (x : PlacedInstr) (s : Types) {pc : ℕ} {t : Types} → placed_at listing x.pc ≡ Some x → IsLive m listing x.pc → Passes rules m x s pc t → IsLive m listing pc
 passes_live rules m listing x s at live (falls t e goes) = behind x at live goes
 passes_live rules m listing x s at live (branches pc t e among) = by_branch x pc at live among
 passes_live rules m listing x s at live (catches h class among covered is) = by_handler x h at live among covered
 
-pub flows_live : (rules : Rules) (m : Method) (listing : List PlacedInstr) {pc : ℕ} {t : Types} → Flows rules m listing pc t → IsLive m listing pc
+pub flows_live : (rules : Rules) (m : CheckedMethod) (listing : List PlacedInstr) {pc : ℕ} {t : Types} → Flows rules m listing pc t → IsLive m listing pc
 flows_live rules m listing entry = first
 flows_live rules m listing (passes x s pc t at flows p) = passes_live rules m listing x s at (flows_live rules m listing flows) p
 flows_live rules m listing (joins pc s t u one other join) = flows_live rules m listing one
 
 -- ---- names of classes where states flow
 
-module _ (l : Linked) (m : Method) (keeps : KeepsNames l m) (listing : List PlacedInstr) where
+module _ (l : Linked) (m : CheckedMethod) (keeps : KeepsNames l m) (listing : List PlacedInstr) where
   passes_named : (x : PlacedInstr) (s : Types) {pc : ℕ} {t : Types} → HasNames l.world s → Passes (package_rules l) m x s pc t → HasNames l.world t
   passes_named x s named (falls t e goes) = keeps.effect x.instr.operation s t named e
   passes_named x s named (branches pc t e among) = keeps.effect x.instr.operation s t named e
@@ -61,7 +61,7 @@ module _ (l : Linked) (m : Method) (keeps : KeepsNames l m) (listing : List Plac
 
 -- ---- what places hold
 
-module _ (l : Linked) (m : Method) where
+module _ (l : Linked) (m : CheckedMethod) where
   reached_set : (places : Places) (number : ℕ) (p q : Place StateWithRoom) → slice_get places number ≡ Some p → AreReached l m places → ((s : StateWithRoom) → q.held ≡ Some s → Reaches l m q.pc s.types)
       → AreReached l m (slice_set places number q)
   reached_set places number p q at h here n r s e held = by (cases_eq n number)

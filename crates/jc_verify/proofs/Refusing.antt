@@ -7,7 +7,7 @@ use Rattle.jc_code.specs.Listing.{IsListing, ListingLaws, PlacedInstr, begins, p
 use Rattle.jc_code.specs.Targets.{falls_of, targets_of}
 use Rattle.jc_types.specs.State.{Types}
 use Rattle.jc_check.specs.Carried.{Arrives, Carries, GoesOn, GoesOnIf, IsCarriedAt, IsHandled, state_at}
-use Rattle.jc_check.specs.Method.{Method, entry_of}
+use Rattle.jc_check.specs.Method.{CheckedMethod, entry_of}
 use Rattle.jc_check.specs.Rules.{Rules}
 use Rattle.jc_check.specs.declared.fault.WordFault.{WordFault}
 use Rattle.jc_check.specs.declared.fault.WordFault.TheVariants.{Refused}
@@ -19,7 +19,7 @@ use Rattle.jc_verify.proofs.Passing.{all_contained}
 by_refusal : (fault : WordFault) (P : ℕ → Reason → Type 0) → IfRefusal fault P → (pc : ℕ) (reason : Reason) → fault ≡ Refused pc reason → P pc reason
 by_refusal fault P h pc reason e = subst (λ (f : WordFault). IfRefusal f P) e h
 
-module _ (rules : Rules) (m : Method) (states : List Stated) (k : Carries rules m states) where
+module _ (rules : Rules) (m : CheckedMethod) (states : List Stated) (k : Carries rules m states) where
   abbrev pub IsTyped : ℕ → Type 0
   IsTyped pc = (s : Types) × (k.typing pc ≡ Some s)
 

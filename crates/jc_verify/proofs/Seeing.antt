@@ -6,7 +6,7 @@ use Rattle.std.specs.Option.{option_map}
 use Rattle.std.proofs.lemmas.Option.{none-some, same_Some}
 use Rattle.jc_classes.specs.Subtype.{is_class_below}
 use Rattle.jc_names.specs.declared.name.ClassName.{ClassName}
-use Rattle.jc_check.specs.Method.{Handler, caught_types}
+use Rattle.jc_check.specs.Method.{CheckedHandler, caught_types}
 use Rattle.jc_check.specs.Package.{package_rules}
 use Rattle.jc_check.specs.Rules.{Rules}
 use Rattle.jc_check.specs.Typing.{CatchLeads, HandlerLeads, HasShape, Leads, Typing}
@@ -20,7 +20,7 @@ use Rattle.jc_verify.specs.PrivateSeen.{HasSeen, HaveSeen, StillHolds, WasCovere
 use Rattle.jc_verify.specs.PrivateWork.{Handles, HandlesAll, HasTakenIn, IsAtWork}
 use Rattle.jc_verify.specs.declared.flow.Flow.{Flow}
 use Rattle.jc_verify.specs.declared.place.Place.{Place}
-use Rattle.jc_verify.specs.declared.seen.Seen.{Seen}
+use Rattle.jc_verify.specs.declared.seen.TakenLocals.{TakenLocals}
 use Rattle.jc_verify.proofs.Arriving.{at_number, below_lengths, held_by}
 use Rattle.jc_verify.proofs.Growing.{grown_self, leads_on, risen_self, risen_through}
 use Rattle.jc_verify.proofs.Passing.{all_at}
@@ -33,7 +33,7 @@ one_of_both p q h k = grind arith
 
 -- what a handler leads to goes by the locals alone
 module _ (rules : Rules) (typing : Typing) (pc : ℕ) (t : Types) (locals : List Ty) (e : locals ≡ t.locals) where
-  one_alone : (h : Handler) → HandlerLeads rules typing pc t h → HandlerLeads rules typing pc (with_locals locals) h
+  one_alone : (h : CheckedHandler) → HandlerLeads rules typing pc t h → HandlerLeads rules typing pc (with_locals locals) h
   one_alone h leads covered =
       let c = leads covered in
       record {
@@ -45,7 +45,7 @@ module _ (rules : Rules) (typing : Typing) (pc : ℕ) (t : Types) (locals : List
             c.leads;
       }
 
-  locals_alone : (hs : List Handler) → AllByRecursion (HandlerLeads rules typing pc t) hs
+  locals_alone : (hs : List CheckedHandler) → AllByRecursion (HandlerLeads rules typing pc t) hs
       → AllByRecursion (HandlerLeads rules typing pc (with_locals locals)) hs
   locals_alone [] all = tt
   locals_alone (h ∷ hs) all = (one_alone h all.0, locals_alone hs all.1)
@@ -67,7 +67,7 @@ module _ (f : Flow) where
     below = below;
   }
 
-module _ (f : Flow) (seen : Seen) where
+module _ (f : Flow) (seen : TakenLocals) where
   -- nothing was seen
   pub nothing_seen : {places : Places} → seen.at ≡ None → HaveSeen f places seen
   nothing_seen none final pc risen at = absurd (none-some pc (sym none ∙ at))
@@ -80,7 +80,7 @@ module _ (f : Flow) (seen : Seen) where
       (risen_through f.linked.now work.sound.laws f.method.now f.numbers.now places after final risen more) at
 
   -- one of the handlers
-  pub seen_by : {places : Places} (k : ℕ) (h : Handler) → slice_get f.method.now.handlers k ≡ Some h
+  pub seen_by : {places : Places} (k : ℕ) (h : CheckedHandler) → slice_get f.method.now.handlers k ≡ Some h
       → HaveSeen f places seen → HasSeen f places seen h
   seen_by k h is have final pc risen at = all_at _ f.method.now.handlers k h is (have final pc risen at)
 
@@ -94,7 +94,7 @@ module _ (f : Flow) (seen : Seen) where
       (locals_alone rules typing pc t seen.locals.items locals f.method.now.handlers (taken.met final risen))
 
   -- a handler whose place holds the locals that differ has taken in all of them
-  module _ {places : Places} (work : IsAtWork f places) (h : Handler) (range : LocalRange) (s : StateWithRoom)
+  module _ {places : Places} (work : IsAtWork f places) (h : CheckedHandler) (range : LocalRange) (s : StateWithRoom)
       (room : HasRoom f.method.now s) (has : HasSeen f places seen h) (was : WasCovered seen h)
       (still : StillHolds f places h.goes_on range s.types.locals)
       (agree : length seen.locals.items ≡ length s.types.locals → AgreeOutside range seen.locals.items s.types.locals)

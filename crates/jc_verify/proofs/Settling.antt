@@ -4,7 +4,7 @@ use Rattle.std.specs.List.{AllByRecursion}
 use Rattle.std.proofs.lemmas.Bool.{cases_eq}
 use Rattle.std.proofs.lemmas.Option.{none-some, same_Some, slice_get_within}
 use Rattle.jc_code.specs.Listing.{PlacedInstr}
-use Rattle.jc_check.specs.Method.{Handler, Method}
+use Rattle.jc_check.specs.Method.{CheckedHandler, CheckedMethod}
 use Rattle.jc_check.specs.Package.{package_rules}
 use Rattle.jc_check.specs.Typing.{BranchLeads, HandlerLeads, HasShape, Leads, Typing}
 use Rattle.jc_link.specs.Linked.{Linked}
@@ -26,14 +26,14 @@ all_on : {A : Type 0} (P Q : A → Type 0) → ((x : A) → P x → Q x) → (xs
 all_on P Q on [] h = tt
 all_on P Q on (x ∷ xs) h = (on x h.0, all_on P Q on xs h.1)
 
-module _ (l : Linked) (laws : HasLaws l) (m : Method) (numbers : List (Option ℕ)) where
+module _ (l : Linked) (laws : HasLaws l) (m : CheckedMethod) (numbers : List (Option ℕ)) where
   -- ---- what is closed stays closed
 
   module _ (before after : Places) (g : Risen l m numbers before after) where
     branch_on : (t : Types) (place : ℤ) → BranchLeads (package_rules l) (held_at numbers before) t place → BranchLeads (package_rules l) (held_at numbers after) t place
     branch_on t place h = record { pc = h.pc; is = h.is; leads = leads_on l laws m numbers before after g t h.pc h.leads }
 
-    handler_on : (pc : ℕ) (t : Types) (h : Handler) → HandlerLeads (package_rules l) (held_at numbers before) pc t h → HandlerLeads (package_rules l) (held_at numbers after) pc t h
+    handler_on : (pc : ℕ) (t : Types) (h : CheckedHandler) → HandlerLeads (package_rules l) (held_at numbers before) pc t h → HandlerLeads (package_rules l) (held_at numbers after) pc t h
     handler_on pc t h leads covers = let k = leads covers in record { class = k.class; catches = k.catches; leads = leads_on l laws m numbers before after g _ h.goes_on k.leads }
 
     visited_on : (x : PlacedInstr) (s after_types : Types) → IsVisited (package_rules l) m (held_at numbers before) x s after_types → IsVisited (package_rules l) m (held_at numbers after) x s after_types

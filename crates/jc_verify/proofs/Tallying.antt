@@ -13,7 +13,7 @@ use Rattle.std.proofs.lemmas.Option.{none-some, same_Some}
 use Rattle.jc_cap_desc.specs.Shape.{Shape}
 use Rattle.jc_cert.specs.Cert.{IsCert, IsRow, IsStated, Row, Stated}
 use Rattle.jc_cert.specs.declared.stated_type.SpelledClass.{SpelledClass}
-use Rattle.jc_check.specs.Method.{Method}
+use Rattle.jc_check.specs.Method.{CheckedMethod}
 use Rattle.jc_classes.specs.Subtype.{IsClassLattice, classes_above, common_class, is_class_below}
 use Rattle.jc_classes.specs.Walk.{most_classes}
 use Rattle.jc_link.specs.Linked.{Linked}
@@ -78,7 +78,7 @@ module _ (l : Linked) where
 
   -- ---- places that are raised
 
-  module _ (laws : HasLaws l) (m : Method) where
+  module _ (laws : HasLaws l) (m : CheckedMethod) where
     abbrev IsRise : Place StateWithRoom → Place StateWithRoom → Type 0
     IsRise p q = IsRaised (below_in l.world) (height_in l.world) (most_height m) p q
 
@@ -180,7 +180,7 @@ module _ (l : Linked) where
         }
 
     -- from a place that has changed control flow is followed, once more
-    pub followed_counted : (laws : HasLaws l) (m : Method) (ps : Places) (n : ℕ) (q : Place StateWithRoom) (t : Types)
+    pub followed_counted : (laws : HasLaws l) (m : CheckedMethod) (ps : Places) (n : ℕ) (q : Place StateWithRoom) (t : Types)
         → slice_get ps n ≡ Some p → p.changed ≡ true → q ≡ settled_place p → types_held p ≡ Some t → (after : Places)
         (count counted : ℕ) → AreRaised l m (slice_set ps n q) after → counted ≡ u64_saturate (count + 1)
         → IsCounted l 0 ps after count counted

@@ -7,7 +7,7 @@ use Rattle.std.proofs.lemmas.Option.{none-some, same_Some, slice_get_within}
 use Rattle.jc_cap_desc.specs.Shape.{MethodBody}
 use Rattle.jc_cert.specs.Cert.{Stated, rows}
 use Rattle.jc_link.specs.Linked.{Linked}
-use Rattle.jc_check.specs.Method.{Method}
+use Rattle.jc_check.specs.Method.{CheckedMethod}
 use Rattle.jc_check.specs.Package.{method_of, package_rules}
 use Rattle.jc_verify.specs.PrivateGathered.{AreGathered, IsDenied, IsInferred, IsSoFar, IsTold, Stands}
 use Rattle.jc_verify.specs.PrivateNames.{KeepsNames}
@@ -25,7 +25,7 @@ pub isnt_passed : (told : Option MethodFault) (offset : ℕ) → option_map_or (
 isnt_passed told offset h1 t h2 = grind (arith, none-some, same_Some, leb-false)
 
 -- where names are kept no states carry what is denied
-pub without : (l : Linked) (m : Method) → KeepsNames l m → IsDenied l m → CanBeCarried l m → ⊥
+pub without : (l : Linked) (m : CheckedMethod) → KeepsNames l m → IsDenied l m → CanBeCarried l m → ⊥
 without l m h1 h2 h3 = grind arith
 
 module _ (l : Linked) (n : ℕ) (b : MethodBody) (at : slice_get l.body.kept.methods n ≡ Some b) (g : Gathered) (so_far : IsSoFar l n g) where

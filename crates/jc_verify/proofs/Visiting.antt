@@ -3,7 +3,7 @@ use Rattle.std.proofs.Common.{◌≡◌, ℕ, Bool, true, false, List, Option, S
 use Rattle.std.specs.Prelude.{IfErr, IfNone, IfOk, IfSome, IsSome}
 use Rattle.std.proofs.lemmas.Option.{none-some, same_Some}
 use Rattle.jc_code.specs.Listing.{PlacedInstr}
-use Rattle.jc_check.specs.Method.{Method}
+use Rattle.jc_check.specs.Method.{CheckedMethod}
 use Rattle.jc_check.specs.Rules.{Rules}
 use Rattle.jc_check.specs.Typing.{Typing}
 use Rattle.jc_types.specs.State.{Types}
@@ -14,7 +14,7 @@ pub if_ok : {A E : Type 0} (r : Result A E) (P Q : A → Type 0) → IfOk r P �
 if_ok r P Q h1 h2 = grind arith
 
 -- an instruction whose handlers and branches lead on, and behind which there is no place, or one that holds what goes on
-pub closed_by : (rules : Rules) (m : Method) (numbers : List (Option ℕ)) (typing : Typing) (on : Bool) (x : PlacedInstr) (s after : Types) → rules.decoder m.code x.pc ≡ Ok x.instr
+pub closed_by : (rules : Rules) (m : CheckedMethod) (numbers : List (Option ℕ)) (typing : Typing) (on : Bool) (x : PlacedInstr) (s after : Types) → rules.decoder m.code x.pc ≡ Ok x.instr
     → IsVisited rules m typing x s after → FallsIf on rules m numbers typing x.instr.next_pc after → ClosedIf on rules m numbers typing x.instr.next_pc after → IsClosed rules m numbers typing x.pc s
 closed_by rules m numbers typing true x s after decoded visited falls closed = goes_on x s after decoded visited falls.0 falls.1 closed
 closed_by rules m numbers typing false x s after decoded visited falls closed = meets x s after decoded visited falls

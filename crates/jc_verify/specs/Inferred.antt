@@ -10,13 +10,13 @@ use Rattle.jc_link.specs.Linked.{Linked}
 use Rattle.jc_check.specs.Carried.{types_of}
 use Rattle.jc_check.specs.Checked.{stated_for}
 use Rattle.jc_check.specs.Claim.{Claim, claim_of}
-use Rattle.jc_check.specs.Method.{Method}
+use Rattle.jc_check.specs.Method.{CheckedMethod}
 use Rattle.jc_check.specs.Package.{method_of, package_rules}
 use Rattle.jc_check.specs.Typing.{IsTyping, Leads, Typing}
 use Rattle.jc_verify.specs.Live.{IsEntered}
 
 -- each state is at a pc that control flow enters by a branch or a handler of a reachable instruction
-abbrev pub AreWhereEntered : Method → List Stated → Type 0
+abbrev pub AreWhereEntered : CheckedMethod → List Stated → Type 0
 AreWhereEntered m states =
     (listing : List PlacedInstr) → IsListing instr_at m.code listing
     → AllByRecursion (λ c. IsEntered m listing c.pc) states
@@ -34,7 +34,7 @@ pub record LiesBelow (l : Linked) (typing : Typing) (c : Stated) : Type 0 where
 
 -- each state lies below the state of any typing of the method there, and so below that of any certificate that carries
 -- the method
-abbrev pub AreLeast : Linked → Method → List Stated → Type 0
+abbrev pub AreLeast : Linked → CheckedMethod → List Stated → Type 0
 AreLeast l m states =
     (typing : Typing) → IsTyping (package_rules l) m typing → AllByRecursion (LiesBelow l typing) states
 
@@ -50,7 +50,7 @@ pub record HasStateAt (states : List Stated) (pc : ℕ) : Type 0 where
   pub at : state.pc ≡ pc
 
 -- each pc that control flow enters by a branch or a handler of a reachable instruction has a state
-abbrev pub HasStateAtEach : Method → List Stated → Type 0
+abbrev pub HasStateAtEach : CheckedMethod → List Stated → Type 0
 HasStateAtEach m states =
     (listing : List PlacedInstr) → IsListing instr_at m.code listing → (pc : ℕ) → IsEntered m listing pc
     → HasStateAt states pc

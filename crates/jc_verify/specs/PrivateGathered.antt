@@ -5,7 +5,7 @@ use Rattle.jc_cap_desc.specs.Shape.{MethodBody}
 use Rattle.jc_cert.specs.Cert.{IsStatedType, PcsAscend, Row, Stated, rows}
 use Rattle.jc_link.specs.Linked.{Linked}
 use Rattle.jc_check.specs.Carried.{Carries}
-use Rattle.jc_check.specs.Method.{Method}
+use Rattle.jc_check.specs.Method.{CheckedMethod}
 use Rattle.jc_check.specs.Package.{method_of, package_rules}
 use Rattle.jc_check.specs.declared.fault.Fault.{Fault}
 use Rattle.jc_verify.specs.Inferred.{AreLeast, AreWhereEntered}
@@ -22,7 +22,7 @@ pub record Stands (l : Linked) (n k : ℕ) (b : MethodBody) : Type 0 where
   pub is : slice_get l.body.kept.methods k ≡ Some b
 
 -- a state with as many locals as the method; its pc fits two bytes, its count of operands one, and its names fit
-pub record IsInShape (m : Method) (c : Stated) : Type 0 where
+pub record IsInShape (m : CheckedMethod) (c : Stated) : Type 0 where
   pub pc : c.pc < 2 ^ 16
   pub locals : length c.locals ≡ length m.arguments + m.max_locals
   pub depth : length c.operands < 2 ^ 8
@@ -30,13 +30,13 @@ pub record IsInShape (m : Method) (c : Stated) : Type 0 where
   pub each_operand : AllByRecursion IsStatedType c.operands
 
 -- such states by ascending pc, whose count fits two bytes
-pub record AreInOrder (m : Method) (states : List Stated) : Type 0 where
+pub record AreInOrder (m : CheckedMethod) (states : List Stated) : Type 0 where
   pub few : length states < 2 ^ 16
   pub ascend : PcsAscend 0 states
   pub each : AllByRecursion (IsInShape m) states
 
 -- states carry a method, are where control flow enters it, are the least, and are in order
-pub record IsInferred (l : Linked) (m : Method) (states : List Stated) : Type 0 where
+pub record IsInferred (l : Linked) (m : CheckedMethod) (states : List Stated) : Type 0 where
   pub carried : Carries (package_rules l) m states
   pub entered : AreWhereEntered m states
   pub least : AreLeast l m states
@@ -68,7 +68,7 @@ pub record AreGathered (l : Linked) (n : ℕ) (of : List Row) : Type 0 where
   pub few : length of ≤ n
 
 -- no states carry a method, or control flow through it doesn't keep to classes with names
-abbrev pub IsDenied : Linked → Method → Type 0
+abbrev pub IsDenied : Linked → CheckedMethod → Type 0
 IsDenied l m = (CanBeCarried l m → ⊥) ⊎ (KeepsNames l m → ⊥)
 
 -- no states carry the method with code at this offset, and the fault is one of its faults

@@ -7,7 +7,7 @@ use Rattle.jc_classes.specs.Subtype.{is_class_at, is_class_below}
 use Rattle.jc_code.specs.declared.instr.Operation.{Operation}
 use Rattle.jc_link.specs.Linked.{Linked}
 use Rattle.jc_types.specs.State.{IsJoin, StateWithRoom, Types}
-use Rattle.jc_check.specs.Method.{Handler, Method, caught_types, entry_of}
+use Rattle.jc_check.specs.Method.{CheckedHandler, CheckedMethod, caught_types, entry_of}
 use Rattle.jc_types.specs.declared.ty.Ty.{Ty}
 use Rattle.jc_types.specs.declared.ty.Ty.TheVariants.{Top, Word, Null, Class, BooleanArray, ByteArray, ShortArray}
 use Rattle.jc_types.specs.declared.ty.Ty.TheVariants.{ReferenceArray}
@@ -41,11 +41,11 @@ AreNamed world places =
     → HasNames world s.types
 
 -- the entry state's classes have names, and effects, handlers and joins introduce no classes without names
-pub record KeepsNames (l : Linked) (m : Method) : Type 0 where
+pub record KeepsNames (l : Linked) (m : CheckedMethod) : Type 0 where
   pub entry : HasNames l.world (entry_of m)
   pub effect : (operation : Operation) (s t : Types) → HasNames l.world s
       → (package_rules l).effect m.max_stack m.returned operation s ≡ Ok t → HasNames l.world t
-  pub caught : (h : Handler) (class : ClassName) (s : Types) → Contains m.handlers h → h.caught ≡ Some class
+  pub caught : (h : CheckedHandler) (class : ClassName) (s : Types) → Contains m.handlers h → h.caught ≡ Some class
       → HasNames l.world s → HasNames l.world (caught_types class s)
   pub join : (s t u : Types) → HasNames l.world s → HasNames l.world t → IsJoin (is_class_below l.world) s t u
       → HasNames l.world u

@@ -1,7 +1,7 @@
 -- Private. The locals that exception handlers took in last; after that, only locals that differ are compared.
 use Rattle.std.specs.Prelude.{◌≡◌, ℕ, [], List, Some, true}
 use Rattle.jc_classes.specs.Subtype.{is_class_below}
-use Rattle.jc_check.specs.Method.{Handler, covers}
+use Rattle.jc_check.specs.Method.{CheckedHandler, covers}
 use Rattle.jc_check.specs.Package.{package_rules}
 use Rattle.jc_check.specs.Typing.{HandlerLeads}
 use Rattle.jc_types.specs.PrivateRanges.{AgreeOutside}
@@ -11,7 +11,7 @@ use Rattle.jc_types.specs.declared.ty.Ty.{Ty}
 use Rattle.jc_verify.specs.PrivateFlow.{Places, Risen, held_at}
 use Rattle.jc_verify.specs.PrivateWork.{HandlesAll}
 use Rattle.jc_verify.specs.declared.flow.Flow.{Flow}
-use Rattle.jc_verify.specs.declared.seen.Seen.{Seen}
+use Rattle.jc_verify.specs.declared.seen.TakenLocals.{TakenLocals}
 
 -- the types of a state with these locals and no operands
 abbrev pub with_locals : List Ty → Types
@@ -19,17 +19,17 @@ with_locals locals = record { locals = locals; operands = [] }
 
 -- a handler took in the locals seen last, if it covers the instruction there: what places hold now or later lies above
 -- them; and the same for all handlers
-abbrev pub HasSeen : Flow → Places → Seen → Handler → Type 0
+abbrev pub HasSeen : Flow → Places → TakenLocals → CheckedHandler → Type 0
 HasSeen f places seen h = (final : Places) (pc : ℕ) → Risen f.linked.now f.method.now f.numbers.now places final
     → seen.at ≡ Some pc
     → HandlerLeads (package_rules f.linked.now) (held_at f.numbers.now final) pc (with_locals seen.locals.items) h
 
-abbrev pub HaveSeen : Flow → Places → Seen → Type 0
+abbrev pub HaveSeen : Flow → Places → TakenLocals → Type 0
 HaveSeen f places seen = (final : Places) (pc : ℕ) → Risen f.linked.now f.method.now f.numbers.now places final
     → seen.at ≡ Some pc → HandlesAll f pc (with_locals seen.locals.items) (held_at f.numbers.now final)
 
 -- a handler covers the instruction seen last
-pub record WasCovered (seen : Seen) (h : Handler) : Type 0 where
+pub record WasCovered (seen : TakenLocals) (h : CheckedHandler) : Type 0 where
   pub pc : ℕ
   pub at : seen.at ≡ Some pc
   pub covered : covers h pc ≡ true

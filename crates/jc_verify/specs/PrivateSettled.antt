@@ -4,7 +4,7 @@ use Rattle.std.specs.Prelude.{◌≡◌, ◌≢◌, ◌⊎◌, ℕ, ◌<◌, ◌
 use Rattle.std.specs.Prelude.{slice_get}
 use Rattle.jc_link.specs.Linked.{Linked}
 use Rattle.jc_types.specs.State.{StateWithRoom, Types}
-use Rattle.jc_check.specs.Method.{Method, entry_of}
+use Rattle.jc_check.specs.Method.{CheckedMethod, entry_of}
 use Rattle.jc_check.specs.Package.{package_rules}
 use Rattle.jc_check.specs.Typing.{Typing}
 use Rattle.jc_verify.specs.PrivateCarrier.{HasPlace}
@@ -15,19 +15,19 @@ use Rattle.jc_verify.specs.declared.flow.Flow.{Flow}
 use Rattle.jc_verify.specs.declared.place.Place.{Place}
 
 -- control flow was followed from each place that hasn't changed since
-abbrev pub IsSettled : Linked → Method → List (Option ℕ) → Places → Type 0
+abbrev pub IsSettled : Linked → CheckedMethod → List (Option ℕ) → Places → Type 0
 IsSettled l m numbers places =
     (n : ℕ) (p : Place StateWithRoom) (t : Types) → slice_get places n ≡ Some p → p.changed ≡ false
     → types_held p ≡ Some t → IsClosed (package_rules l) m numbers (held_at numbers places) p.pc t
 
 -- control flow was followed from each place that holds types
-abbrev pub AreAllClosed : Linked → Method → List (Option ℕ) → Places → Type 0
+abbrev pub AreAllClosed : Linked → CheckedMethod → List (Option ℕ) → Places → Type 0
 AreAllClosed l m numbers places =
     (n : ℕ) (p : Place StateWithRoom) (t : Types) → slice_get places n ≡ Some p → types_held p ≡ Some t
     → IsClosed (package_rules l) m numbers (held_at numbers places) p.pc t
 
 -- the place at pc 0 took in the entry state, or control flow was followed from there
-pub record IsEntryMet (l : Linked) (m : Method) (numbers : List (Option ℕ)) (typing : Typing) : Type 0 where
+pub record IsEntryMet (l : Linked) (m : CheckedMethod) (numbers : List (Option ℕ)) (typing : Typing) : Type 0 where
   pub on : Bool
   pub falls : FallsIf on (package_rules l) m numbers typing 0 (entry_of m)
   pub closed : ClosedIf on (package_rules l) m numbers typing 0 (entry_of m)
@@ -38,7 +38,7 @@ settled_place p = record { pc = p.pc; held = p.held; changed = false }
 
 -- control flow was followed from the place with a number: each changed place is another one that had changed before, or
 -- what is left fell
-pub record IsFollowed (l : Linked) (m : Method) (numbers : List (Option ℕ)) (number : ℕ)
+pub record IsFollowed (l : Linked) (m : CheckedMethod) (numbers : List (Option ℕ)) (number : ℕ)
     (before after : Places) : Type 0 where
   pub risen : Risen l m numbers before after
   pub under : (typing : Typing) → IsUpper l m typing → IsUnder l numbers before typing → IsUnder l numbers after typing
@@ -51,7 +51,7 @@ pub record IsFollowed (l : Linked) (m : Method) (numbers : List (Option ℕ)) (n
 
 -- control flow was followed from the changed places with these numbers, from `first` to before `end`: if one has
 -- changed again, what is left fell
-pub record IsSwept (l : Linked) (m : Method) (numbers : List (Option ℕ)) (first end : ℕ)
+pub record IsSwept (l : Linked) (m : CheckedMethod) (numbers : List (Option ℕ)) (first end : ℕ)
     (before after : Places) : Type 0 where
   pub risen : Risen l m numbers before after
   pub under : (typing : Typing) → IsUpper l m typing → IsUnder l numbers before typing → IsUnder l numbers after typing
@@ -84,7 +84,7 @@ pub record AreNumbered (entries : List ℕ) (pc : ℕ) (numbers : List (Option �
   pub ascend : AreAscending numbers
 
 -- control flow was followed from the entry, and from each place that holds types
-pub record IsFilled (l : Linked) (m : Method) (numbers : List (Option ℕ)) (before after : Places) : Type 0 where
+pub record IsFilled (l : Linked) (m : CheckedMethod) (numbers : List (Option ℕ)) (before after : Places) : Type 0 where
   pub risen : Risen l m numbers before after
   pub under : (typing : Typing) → IsUpper l m typing → IsUnder l numbers after typing
   pub reached : AreReached l m after

@@ -9,7 +9,7 @@ use Rattle.jc_code.specs.declared.instr.Instr.{Instr}
 use Rattle.jc_link.specs.Linked.{Linked}
 use Rattle.jc_types.specs.State.{StateWithRoom, Types}
 use Rattle.jc_check.specs.FirstFault.{fault_at}
-use Rattle.jc_check.specs.Method.{Handler, Method, caught_types, covers}
+use Rattle.jc_check.specs.Method.{CheckedHandler, CheckedMethod, caught_types, covers}
 use Rattle.jc_check.specs.Package.{package_rules}
 use Rattle.jc_check.specs.Typing.{BranchLeads, HandlerLeads, Leads, Typing}
 use Rattle.jc_check.specs.declared.fault.WordFault.{WordFault}
@@ -72,7 +72,7 @@ pub record FlowsInto (f : Flow) (places : Places) (number : ℕ) (t : Types) : T
   pub flows : (p : Place StateWithRoom) → slice_get places number ≡ Some p → FlowsTo f p.pc t
 
 -- an instruction decodes at a pc
-pub record IsDecodedAt (l : Linked) (m : Method) (pc : ℕ) : Type 0 where
+pub record IsDecodedAt (l : Linked) (m : CheckedMethod) (pc : ℕ) : Type 0 where
   pub instr : Instr
   pub is : (package_rules l).decoder m.code pc ≡ Ok instr
 
@@ -83,13 +83,13 @@ pub record StandsAt (f : Flow) (pc : ℕ) (t : Types) (instr : Instr) : Type 0 w
   pub decoded : (package_rules f.linked.now).decoder f.method.now.code pc ≡ Ok instr
 
 -- a handler catches a class, and types with it flow to a place at its entry point
-pub record IsWay (f : Flow) (t : Types) (h : Handler) : Type 0 where
+pub record IsWay (f : Flow) (t : Types) (h : CheckedHandler) : Type 0 where
   pub class : ClassName
   pub catches : h.caught ≡ Some class
   pub flows : FlowsIn f h.goes_on (caught_types class t)
 
 -- the same, if the handler covers a pc
-abbrev pub IsHandlersWay : Flow → ℕ → Types → Handler → Type 0
+abbrev pub IsHandlersWay : Flow → ℕ → Types → CheckedHandler → Type 0
 IsHandlersWay f pc t h = covers h pc ≡ true → IsWay f t h
 
 -- types flow to a place at a branch target
@@ -113,7 +113,7 @@ abbrev pub Falls : Flow → Bool → ℕ → Types → Typing → Type 0
 Falls f on pc t typing = FallsIf on (package_rules f.linked.now) f.method.now f.numbers.now typing pc t
 
 -- the typing lies above what a handler catches with these types, if it covers a pc; and the same for all handlers
-abbrev pub Handles : Flow → ℕ → Types → Handler → Typing → Type 0
+abbrev pub Handles : Flow → ℕ → Types → CheckedHandler → Typing → Type 0
 Handles f pc t h typing = HandlerLeads (package_rules f.linked.now) typing pc t h
 
 abbrev pub HandlesAll : Flow → ℕ → Types → Typing → Type 0

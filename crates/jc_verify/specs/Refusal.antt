@@ -4,7 +4,7 @@ use Rattle.jc_cap_desc.specs.Shape.{MethodBody}
 use Rattle.jc_cert.specs.Cert.{Stated}
 use Rattle.jc_link.specs.Linked.{Linked}
 use Rattle.jc_check.specs.Carried.{Carries}
-use Rattle.jc_check.specs.Method.{Method}
+use Rattle.jc_check.specs.Method.{CheckedMethod}
 use Rattle.jc_check.specs.Package.{method_of, package_rules}
 use Rattle.jc_check.specs.declared.fault.Fault.{Fault}
 use Rattle.jc_verify.specs.MethodFault.{IsToldOf}
@@ -12,7 +12,7 @@ use Rattle.jc_verify.specs.declared.fault.VerifyFault.{VerifyFault}
 use Rattle.jc_verify.specs.declared.fault.VerifyFault.TheVariants.{Memory, NoCertificate}
 
 -- some states carry a method
-pub record CanBeCarried (l : Linked) (m : Method) : Type 0 where
+pub record CanBeCarried (l : Linked) (m : CheckedMethod) : Type 0 where
   pub states : List Stated
   pub carried : Carries (package_rules l) m states
 

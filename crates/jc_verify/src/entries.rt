@@ -27,7 +27,7 @@ ghost use Rattle.jc_verify.specs.PrivateTold.{Tells};
 
 use crate::pc_set::PcSet;
 use jc_base::Reason;
-use jc_check::{Fault, Handler, Method, WordFault, reason_for};
+use jc_check::{CheckedHandler, CheckedMethod, Fault, WordFault, reason_for};
 use jc_code::{Instr, Targets, decode, listing_laws, next_pc};
 use std::alloc::Global;
 
@@ -54,7 +54,7 @@ fn starts_of(alloc: Global, code: &[u8]) -> Result<PcSet, WordFault>
 }
 
 /// Tests that an instruction begins at a handler's entry point, and that the handler catches a class.
-fn stand_handler(starts: &PcSet, handler: &Handler) -> Result<(), Fault>
+fn stand_handler(starts: &PcSet, handler: &CheckedHandler) -> Result<(), Fault>
     ensures ok { IfOk result (λ u. (code : List ℕ) (listing : List PlacedInstr) → IsDecoded code listing starts.now
         → HandlerStands listing handler.now) }
     ensures err { IfErr result (λ fault. (code : List ℕ) (listing : List PlacedInstr)
@@ -79,7 +79,7 @@ fn stand_handler(starts: &PcSet, handler: &Handler) -> Result<(), Fault>
 }
 
 /// Tests each handler in order.
-fn stand_handlers(starts: &PcSet, handlers: &[Handler]) -> Result<(), Fault>
+fn stand_handlers(starts: &PcSet, handlers: &[CheckedHandler]) -> Result<(), Fault>
     ensures ok { IfOk result (λ u. (code : List ℕ) (listing : List PlacedInstr) → IsDecoded code listing starts.now
         → AllByRecursion (HandlerStands listing) handlers.now) }
     ensures err { IfErr result (λ fault. (code : List ℕ) (listing : List PlacedInstr)
@@ -127,7 +127,7 @@ fn enter(followed: &mut Followed, pc: u16) -> Result<(), WordFault>
 }
 
 /// Enters a handler's entry point, if the handler covers the pc.
-fn handle(followed: &mut Followed, pc: u16, handler: &Handler) -> Result<(), WordFault>
+fn handle(followed: &mut Followed, pc: u16, handler: &CheckedHandler) -> Result<(), WordFault>
     ensures led { IfOk result (λ u. HasLed (λ f. IsCaughtIn f pc handler.now)
         (λ m listing. covers handler.now pc ≡ true → IsFound m listing handler.now.goes_on)
         followed.old followed.new) }
@@ -140,7 +140,11 @@ fn handle(followed: &mut Followed, pc: u16, handler: &Handler) -> Result<(), Wor
 }
 
 /// Enters the handlers that cover a pc.
-fn handle_all(followed: &mut Followed, handlers: &[Handler], pc: u16) -> Result<(), WordFault>
+fn handle_all(
+    followed: &mut Followed,
+    handlers: &[CheckedHandler],
+    pc: u16,
+) -> Result<(), WordFault>
     ensures led { IfOk result (λ u. HasLed (AreCaughtIn handlers.now pc) (AreFoundBy handlers.now pc)
         followed.old followed.new) }
     ensures memory { IfErr result (λ fault. fault ≡ Memory) }
@@ -155,7 +159,7 @@ fn handle_all(followed: &mut Followed, handlers: &[Handler], pc: u16) -> Result<
 #[tactic(auto, using(crate::proofs::Starting::none_past))]
 fn begins_at(starts: &PcSet, pc: usize) -> bool
     ensures within { result ≡ true → pc < 2 ^ 16 }
-    ensures begins { (m : methods.Method) (listing : List PlacedInstr) → IsGround m listing starts.now
+    ensures begins { (m : methods.CheckedMethod) (listing : List PlacedInstr) → IsGround m listing starts.now
         → result ≡ begins listing pc }
 {
     pc <= usize::from(u16::MAX) && starts.contains(pc as u16)
@@ -173,7 +177,7 @@ fn branch_to(
     ensures led { IfOk result (λ u. HasLed (AreBranchesIn (λ place. slice_get targets.now index ≡ Some place))
         (AreEnteredBy (λ place. slice_get targets.now index ≡ Some place) starts.now) followed.old followed.new) }
     ensures refused { IfErr result (λ fault. IfRefusal fault (ToldAt pc NoTarget
-        ((m : methods.Method) (listing : List PlacedInstr) → IsGround m listing starts.now
+        ((m : methods.CheckedMethod) (listing : List PlacedInstr) → IsGround m listing starts.now
         → (p : ℕ) → slice_get targets.now index ≡ Some (pos p) → begins listing p ≡ false))) }
 {
     let target = targets.get(index).unwrap();
@@ -204,7 +208,7 @@ fn branch_all(
     ensures led { IfOk result (λ u. HasLed (AreBranchesIn (Contains (targets_of pc instr.now.operation)))
         (AreEnteredBy (Contains (targets_of pc instr.now.operation)) starts.now) followed.old followed.new) }
     ensures refused { IfErr result (λ fault. IfRefusal fault (ToldAt pc NoTarget
-        ((m : methods.Method) (listing : List PlacedInstr) → IsGround m listing starts.now
+        ((m : methods.CheckedMethod) (listing : List PlacedInstr) → IsGround m listing starts.now
         → (place : ℤ) × Contains (targets_of pc instr.now.operation) place
         × ((p : ℕ) → place ≡ pos p → begins listing p ≡ false)))) }
 {
@@ -216,7 +220,12 @@ fn branch_all(
 }
 
 /// Reaches the next pc if the instruction falls through. Refuses a pc past the end of the code.
-fn fall(followed: &mut Followed, method: &Method, pc: u16, instr: &Instr) -> Result<(), WordFault>
+fn fall(
+    followed: &mut Followed,
+    method: &CheckedMethod,
+    pc: u16,
+    instr: &Instr,
+) -> Result<(), WordFault>
     requires short { length method.now.code < 2 ^ 16 }
     ensures led { IfOk result (λ u. HasLed
         (λ f. falls_of instr.now.operation ≡ true → has_number f.live instr.now.next_pc ≡ true)
@@ -237,7 +246,7 @@ fn fall(followed: &mut Followed, method: &Method, pc: u16, instr: &Instr) -> Res
 /// Follows an instruction to the handlers that cover it, its branch targets, and the next pc.
 fn visit(
     followed: &mut Followed,
-    method: &Method,
+    method: &CheckedMethod,
     starts: &PcSet,
     pc: u16,
     instr: &Instr,
@@ -259,7 +268,7 @@ fn visit(
 /// Decodes the instruction at a pc, and follows it.
 fn visit_at(
     followed: &mut Followed,
-    method: &Method,
+    method: &CheckedMethod,
     starts: &PcSet,
     pc: u16,
 ) -> Result<(), WordFault>
@@ -279,8 +288,8 @@ fn visit_at(
 
 /// Pc 0 is reached, and on the worklist.
 fn at_first(alloc: Global) -> Result<Followed, WordFault>
-    ensures followed { IfOk result (λ f. (m : methods.Method) (listing : List PlacedInstr) → begins listing 0 ≡ true
-        → IsFollowed m listing None f) }
+    ensures followed { IfOk result (λ f. (m : methods.CheckedMethod) (listing : List PlacedInstr)
+        → begins listing 0 ≡ true → IsFollowed m listing None f) }
     ensures memory { IfErr result (λ fault. fault ≡ Memory) }
 {
     let mut followed = Followed {
@@ -294,7 +303,7 @@ fn at_first(alloc: Global) -> Result<Followed, WordFault>
 }
 
 /// Follows control flow from pc 0 until the worklist is empty. Returns the entered pcs.
-fn follow_all(alloc: Global, method: &Method, starts: &PcSet) -> Result<PcSet, WordFault>
+fn follow_all(alloc: Global, method: &CheckedMethod, starts: &PcSet) -> Result<PcSet, WordFault>
     requires short { length method.now.code < 2 ^ 16 }
     requires some { method.now.code ≢ [] }
     ensures found { IfOk result (λ entries. (listing : List PlacedInstr) → IsGround method.now listing starts.now
@@ -311,7 +320,7 @@ fn follow_all(alloc: Global, method: &Method, starts: &PcSet) -> Result<PcSet, W
 
 /// The pcs that control flow enters by a branch or an exception handler. Refuses code that doesn't decode, an invalid
 /// handler, and reachable code that leads to no instruction.
-pub(crate) fn entries_of(alloc: Global, method: &Method) -> Result<PcSet, WordFault>
+pub(crate) fn entries_of(alloc: Global, method: &CheckedMethod) -> Result<PcSet, WordFault>
     requires short { length method.now.code < 2 ^ 16 }
     ensures found { IfOk result (λ entries. HasEntries method.now entries) }
     ensures refused { IfErr result (λ fault. (pc : ℕ) (reason : Reason) → fault ≡ Refused pc reason → (rules : Rules)

@@ -19,10 +19,10 @@ ghost use Rattle.jc_verify.specs.PrivateWork.{IsAtWork, IsBranchsWay, IsDecodedA
 ghost use Rattle.jc_verify.specs.PrivateWork.{LeadsInto, LeadsTo, MeetsHeld, MeetsHeldBy, Refuses, StandsAt};
 
 use crate::place::{NotTaken, Place, take_in};
-use crate::seen::Seen;
+use crate::seen::TakenLocals;
 use crate::stop::Stop;
 use jc_base::Reason;
-use jc_check::{Handler, Method, WordFault};
+use jc_check::{CheckedHandler, CheckedMethod, WordFault};
 use jc_code::{Instr, Targets, decode, listing_laws};
 use jc_effects::{Setting, transfer_in};
 use jc_link::Linked;
@@ -45,7 +45,7 @@ pub(crate) fn told_at(pc: u16, stop: Stop) -> WordFault
 pub(crate) struct Flow<'f, 'm> {
     pub(crate) alloc: Global,
     pub(crate) linked: &'f Linked,
-    pub(crate) method: &'f Method<'m>,
+    pub(crate) method: &'f CheckedMethod<'m>,
     pub(crate) numbers: &'f [Option<u16>],
 }
 
@@ -163,11 +163,11 @@ fn handle(
     flow: &Flow,
     places: &mut [Place<State>],
     caught: &mut State,
-    seen: &Seen,
+    seen: &TakenLocals,
     range: LocalRange,
     state: &State,
     pc: u16,
-    handler: &Handler,
+    handler: &CheckedHandler,
 ) -> Result<(), Stop>
     requires work { IsAtWork flow.now places.old }
     requires way { IsHandlersWay flow.now pc state.now.types handler.now }
@@ -202,7 +202,7 @@ fn handle_all(
     flow: &Flow,
     places: &mut [Place<State>],
     caught: &mut State,
-    seen: &mut Seen,
+    seen: &mut TakenLocals,
     state: &State,
     pc: u16,
 ) -> Result<(), Stop>
@@ -309,7 +309,7 @@ fn visit(
     flow: &Flow,
     places: &mut [Place<State>],
     caught: &mut State,
-    seen: &mut Seen,
+    seen: &mut TakenLocals,
     state: &mut State,
     pc: u16,
     instr: &Instr,
@@ -368,7 +368,7 @@ pub(crate) fn follow(
 {
     listing_laws();
     *followed = followed.saturating_add(1);
-    let mut seen = Seen::nothing(flow.alloc);
+    let mut seen = TakenLocals::nothing(flow.alloc);
     let mut pc = start;
     loop {
         let instr = match instr_at(flow, usize::from(pc)) {

@@ -17,7 +17,7 @@ ghost use Rattle.jc_verify.specs.PrivateTurns.{IsCountedIn};
 use crate::fault::VerifyFault;
 use crate::method::states_of;
 use jc_base::Reason;
-use jc_cert::{MethodRow, StateRow};
+use jc_cert::{MethodStates, StateRow};
 use jc_check::{Fault, WordFault, method_of};
 use jc_link::{Linked, MethodCode};
 use std::alloc::Global;
@@ -33,7 +33,7 @@ pub(crate) struct MethodFault {
 /// offset, and how often control flow was followed.
 #[derive(Drop)]
 pub(crate) struct Gathered {
-    pub(crate) rows: Vec<MethodRow>,
+    pub(crate) rows: Vec<MethodStates>,
     pub(crate) told: Option<MethodFault>,
     pub(crate) followed: u64,
 }
@@ -84,7 +84,7 @@ fn put_states(
     if states.is_empty() {
         return Ok(());
     }
-    gathered.rows.push(MethodRow { offset, states })?;
+    gathered.rows.push(MethodStates { offset, states })?;
     Ok(())
 }
 

@@ -23,7 +23,7 @@ use crate::place::Place;
 use crate::settle::fill;
 use crate::spelling::stated_rows;
 use jc_cert::StateRow;
-use jc_check::{Method, WordFault, first_fault_laws};
+use jc_check::{CheckedMethod, WordFault, first_fault_laws};
 use jc_link::Linked;
 use jc_types::State;
 use std::alloc::Global;
@@ -55,7 +55,7 @@ fn rows_in(
 pub(crate) fn states_of(
     alloc: Global,
     linked: &Linked,
-    method: &Method,
+    method: &CheckedMethod,
     followed: &mut u64,
 ) -> Result<Vec<StateRow>, WordFault>
     requires laws { HasLaws linked.now }

@@ -13,7 +13,7 @@ ghost use Rattle.jc_verify.specs.Visits.{HasBoundedCount};
 
 use crate::fault::VerifyFault;
 use crate::gathering::{Gathered, gather};
-use jc_cert::{Cert, MethodRow};
+use jc_cert::{Cert, MethodStates};
 use jc_check::types_name_classes;
 use jc_code::listing_laws;
 use jc_effects::effects_are_monotone;
@@ -72,7 +72,7 @@ fn gather_all(alloc: Global, linked: &Linked) -> Result<Gathered, VerifyFault>
 }
 
 /// The certificate with these rows, in any order, which carry a package's methods.
-fn certificate_of(linked: &Linked, methods: Vec<MethodRow>) -> Cert
+fn certificate_of(linked: &Linked, methods: Vec<MethodStates>) -> Cert
     requires fit { HasFitMethods linked.now }
     requires gathered { AreGathered linked.now (length linked.now.body.kept.methods) (rows methods.items) }
     ensures carried { CarriesPackage linked.now result }

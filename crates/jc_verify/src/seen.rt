@@ -4,31 +4,31 @@ ghost use Rattle.std.specs.Prelude.{◌≡◌, ◌≤◌, None, Some, true, leng
 ghost use Rattle.jc_types.specs.PrivateRanges.{AgreeOutside};
 ghost use Rattle.jc_verify.specs.PrivateSeen.{WasCovered};
 
-use jc_check::Handler;
+use jc_check::CheckedHandler;
 use jc_types::{LocalRange, Ty, differing};
 use std::alloc::{AllocError, Global};
 
 /// The pc of the instruction whose handlers were visited last, and the locals before it. If there is no pc, the locals
 /// don't count.
 #[derive(Drop)]
-pub(crate) struct Seen {
+pub(crate) struct TakenLocals {
     pub(crate) at: Option<u16>,
     pub(crate) locals: Vec<Ty>,
 }
 
-impl Seen {
+impl TakenLocals {
     /// Nothing was seen yet. It takes no memory.
-    pub(crate) fn nothing(alloc: Global) -> Seen
+    pub(crate) fn nothing(alloc: Global) -> TakenLocals
         ensures { result.at ≡ None }
     {
-        Seen {
+        TakenLocals {
             at: None,
             locals: Vec::new(alloc),
         }
     }
 
     /// Whether a handler covers the instruction seen last.
-    pub(crate) fn was_covered(&self, handler: &Handler) -> bool
+    pub(crate) fn was_covered(&self, handler: &CheckedHandler) -> bool
         ensures { result ≡ true → WasCovered self.now handler.now }
     {
         match self.at {

@@ -1,6 +1,6 @@
 use Rattle.std.proofs.Common.{rules, ◌≡◌, arith, ap}
 use Rattle.std.proofs.lemmas.Result.{err_from_is_err_and}
-use Rattle.jc_check.specs.Method.{Method, caught_types}
+use Rattle.jc_check.specs.Method.{CheckedMethod, caught_types}
 use Rattle.jc_verify.proofs.Denying.{falls_in, no_room, refused_for, refuses_on}
 use Rattle.jc_verify.proofs.Reaching.{meets_reached}
 use Rattle.jc_verify.proofs.Taking.{taken_as}
@@ -9,7 +9,7 @@ use Rattle.jc_verify.proofs.flow.catch_at.Goals as goal
 
 pub returns-then-method-eq0-clause-refused : goal.returns-then-method-eq0-clause-refused
 returns-then-method-eq0-clause-refused c =
-    let none : c.args.flow.now.method.now.max_stack ≡ 0 = omega (arith, ap (λ (x : Method). x.max_stack) c.method.view_is, c.if-method-eq0.true) in
+    let none : c.args.flow.now.method.now.max_stack ≡ 0 = omega (arith, ap (λ (x : CheckedMethod). x.max_stack) c.method.view_is, c.if-method-eq0.true) in
     refused_for (record {
       denied = λ typing carrier under leads. no_room carrier c.args.class c.args.state.now.types c.args.goes_on none leads c.requires.flows.place;
       told = caught_no_room none;

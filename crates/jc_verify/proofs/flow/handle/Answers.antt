@@ -1,6 +1,6 @@
 use Rattle.std.proofs.Common.{◌≡◌, true, false, sym, ap, ◌∙◌, arith}
 use Rattle.std.proofs.lemmas.Option.{none-some}
-use Rattle.jc_check.specs.Method.{Handler, covers}
+use Rattle.jc_check.specs.Method.{CheckedHandler, covers}
 use Rattle.jc_verify.proofs.Denying.{refuses_on}
 use Rattle.jc_verify.proofs.Lying.{catch_here, catch_on, uncaught_here, way_here}
 use Rattle.jc_verify.proofs.Seeing.{still_taken}
@@ -31,7 +31,7 @@ returns-in-None-clause-refused c = grind (arith, none-some)
 pub returns-then-still_holds-clause-taken : goal.returns-then-still_holds-clause-taken
 returns-then-still_holds-clause-taken c =
     let was = c.was_covered.ensures c.if-was_covered.true in
-    let on : c.handler.inside.goes_on ≡ c.args.handler.now.goes_on = ap (λ (h : Handler). h.goes_on) c.handler.view_is in
+    let on : c.handler.inside.goes_on ≡ c.args.handler.now.goes_on = ap (λ (h : CheckedHandler). h.goes_on) c.handler.view_is in
     let still = rw (c.locals.ensures, on) at (c.still_holds.ensures c.if-still_holds.true) in
     still_taken c.args.flow.now c.args.seen.now c.requires.work c.args.handler.now c.args.range c.args.state.now
     c.requires.room.state c.requires.seen was still c.requires.agree c.args.pc

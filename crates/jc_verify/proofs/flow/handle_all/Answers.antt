@@ -3,7 +3,7 @@ use Rattle.std.specs.List.{AllByRecursion, Contains}
 use Rattle.std.proofs.lemmas.Bool.{eqb-true}
 use Rattle.std.proofs.lemmas.Option.{slice_get_read}
 use Rattle.std.proofs.lemmas.Result.{err_from_is_err_and}
-use Rattle.jc_check.specs.Method.{Handler}
+use Rattle.jc_check.specs.Method.{CheckedHandler}
 use Rattle.jc_check.specs.Package.{package_rules}
 use Rattle.jc_check.specs.Typing.{HandlerLeads}
 use Rattle.jc_verify.proofs.Denying.{refuses_on}
@@ -21,7 +21,7 @@ returns-then-is_empty-clause-taken c =
     sym c.handlers-handlers.ensures ∙ none_left c.handlers-handlers.result.now (omega (arith, count)) in
     let rules = package_rules c.args.flow.now.linked.now in
     taken_none c.requires.work (λ typing.
-    subst (λ (hs : List Handler). AllByRecursion (HandlerLeads rules typing c.args.pc c.args.state.now.types) hs)
+    subst (λ (hs : List CheckedHandler). AllByRecursion (HandlerLeads rules typing c.args.pc c.args.state.now.types) hs)
     (sym none) tt)
 
 pub loop-index-init : goal.loop-index-init
@@ -60,7 +60,7 @@ returns-in_err-handle-clause-refused c =
     let handler = c.index-handlers-index in
     let at = slice_get_read handlers (length handlers) index handler.result refl c.loop-index-test.true handler.is in
     let among : Contains f.method.now.handlers handler.result =
-    subst (λ (hs : List Handler). Contains hs handler.result) c.handlers-handlers.ensures
+    subst (λ (hs : List CheckedHandler). Contains hs handler.result) c.handlers-handlers.ensures
     (contains_at handlers index handler.result at) in
     let rules = package_rules f.linked.now in
     rw (p.1, p.2) (refuses_on c.in_err-handle.ensures.refused (λ typing carrier under leads.
@@ -81,6 +81,6 @@ returns-clause-seen c =
     let f = c.args.flow.now in
     let t = c.args.state.now.types in
     let passed = rw c.handlers-handlers.ensures at c.loop-index.invariant.passed in
-    let count = ap (λ (hs : List Handler). length hs) c.handlers-handlers.ensures in
+    let count = ap (λ (hs : List CheckedHandler). length hs) c.handlers-handlers.ensures in
     let end : length f.method.now.handlers ≤ c.loop-index.index = omega (arith, count, c.loop-index-test.false) in
     seen_then f c.note.new.self t (passed_all _ f.method.now.handlers c.loop-index.index end passed) c.in_ok-note.ensures.at (c.in_ok-note.ensures.locals ∙ c.locals-2.ensures)

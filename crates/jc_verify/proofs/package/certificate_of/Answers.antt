@@ -1,7 +1,7 @@
 use Rattle.std.proofs.Common.{rules, length, subst, sym}
 use Rattle.std.proofs.lemmas.List.Sorted.{IsNonDecreasingBy-from_sort_by_key, IsPermutation-map}
 use Rattle.jc_cert.specs.Cert.{IsCert, row, rows}
-use Rattle.jc_cert.specs.declared.cert.MethodRow.{MethodRow}
+use Rattle.jc_cert.specs.declared.cert.MethodStates.{MethodStates}
 use Rattle.jc_check.specs.Checked.{CarriesPackage}
 use Rattle.jc_verify.specs.Inferred.{HasLeastStates, HasStatesWhereEntered}
 use Rattle.jc_verify.proofs.Certifying.{is_cert}
@@ -15,7 +15,7 @@ use Rattle.jc_verify.proofs.package.certificate_of.Goals as goal
 pub unwrap-requires : goal.unwrap-requires
 unwrap-requires c =
     let order = IsPermutation-map row c.args.methods.items c.sort_unstable_by_key.new.self.items c.sort_unstable_by_key.ensures.permutation in
-    let ascend = IsNonDecreasingBy-from_sort_by_key (λ (m : MethodRow). m.offset) _ c.sort_unstable_by_key.ensures.sorted (λ a r q k. search rules) in
+    let ascend = IsNonDecreasingBy-from_sort_by_key (λ (m : MethodStates). m.offset) _ c.sort_unstable_by_key.ensures.sorted (λ a r q k. search rules) in
     let few = fewer c.args.linked.now.body.kept.methods c.requires.fit.apart in
     is_some_unless c.new.result _ c.new.ensures.none (is_cert c.args.linked.now (rows c.args.methods.items) c.sort_unstable_by_key.new.self.items c.requires.gathered order ascend c.requires.fit few)
 
@@ -54,7 +54,7 @@ returns-clause-cert c =
     let put = c.sort_unstable_by_key.new.self.items in
     let sorted = c.sort_unstable_by_key.ensures in
     let order = IsPermutation-map row before put sorted.permutation in
-    let by_offset = λ (m : MethodRow). m.offset in
+    let by_offset = λ (m : MethodStates). m.offset in
     let ascend = IsNonDecreasingBy-from_sort_by_key by_offset _ sorted.sorted (λ a r q k. search rules) in
     let few = fewer l.body.kept.methods c.requires.fit.apart in
     let made = holds c.new.result _ c.unwrap.result c.unwrap.ensures c.new.ensures.made in

@@ -62,6 +62,7 @@ fn empty_environment() -> FrameEnvironment<'static> {
         entries: &[],
         package: 0,
         context: 0,
+        selected: None,
     }
 }
 

@@ -15,7 +15,7 @@ use Rattle.jc_verify.specs.PrivateCarrier.{HasPlace, IsCarrier}
 use Rattle.jc_verify.specs.PrivateFlow.{IsUnder, Places, number_at}
 use Rattle.jc_verify.specs.PrivateStop.{fault_at}
 use Rattle.jc_verify.specs.PrivateWork.{Falls, IsDenial, IsRefusedFor, IsToldAt, LeadsTo, Refuses}
-use Rattle.jc_verify.specs.declared.flow.Flow.{Flow}
+use Rattle.jc_verify.specs.declared.flow.MethodFlow.{MethodFlow}
 use Rattle.jc_verify.specs.declared.stop.Stop.{Stop}
 use Rattle.jc_verify.specs.declared.stop.Stop.TheVariants.{Refused, Memory}
 use Rattle.jc_verify.proofs.Arriving.{below_lengths}
@@ -35,12 +35,12 @@ no_room {l} carrier class t pc none leads place =
     omega (arith, few, one, none)
 
 -- where there is a place control flow doesn't go on
-pub falls_in : (f : Flow) (on : Bool) {t : Types} {typing : Typing} {pc : ℕ} → HasPlace f.numbers.now pc → Falls f on pc t typing → LeadsTo f pc t typing
+pub falls_in : (f : MethodFlow) (on : Bool) {t : Types} {typing : Typing} {pc : ℕ} → HasPlace f.numbers.now pc → Falls f on pc t typing → LeadsTo f pc t typing
 falls_in f on h1 h2 = grind (arith, no_place)
 
 -- ---- refusals
 
-module _ {f : Flow} {asks : Typing → Type 0} where
+module _ {f : MethodFlow} {asks : Typing → Type 0} where
   -- by what was known before
   pub denies_on : {more_asks : Typing → Type 0} {before now : Places} {fault : WordFault} → IsDenial f asks now fault
       → ((typing : Typing) → IsCarrier f.linked.now f.method.now f.numbers.now typing → IsUnder f.linked.now f.numbers.now before typing → more_asks typing → IsUnder f.linked.now f.numbers.now now typing × asks typing)

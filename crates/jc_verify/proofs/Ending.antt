@@ -17,7 +17,7 @@ use Rattle.jc_verify.specs.PrivateTold.{Tells}
 use Rattle.jc_check.specs.Typing.{Typing}
 use Rattle.jc_verify.specs.PrivateFlow.{Places}
 use Rattle.jc_verify.specs.PrivateWork.{IsDenial}
-use Rattle.jc_verify.specs.declared.flow.Flow.{Flow}
+use Rattle.jc_verify.specs.declared.flow.MethodFlow.{MethodFlow}
 use Rattle.jc_verify.specs.MethodFault.{IsToldOf, astray, handler, undecoded}
 use Rattle.jc_verify.proofs.Lists.{drop_get}
 
@@ -62,5 +62,5 @@ stop_one listing hs k h fault at e = ap (λ xs. handlers_stand listing xs) (drop
 pub never_told : (rules : Rules) (m : CheckedMethod) (fault : WordFault) → ((pc : ℕ) (reason : Reason) → fault ≡ faults.Refused pc reason → ⊥) → Tells rules m fault
 never_told rules m fault h1 = grind arith
 
-pub denial_tells : {f : Flow} {asks : Typing → Type 0} {places : Places} (fault : WordFault) → IsDenial f asks places fault → Tells (package_rules f.linked.now) f.method.now fault
+pub denial_tells : {f : MethodFlow} {asks : Typing → Type 0} {places : Places} (fault : WordFault) → IsDenial f asks places fault → Tells (package_rules f.linked.now) f.method.now fault
 denial_tells fault h1 = grind arith

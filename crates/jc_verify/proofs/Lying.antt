@@ -22,7 +22,7 @@ use Rattle.jc_verify.specs.PrivateFlow.{HasLaws, IsNumbered, IsUnder, placed, Pl
 use Rattle.jc_verify.specs.PrivatePlaces.{IsHeldBelow, IsUnlike}
 use Rattle.jc_verify.specs.PrivateTold.{IsUncaught, IsUncaughtAt}
 use Rattle.jc_verify.specs.PrivateWork.{Bears, BranchesAll, FlowsIn, HandlesAll, IsBranchsWay, IsWay, LeadsTo, StandsAt}
-use Rattle.jc_verify.specs.declared.flow.Flow.{Flow}
+use Rattle.jc_verify.specs.declared.flow.MethodFlow.{MethodFlow}
 use Rattle.jc_verify.specs.declared.place.Place.{Place}
 use Rattle.jc_verify.proofs.Arriving.{IsHeldBy, at_number, below_lengths, held_by, set_other, set_same}
 
@@ -75,7 +75,7 @@ number_of : ℤ → ℕ
 number_of (pos n) = n
 number_of (negsuc n) = 0
 
-pub branch_way : {f : Flow} {t : Types} {pc : ℕ} → IsBranchsWay f t (pos pc) → FlowsIn f pc t
+pub branch_way : {f : MethodFlow} {t : Types} {pc : ℕ} → IsBranchsWay f t (pos pc) → FlowsIn f pc t
 unfolding number_of
 branch_way {f} {t} h = subst (λ (n : ℕ). FlowsIn f n t) (sym (ap number_of h.is)) h.flows
 
@@ -101,7 +101,7 @@ module _ {h : CheckedHandler} (view : CheckedHandler) (same : view ≡ h) (class
   pub catch_on : {rules : Rules} {t : Types} {typing : Typing} → Leads rules typing (caught_types class t) view.goes_on → CatchLeads rules typing t h
   catch_on {rules} {t} {typing} leads = record { class = class; catches = named; leads = subst (Leads rules typing (caught_types class t)) (ap (λ (x : CheckedHandler). x.goes_on) same) leads }
 
-  pub way_here : {f : Flow} {t : Types} → IsWay f t h → FlowsIn f view.goes_on (caught_types class t)
+  pub way_here : {f : MethodFlow} {t : Types} → IsWay f t h → FlowsIn f view.goes_on (caught_types class t)
   way_here {f} {t} way = grind (arith, same_Some, named)
 
   pub uncaught_here : {l : Linked} {m : CheckedMethod} {pc : ℕ} {t : Types} {reason : Reason} → covers h pc ≡ true → IsUncaughtAt l m view.goes_on (caught_types class t) reason → IsUncaught l m (λ x. x ≡ h) pc t reason
@@ -138,12 +138,12 @@ module _ (l : Linked) (laws : HasLaws l) (typing : Typing) (s t : Types) (lower 
           }
 
 -- an instruction on types, and the types behind it, go where a typing says
-pub record GoesWith (f : Flow) (pc : ℕ) (instr : Instr) (s after : Types) (typing : Typing) : Type 0 where
+pub record GoesWith (f : MethodFlow) (pc : ℕ) (instr : Instr) (s after : Types) (typing : Typing) : Type 0 where
   pub handled : HandlesAll f pc s typing
   pub branches : BranchesAll f (targets_of pc instr.operation) after typing
   pub falls : falls_of instr.operation ≡ true → LeadsTo f instr.next_pc after typing
 
-module _ {f : Flow} {pc : ℕ} {s : Types} {instr : Instr} (x : StandsAt f pc s instr) {typing : Typing} (b : Bears f pc s typing) where
+module _ {f : MethodFlow} {pc : ℕ} {s : Types} {instr : Instr} (x : StandsAt f pc s instr) {typing : Typing} (b : Bears f pc s typing) where
   abbrev rules : Rules
   rules = package_rules f.linked.now
 

@@ -23,7 +23,7 @@ use Rattle.jc_verify.specs.PrivateNames.{AreNamed, HasNames, KeepsNames}
 use Rattle.jc_verify.specs.PrivatePlaces.{IsTakenIn, put, joined}
 use Rattle.jc_verify.specs.PrivateTold.{AreReached, IsFlowing, IsHeldAt, IsUncaught, IsUncaughtAt, IsUnled, MeetsUnlike, Reaches, caught_no_room, caught_unlike, meets_unlike}
 use Rattle.jc_verify.specs.PrivateWork.{FlowsIn, FlowsTo, GoesOn, IsAtWork, IsBranchsWay, IsHandlersWay, IsSound, IsToldAt, MeetsHeld, StandsAt}
-use Rattle.jc_verify.specs.declared.flow.Flow.{Flow}
+use Rattle.jc_verify.specs.declared.flow.MethodFlow.{MethodFlow}
 use Rattle.jc_verify.specs.MethodFault.{Flows, IsStopped, Passes, branches, catches, entry, falls, falls_off, joins, no_effect, no_room, no_target, passes, stopped, unlike}
 use Rattle.jc_verify.specs.declared.place.Place.{Place}
 use Rattle.jc_verify.proofs.Arriving.{IsHeldBy, held_by, set_other, set_same}
@@ -118,7 +118,7 @@ module _ (l : Linked) (m : CheckedMethod) where
 
 -- ---- on the listing of a method
 
-module _ {f : Flow} (k : IsSound f) where
+module _ {f : MethodFlow} (k : IsSound f) where
   reaches : (pc : ℕ) (t : Types) → IsFlowing (package_rules f.linked.now) f.method.now k.ground.listing pc t → FlowsTo f pc t
   reaches pc t flowing listing whole = subst (λ xs. IsFlowing (package_rules f.linked.now) f.method.now xs pc t) (k.laws.listing.one_listing f.method.now.code k.ground.listing listing k.ground.whole whole) flowing
 
@@ -133,7 +133,7 @@ module _ {f : Flow} (k : IsSound f) where
       let x = placed_begins k.ground.listing pc (there k.ground.listing k.ground.whole).begin in
       record { instr = x.0.instr; is = (k.laws.listing.has f.method.now.code k.ground.listing pc x.0 k.ground.whole x.1).1 }
 
-module _ {f : Flow} {pc : ℕ} {s : Types} {instr : Instr} (x : StandsAt f pc s instr) where
+module _ {f : MethodFlow} {pc : ℕ} {s : Types} {instr : Instr} (x : StandsAt f pc s instr) where
   flows : Flows (package_rules f.linked.now) f.method.now x.sound.ground.listing pc s
   flows = (x.flows x.sound.ground.listing x.sound.ground.whole).flows
 

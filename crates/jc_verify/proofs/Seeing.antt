@@ -18,7 +18,7 @@ use Rattle.jc_types.specs.declared.ty.Ty.TheVariants.{Class}
 use Rattle.jc_verify.specs.PrivateFlow.{HasRoom, Places, Risen, held_at, number_at}
 use Rattle.jc_verify.specs.PrivateSeen.{HasSeen, HaveSeen, StillHolds, WasCovered, with_locals}
 use Rattle.jc_verify.specs.PrivateWork.{Handles, HandlesAll, HasTakenIn, IsAtWork}
-use Rattle.jc_verify.specs.declared.flow.Flow.{Flow}
+use Rattle.jc_verify.specs.declared.flow.MethodFlow.{MethodFlow}
 use Rattle.jc_verify.specs.declared.place.Place.{Place}
 use Rattle.jc_verify.specs.declared.seen.TakenLocals.{TakenLocals}
 use Rattle.jc_verify.proofs.Arriving.{at_number, below_lengths, held_by}
@@ -50,7 +50,7 @@ module _ (rules : Rules) (typing : Typing) (pc : ℕ) (t : Types) (locals : List
   locals_alone [] all = tt
   locals_alone (h ∷ hs) all = (one_alone h all.0, locals_alone hs all.1)
 
-module _ (f : Flow) where
+module _ (f : MethodFlow) where
   -- the place where a handler goes on holds these locals, if it held those that agree with them
   pub still_held : {places : Places} → IsAtWork f places → (pc number : ℕ) (p : Place StateWithRoom)
       (held : StateWithRoom) (range : LocalRange) (locals : List Ty) → number_at f.numbers.now pc ≡ Some number
@@ -67,7 +67,7 @@ module _ (f : Flow) where
     below = below;
   }
 
-module _ (f : Flow) (seen : TakenLocals) where
+module _ (f : MethodFlow) (seen : TakenLocals) where
   -- nothing was seen
   pub nothing_seen : {places : Places} → seen.at ≡ None → HaveSeen f places seen
   nothing_seen none final pc risen at = absurd (none-some pc (sym none ∙ at))

@@ -14,7 +14,7 @@ use Rattle.jc_verify.specs.PrivateTold.{AreReached}
 use Rattle.jc_verify.specs.PrivatePlaces.{IsStep, left_of}
 use Rattle.jc_verify.specs.PrivateSettled.{IsFollowed, IsSettled, IsSwept, settled_place}
 use Rattle.jc_verify.specs.PrivateWork.{Bears, ClosedFrom, FlowsTo, HasTaken, HaveRoom, IsAtWork}
-use Rattle.jc_verify.specs.declared.flow.Flow.{Flow}
+use Rattle.jc_verify.specs.declared.flow.MethodFlow.{MethodFlow}
 use Rattle.jc_verify.specs.declared.place.Place.{Place}
 use Rattle.jc_verify.proofs.Arriving.{IsHeldBy, at_number, held_by, set_length, set_other, set_same}
 use Rattle.jc_verify.proofs.Growing.{grown_self, leads_on, risen_self, risen_through}
@@ -242,7 +242,7 @@ module _ (l : Linked) (laws : HasLaws l) (m : CheckedMethod) (numbers : List (Op
 
 -- ---- a place that was taken up
 
-module _ {f : Flow} {places : Places} (work : IsAtWork f places) (number : ℕ) {p q : Place StateWithRoom} (at : slice_get places number ≡ Some p) {start : ℕ} {s : Types}
+module _ {f : MethodFlow} {places : Places} (work : IsAtWork f places) (number : ℕ) {p q : Place StateWithRoom} (at : slice_get places number ≡ Some p) {start : ℕ} {s : Types}
     (taken : (p.pc ≡ start) × (q ≡ settled_place p) × (types_held p ≡ Some s)) where
   pub taken_work : IsAtWork f (slice_set places number q)
   taken_work = subst (λ (x : Place StateWithRoom). IsAtWork f (slice_set places number x)) (sym taken.1)
@@ -262,13 +262,13 @@ module _ {f : Flow} {places : Places} (work : IsAtWork f places) (number : ℕ) 
   one_taken {after} t = grind (arith, risen_self, followed, slice_set, same_Some, taken_under, taken_bears)
 
 -- what a place holds fits into a state with room, which has room then
-pub fits_place : {f : Flow} {places : Places} (number : ℕ) {p : Place StateWithRoom} {state : StateWithRoom} → IsAtWork f places → HasRoom f.method.now state → slice_get places number ≡ Some p
+pub fits_place : {f : MethodFlow} {places : Places} (number : ℕ) {p : Place StateWithRoom} {state : StateWithRoom} → IsAtWork f places → HasRoom f.method.now state → slice_get places number ≡ Some p
     → (s : StateWithRoom) → p.held ≡ Some s → (length s.types.locals ≡ length state.types.locals) × (length s.types.operands ≤ state.room)
 fits_place {f} {places} number {p} {state} work room at s held = grind arith
 
-pub room_taken : {f : Flow} {caught state after : StateWithRoom} → HaveRoom f caught state → after.room ≡ state.room → length after.types.locals ≡ length state.types.locals → HaveRoom f caught after
+pub room_taken : {f : MethodFlow} {caught state after : StateWithRoom} → HaveRoom f caught state → after.room ≡ state.room → length after.types.locals ≡ length state.types.locals → HaveRoom f caught after
 room_taken have room locals = record { caught = have.caught; state = record { locals = locals ∙ have.state.locals; room = room ∙ have.state.room } }
 
 -- places that were swept are at work
-pub swept_work : {f : Flow} {first end : ℕ} {places after : Places} → IsAtWork f places → IsSwept f.linked.now f.method.now f.numbers.now first end places after → IsAtWork f after
+pub swept_work : {f : MethodFlow} {first end : ℕ} {places after : Places} → IsAtWork f places → IsSwept f.linked.now f.method.now f.numbers.now first end places after → IsAtWork f after
 swept_work work swept = work_on work swept.risen (swept.reached work.reached)

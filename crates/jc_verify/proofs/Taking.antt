@@ -15,7 +15,7 @@ use Rattle.jc_verify.specs.PrivatePlaces.{HoldsAbove, IsHeldBelow, IsStep, IsTak
 use Rattle.jc_verify.specs.PrivateStop.{stop_of}
 use Rattle.jc_verify.specs.PrivateTold.{AreReached, meets_unlike}
 use Rattle.jc_verify.specs.PrivateWork.{ArePassed, Bears, BranchesAll, ClosedFrom, Falls, FlowsInto, FlowsTo, HandlesAll, HasTaken, HasTakenIn, HasVisited, IsAtWork, IsBlank, LeadsInto, LeadsTo, MeetsHeldBy, Refuses, StandsAt}
-use Rattle.jc_verify.specs.declared.flow.Flow.{Flow}
+use Rattle.jc_verify.specs.declared.flow.MethodFlow.{MethodFlow}
 use Rattle.jc_verify.specs.declared.place.NotTaken.{NotTaken}
 use Rattle.jc_verify.specs.declared.place.NotTaken.TheVariants as taking
 use Rattle.jc_verify.specs.declared.place.Place.{Place}
@@ -33,7 +33,7 @@ use Rattle.jc_verify.proofs.Visiting.{closed_by}
 blank_place : Place StateWithRoom
 blank_place = record { pc = 0; held = None; changed = false }
 
-module _ {f : Flow} {places : Places} where
+module _ {f : MethodFlow} {places : Places} where
   pub blank_work : IsBlank f places → IsAtWork f places
   blank_work blank = grind (arith, none-some, reached_first)
 
@@ -49,7 +49,7 @@ module _ {f : Flow} {places : Places} where
       let at = slice_get-get_or places number blank_place (work.numbered.within pc number is) in
       subst (λ n. LeadsTo f n t typing) (sym (work.numbered.found pc number _ is at) ∙ work.numbered.found other number _ same at) leads
 
-module _ {f : Flow} where
+module _ {f : MethodFlow} where
   -- ---- nothing was taken in; and one step behind the other
 
   pub taken_none : {gives asks : Typing → Type 0} {places : Places} → IsAtWork f places → ((typing : Typing) → gives typing) → HasTaken f gives asks places places

@@ -10,7 +10,7 @@ use Rattle.jc_types.specs.declared.ranges.LocalRange.{LocalRange}
 use Rattle.jc_types.specs.declared.ty.Ty.{Ty}
 use Rattle.jc_verify.specs.PrivateFlow.{Places, Risen, held_at}
 use Rattle.jc_verify.specs.PrivateWork.{HandlesAll}
-use Rattle.jc_verify.specs.declared.flow.Flow.{Flow}
+use Rattle.jc_verify.specs.declared.flow.MethodFlow.{MethodFlow}
 use Rattle.jc_verify.specs.declared.seen.TakenLocals.{TakenLocals}
 
 -- the types of a state with these locals and no operands
@@ -19,12 +19,12 @@ with_locals locals = record { locals = locals; operands = [] }
 
 -- a handler took in the locals seen last, if it covers the instruction there: what places hold now or later lies above
 -- them; and the same for all handlers
-abbrev pub HasSeen : Flow → Places → TakenLocals → CheckedHandler → Type 0
+abbrev pub HasSeen : MethodFlow → Places → TakenLocals → CheckedHandler → Type 0
 HasSeen f places seen h = (final : Places) (pc : ℕ) → Risen f.linked.now f.method.now f.numbers.now places final
     → seen.at ≡ Some pc
     → HandlerLeads (package_rules f.linked.now) (held_at f.numbers.now final) pc (with_locals seen.locals.items) h
 
-abbrev pub HaveSeen : Flow → Places → TakenLocals → Type 0
+abbrev pub HaveSeen : MethodFlow → Places → TakenLocals → Type 0
 HaveSeen f places seen = (final : Places) (pc : ℕ) → Risen f.linked.now f.method.now f.numbers.now places final
     → seen.at ≡ Some pc → HandlesAll f pc (with_locals seen.locals.items) (held_at f.numbers.now final)
 
@@ -35,7 +35,7 @@ pub record WasCovered (seen : TakenLocals) (h : CheckedHandler) : Type 0 where
   pub covered : covers h pc ≡ true
 
 -- the place at a pc holds locals above these, if they lie above others that agree with these outside of a range
-pub record StillHolds (f : Flow) (places : Places) (pc : ℕ) (range : LocalRange) (locals : List Ty) : Type 0 where
+pub record StillHolds (f : MethodFlow) (places : Places) (pc : ℕ) (range : LocalRange) (locals : List Ty) : Type 0 where
   pub held : Types
   pub at : held_at f.numbers.now places pc ≡ Some held
   pub below : (old : List Ty) → AgreeOutside range old locals

@@ -11,7 +11,7 @@ use Rattle.jc_verify.specs.PrivateCarrier.{HasPlace}
 use Rattle.jc_verify.specs.PrivateFlow.{AreShaped, ClosedIf, FallsIf, IsClosed, IsNumbered, IsUnder, IsUpper, Places}
 use Rattle.jc_verify.specs.PrivateFlow.{Risen, held_at, left_in, number_at, types_held}
 use Rattle.jc_verify.specs.PrivateTold.{AreReached}
-use Rattle.jc_verify.specs.declared.flow.Flow.{Flow}
+use Rattle.jc_verify.specs.declared.flow.MethodFlow.{MethodFlow}
 use Rattle.jc_verify.specs.declared.place.Place.{Place}
 
 -- control flow was followed from each place that hasn't changed since
@@ -62,7 +62,7 @@ pub record IsSwept (l : Linked) (m : CheckedMethod) (numbers : List (Option ℕ)
       → left_in l m after < left_in l m before
 
 -- control flow was followed from each place that holds types
-pub record HasSettled (f : Flow) (before after : Places) : Type 0 where
+pub record HasSettled (f : MethodFlow) (before after : Places) : Type 0 where
   pub risen : Risen f.linked.now f.method.now f.numbers.now before after
   pub under : (typing : Typing) → IsUpper f.linked.now f.method.now typing
       → IsUnder f.linked.now f.numbers.now before typing → IsUnder f.linked.now f.numbers.now after typing

@@ -42,7 +42,7 @@ pub(crate) fn told_at(pc: u16, stop: Stop) -> WordFault
 
 /// The package, the method, and the numbers of its places by pc.
 #[derive(Drop)]
-pub(crate) struct Flow<'f, 'm> {
+pub(crate) struct MethodFlow<'f, 'm> {
     pub(crate) alloc: Global,
     pub(crate) linked: &'f Linked,
     pub(crate) method: &'f CheckedMethod<'m>,
@@ -62,7 +62,7 @@ pub(crate) fn number_at(numbers: &[Option<u16>], pc: usize) -> Option<u16>
 
 /// Joins a state into the place with this number.
 fn arrive(
-    flow: &Flow,
+    flow: &MethodFlow,
     places: &mut [Place<State>],
     number: usize,
     state: &State,
@@ -83,7 +83,7 @@ fn arrive(
 
 /// Joins a state into the place at a pc. Returns true if there is no place: control flow has to be followed there.
 pub(crate) fn flow_to(
-    flow: &Flow,
+    flow: &MethodFlow,
     places: &mut [Place<State>],
     pc: usize,
     state: &State,
@@ -107,7 +107,7 @@ pub(crate) fn flow_to(
 
 /// Passes the state's locals to a handler's entry point, with the caught class as the only operand.
 fn catch_at(
-    flow: &Flow,
+    flow: &MethodFlow,
     places: &mut [Place<State>],
     caught: &mut State,
     state: &State,
@@ -136,7 +136,7 @@ fn catch_at(
 /// Whether the place at a handler's entry point holds types above these locals in the range. Locals outside of the
 /// range aren't compared.
 fn still_holds(
-    flow: &Flow,
+    flow: &MethodFlow,
     places: &[Place<State>],
     goes_on: u16,
     range: LocalRange,
@@ -160,7 +160,7 @@ fn still_holds(
 /// If a handler covers an instruction, passes the state before it, with the caught class, to the handler's entry point.
 /// If the handler covers the instruction seen last, only locals in the range need a comparison.
 fn handle(
-    flow: &Flow,
+    flow: &MethodFlow,
     places: &mut [Place<State>],
     caught: &mut State,
     seen: &TakenLocals,
@@ -199,7 +199,7 @@ fn handle(
 
 /// Passes the state to each handler that covers the pc, and notes its locals as seen.
 fn handle_all(
-    flow: &Flow,
+    flow: &MethodFlow,
     places: &mut [Place<State>],
     caught: &mut State,
     seen: &mut TakenLocals,
@@ -241,7 +241,7 @@ fn handle_all(
 
 /// Passes the state to the target of the branch with this index.
 fn branch_to(
-    flow: &Flow,
+    flow: &MethodFlow,
     places: &mut [Place<State>],
     state: &State,
     targets: &Targets,
@@ -268,7 +268,7 @@ fn branch_to(
 
 /// Passes the state to the targets of an instruction's branches.
 fn branch_all(
-    flow: &Flow,
+    flow: &MethodFlow,
     places: &mut [Place<State>],
     state: &State,
     pc: u16,
@@ -292,7 +292,7 @@ fn branch_all(
 }
 
 /// Replaces the types before an instruction by those after it.
-fn take_effect(flow: &Flow, state: &mut State, instr: &Instr) -> Result<(), Reason>
+fn take_effect(flow: &MethodFlow, state: &mut State, instr: &Instr) -> Result<(), Reason>
     requires room { HasRoom flow.now.method.now state.old }
     ensures became { Became result state.new.types ((package_rules flow.now.linked.now).effect
         flow.now.method.now.max_stack flow.now.method.now.returned instr.now.operation state.old.types) }
@@ -306,7 +306,7 @@ fn take_effect(flow: &Flow, state: &mut State, instr: &Instr) -> Result<(), Reas
 /// Visits an instruction: the handlers that cover it, its effect, its branches, and the next pc. Returns whether
 /// control flow has to be followed there.
 fn visit(
-    flow: &Flow,
+    flow: &MethodFlow,
     places: &mut [Place<State>],
     caught: &mut State,
     seen: &mut TakenLocals,
@@ -336,7 +336,7 @@ fn visit(
 }
 
 /// The instruction that decodes at a pc, if one does.
-fn instr_at<'m>(flow: &Flow<'_, 'm>, pc: usize) -> Option<Instr<'m>>
+fn instr_at<'m>(flow: &MethodFlow<'_, 'm>, pc: usize) -> Option<Instr<'m>>
     ensures some { IfSome result (λ instr. (package_rules flow.now.linked.now).decoder flow.now.method.now.code pc
         ≡ Ok instr) }
     ensures none { IfNone result (IsDecodedAt flow.now.linked.now flow.now.method.now pc → ⊥) }
@@ -350,7 +350,7 @@ fn instr_at<'m>(flow: &Flow<'_, 'm>, pc: usize) -> Option<Instr<'m>>
 
 /// Follows control flow from a pc until it ends or falls through to a place, and counts this once.
 pub(crate) fn follow(
-    flow: &Flow,
+    flow: &MethodFlow,
     places: &mut [Place<State>],
     caught: &mut State,
     state: &mut State,

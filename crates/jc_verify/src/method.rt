@@ -17,7 +17,7 @@ ghost use Rattle.jc_verify.specs.PrivateTurns.{IsCountedIn};
 ghost use Rattle.jc_verify.specs.PrivateWork.{IsBlank};
 
 use crate::entries::entries_of;
-use crate::flow::Flow;
+use crate::flow::MethodFlow;
 use crate::numbering::number_places;
 use crate::place::Place;
 use crate::settle::fill;
@@ -30,7 +30,7 @@ use std::alloc::Global;
 
 /// Fills the places, which hold nothing yet, and states what they hold as rows of a certificate.
 fn rows_in(
-    flow: &Flow,
+    flow: &MethodFlow,
     places: &mut [Place<State>],
     followed: &mut u64,
 ) -> Result<Vec<StateRow>, WordFault>
@@ -73,7 +73,7 @@ pub(crate) fn states_of(
     let _most = method.max_stack;
     let entries = entries_of(alloc, method)?;
     let mut numbered = number_places(alloc, method.code().len(), &entries)?;
-    let flow = Flow {
+    let flow = MethodFlow {
         alloc,
         linked,
         method,

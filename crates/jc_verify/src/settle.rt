@@ -11,7 +11,7 @@ ghost use Rattle.jc_verify.specs.PrivateTurns.{IsCounted, in_all, owed_of};
 ghost use Rattle.jc_verify.specs.PrivateWork.{Anything, HasTaken, HaveRoom, IsAtWork, IsBlank, IsDenial};
 ghost use Rattle.jc_verify.specs.declared.place.Place.{Place as PlaceOf};
 
-use crate::flow::{Flow, flow_to, follow, told_at};
+use crate::flow::{MethodFlow, flow_to, follow, told_at};
 use crate::place::Place;
 use jc_check::WordFault;
 use jc_types::State;
@@ -59,7 +59,7 @@ fn take_up(place: &mut Place<State>, state: &mut State) -> Option<u16>
 
 /// Follows control flow from the place with this number, if it has changed.
 fn follow_place(
-    flow: &Flow,
+    flow: &MethodFlow,
     places: &mut [Place<State>],
     caught: &mut State,
     state: &mut State,
@@ -84,7 +84,7 @@ fn follow_place(
 
 /// Follows control flow from each place that has changed, by ascending pc.
 fn sweep_forwards(
-    flow: &Flow,
+    flow: &MethodFlow,
     places: &mut [Place<State>],
     caught: &mut State,
     state: &mut State,
@@ -107,7 +107,7 @@ fn sweep_forwards(
 
 /// Follows control flow from each place that has changed, by descending pc.
 fn sweep_backwards(
-    flow: &Flow,
+    flow: &MethodFlow,
     places: &mut [Place<State>],
     caught: &mut State,
     state: &mut State,
@@ -147,7 +147,7 @@ fn has_changed(places: &[Place<State>]) -> bool
 
 /// Sweeps forwards and backwards until no place has changed.
 fn settle(
-    flow: &Flow,
+    flow: &MethodFlow,
     places: &mut [Place<State>],
     caught: &mut State,
     state: &mut State,
@@ -173,7 +173,7 @@ fn settle(
 
 /// Passes the entry state to pc 0, and follows control flow from there if there is no place.
 fn enter(
-    flow: &Flow,
+    flow: &MethodFlow,
     places: &mut [Place<State>],
     caught: &mut State,
     state: &mut State,
@@ -200,7 +200,7 @@ fn enter(
 /// Fills the places, which hold nothing yet: follows control flow from the entry, and then from places up to the
 /// fixpoint.
 pub(crate) fn fill(
-    flow: &Flow,
+    flow: &MethodFlow,
     places: &mut [Place<State>],
     followed: &mut u64,
 ) -> Result<(), WordFault>

@@ -1,5 +1,12 @@
 mod Ranges
+mod Before
 mod Readers
 mod Descriptors
+mod Heading
+mod Uncut
+mod Misfit
+mod Unread
+mod Unlinked
 mod Stages
 mod Least
+mod Installing

@@ -1,4 +1,4 @@
-//! A load reports its refusals in the order of their numbers.
+//! A load, and an install, report their refusals in the order of their numbers.
 #![tactic(auto)]
 
 ghost use Rattle.jc_base.specs.Cutting.{Piece, Splits, answer};
@@ -12,11 +12,16 @@ ghost use Rattle.jc_check.specs.Checked.{IsFirstRefusal};
 ghost use Rattle.jc_link.specs.Linked.{Linked};
 ghost use Rattle.jc_link.specs.WellFormed.{fault_behind};
 ghost use Rattle.jc_base.specs.declared.fault.LoadFault.TheVariants.{Memory};
+ghost use Rattle.jc_card.specs.Answering.{comes_at_once};
 ghost use Rattle.jc_card.specs.Card.{CardState};
+ghost use Rattle.jc_card.specs.Install.{Installed, Refused, install_command};
 ghost use Rattle.jc_card.specs.Load.{IsLoad};
+ghost use Rattle.jc_card.specs.Parts.{Left};
+ghost use Rattle.jc_card.specs.declared.fault.InstallFault.{InstallFault};
+ghost use Rattle.jc_refusals.specs.Installs.{AppliesToInstall, IsLeastOfInstall, IsRefusedAtOnce};
 ghost use Rattle.jc_refusals.specs.Loads.{Applies, IsLeast};
 ghost use Rattle.jc_refusals.specs.Order.{IsBetween};
-ghost use Rattle.std.specs.Prelude.{◌≡◌, ◌≢◌, ℕ, List, Some, Ok, Err};
+ghost use Rattle.std.specs.Prelude.{◌≡◌, ◌≢◌, ℕ, true, List, Some, Ok, Err};
 
 use jc_cert::one_spelling;
 use jc_check::first_fault_laws;
@@ -39,8 +44,8 @@ pub fn refusals_are_in_order()
 {}
 
 /// If a load reports a refusal other than out of memory, that refusal applies to it, and no other that applies has a
-/// smaller number. If it reports out of memory, those that apply have numbers from 10 to 18. A package to which a
-/// refusal applies isn't loaded. It does nothing.
+/// smaller number, nor the same number and a smaller place. If it reports out of memory, those that apply have numbers
+/// from 10 to 18. A package to which a refusal applies isn't loaded. It does nothing.
 pub fn the_least_refusal_is_told()
     ensures told { (c after : CardState) (image certificate : List ℕ) (fault : LoadFault)
         → IsLoad c image certificate (Err fault) after → fault ≢ Memory → IsLeast c image certificate fault }
@@ -50,8 +55,18 @@ pub fn the_least_refusal_is_told()
     ensures loaded { (c after : CardState) (image certificate : List ℕ) (number : ℕ)
         → IsLoad c image certificate (Ok number) after → (other : LoadFault) → Applies c image certificate other → ⊥ }
 {
-    refusals_are_in_order();
     first_fault_laws();
     listing_laws();
     one_spelling();
 }
+
+/// If an install is refused before the install method is called, the refusal that it reports applies to it, and no
+/// other that applies has a smaller number. An install to which one of these applies isn't done: it is refused by one,
+/// and the card is unchanged. It does nothing.
+pub fn the_least_refusal_of_an_install_is_told()
+    ensures told { (c : CardState) (applet instance incoming : List ℕ) (l : Left Installed) (fault : InstallFault)
+        → install_command c applet instance incoming ≡ Some l → l.value ≡ Refused fault → comes_at_once fault ≡ true
+        → IsLeastOfInstall c applet instance incoming fault }
+    ensures refused { (c : CardState) (applet instance incoming : List ℕ) (fault : InstallFault)
+        → AppliesToInstall c applet instance incoming fault → IsRefusedAtOnce c applet instance incoming }
+{}

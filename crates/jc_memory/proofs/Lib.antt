@@ -1,0 +1,4 @@
+mod Walks
+mod Ends
+mod Bare
+mod ExampleEnds

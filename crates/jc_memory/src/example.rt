@@ -1,0 +1,20 @@
+//! A script whose answers are known to the byte.
+
+ghost use Rattle.jc_memory.specs.Example.{IsExampleEnd};
+ghost use Rattle.jc_run.specs.End.{end_of};
+
+use crate::play::{Played, play_in_memory};
+use jc_api::Binding;
+use jc_machine::Limits;
+use std::alloc::Global;
+
+/// A reset, a command for an applet that isn't there, bytes that are no command, and a line that is none.
+const SCRIPT: &[u8] = b"reset\napdu 00A40400\napdu 00\nselect\n";
+
+/// Plays the example on a new card. Unless memory, reading or writing fails, it ends at its fourth line, and has written
+/// `reset`, `sw 6999` and `sw 6700`.
+pub fn play_example(alloc: Global, limits: Limits, binding: &Binding) -> Played
+    ensures { IsExampleEnd (end_of result.outcome) result.written.items }
+{
+    play_in_memory(alloc, SCRIPT, &[], &[], limits, binding)
+}

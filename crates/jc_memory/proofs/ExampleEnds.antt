@@ -46,7 +46,8 @@ pub example_ends : {images certificates : List ℕ → List ℕ → Type 0} {fai
     → RunsTo images certificates failed_at limits binding example_script written end → IsExampleEnd end written
 example_ends (unfit too_far) = refl
 example_ends (no_card fit) = refl
-example_ends {images = images} {certificates = certificates} {failed_at = failed_at} {limits = limits} {binding = binding} (played written end fit p) =
+example_ends {images = images} {certificates = certificates} {failed_at = failed_at} {limits = limits}
+    {binding = binding} (played written end fit p) =
     as_example (Some 4) written end refl (rw (← answers_are)
     (script_ends images certificates failed_at example (new_card limits binding) written end (tt, (tt, (tt, tt)))
     (record { unselected = refl; alone = refl }) (rw (← example_is) p)))

@@ -11,8 +11,8 @@ use std::alloc::Global;
 /// A reset, a command for an applet that isn't there, bytes that are no command, and a line that is none.
 const SCRIPT: &[u8] = b"reset\napdu 00A40400\napdu 00\nselect\n";
 
-/// Plays the example on a new card. Unless memory, reading or writing fails, it ends at its fourth line, and has written
-/// `reset`, `sw 6999` and `sw 6700`.
+/// Plays the example on a new card. Unless memory, reading or writing fails, it ends at its fourth line, and what it
+/// wrote is the lines `reset`, `sw 6999` and `sw 6700`.
 pub fn play_example(alloc: Global, limits: Limits, binding: &Binding) -> Played
     ensures { IsExampleEnd (end_of result.outcome) result.written.items }
 {

@@ -2,7 +2,7 @@
 use Rattle.std.specs.Prelude.{⊤, is_some}
 use Rattle.std.specs.Option.{option_and_then, option_map, option_map_or}
 use Rattle.std.proofs.Common.{◌≡◌, ℕ, List, [], ◌∷◌, ◌++◌, Option, Some, None, Bool, true, false, map, refl, sym, ap}
-use Rattle.std.proofs.Common.{◌∙◌, append-nil, append_assoc, if◌then◌else◌, arith}
+use Rattle.std.proofs.Common.{◌∙◌, append-nil, append_assoc, if◌then◌else◌}
 use Rattle.jc_card.specs.Card.{CardState, selected_instance, with_heap}
 use Rattle.jc_card.specs.Command.{Command, buffer_of, command_of, is_select, not_selected, wrong_length}
 use Rattle.jc_card.specs.Commands.{Response, perform, process, receive, reset_command, select, selected_by}

@@ -11,7 +11,7 @@ use Rattle.jc_script.specs.Script.{Apdu, Reset, Script, apdu_asked, asked, lines
 use Rattle.jc_script.specs.Script.{script_commands, script_from}
 use Rattle.hex.specs.Hex.{decode_pairs, encode_with}
 use Rattle.jc_memory.specs.Example.{IsExampleEnd, example_answers, example_script}
-use Rattle.jc_memory.proofs.Bare.{ArePlain, EndsSo, IsBare, lines_to, script_ends}
+use Rattle.jc_memory.proofs.Bare.{EndsSo, lines_to, script_ends}
 
 abbrev example : Script
 example = record {

@@ -1,9 +1,9 @@
 //! Packages and certificates in memory.
 
-ghost use Rattle.std.specs.Prelude.{◌≡◌, ◌+◌, ◌++◌, ◌∷◌, [], ◌<◌, ◌≤◌, ◌^◌, Some, IfOk, IfErr, bytes_eq, find};
+ghost use Rattle.std.specs.Prelude.{◌≡◌, ◌≤◌, Some, IfOk, IfErr, bytes_eq, find};
 ghost use Rattle.std.specs.Option.{option_map};
 ghost use Rattle.jc_memory.specs.Memory.{Holds, IsMissing, IsUnread, unread_store};
-ghost use Rattle.jc_source.specs.Source.{Asks, Certificate, HoldSame, IfFailed, Image, failures_in};
+ghost use Rattle.jc_source.specs.Source.{failures_in};
 
 use crate::reads::{NamedRead, Reads};
 use jc_source::{PackageSource, SourceFault};

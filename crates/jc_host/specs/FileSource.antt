@@ -39,10 +39,12 @@ pub record IsSourceFault (holds : List ℕ → Entry → Type 0) (fault : FileFa
   pub asked : Asked
   pub is : IsFaultOf holds asked fault
 
--- a source: the files that it reads, how many reads failed, and the fault of the last one
+-- a source: the files that it reads, how many reads failed, for how many memory ran out, and the fault of the last that
+-- failed
 pub record Readings (F : Type 0) : Type 0 where
   pub files : F
   pub failures : ℕ
+  pub shortages : ℕ
   pub fault : Option FileFault
 
 -- a fault that may be reported for some read

@@ -1,7 +1,7 @@
 //! Packages in folders, and certificates in files.
 
 ghost use Rattle.std.specs.Prelude.{⊤, ◌≡◌, ◌+◌, ◌<◌, ◌^◌, IfOk, IfErr};
-ghost use Rattle.jc_source.specs.Source.{Asked, OfFailed, failures_of};
+ghost use Rattle.jc_source.specs.Source.{Asked, OfFailed, failures_of, shortages_of};
 ghost use Rattle.jc_host.specs.Files.{OfFile};
 ghost use Rattle.jc_host.specs.FileSource.{HoldsCertificate, IsCertificateFault, IsFaultOf, IsKept, IsKeptOf};
 ghost use Rattle.jc_host.specs.FileSource.{IsSourceFault, TellsAll};
@@ -28,12 +28,13 @@ impl Faults for Brand {
     ghost tells = { λ asked fault. ⊤ };
 }
 
-/// Packages in folders of component files, and certificates in files. It counts the reads that failed, and keeps the
-/// fault of the last one.
+/// Packages in folders of component files, and certificates in files. It counts the reads that failed, keeps the fault
+/// of the last one, and counts those for which memory ran out.
 #[derive(Drop)]
 pub struct FileSource<'a, F: Files, T: Faults> {
     files: &'a F,
     failures: u32,
+    shortages: u32,
     fault: Option<FileFault>,
     faults: PhantomData<T>,
 }
@@ -43,7 +44,12 @@ impl<'a, F: Files, T: Faults> Model for FileSource<'a, F, T> {
 
     ghost Value = { Readings F };
 
-    ghost view = { λ s. record { files = s.files.now; failures = s.failures; fault = s.fault } };
+    ghost view = { λ s. record {
+      files = s.files.now;
+      failures = s.failures;
+      shortages = s.shortages;
+      fault = s.fault;
+    } };
 
     ghost invariant = { λ s. TellsAll (F.holds s.files.now) T.tells × IsKept T.tells s.failures s.fault };
 }
@@ -54,10 +60,12 @@ impl<'a, F: Files, T: Faults> FileSource<'a, F, T> {
         requires { TellsAll (F.holds files.now) T.tells }
         ensures files { result.files ≡ files.now }
         ensures failures { result.failures ≡ 0 }
+        ensures shortages { result.shortages ≡ 0 }
     {
         FileSource {
             files,
             failures: 0,
+            shortages: 0,
             fault: None,
             faults: PhantomData,
         }
@@ -76,12 +84,14 @@ impl<'a, F: Files, T: Faults> FileSource<'a, F, T> {
         self.fault.as_ref()
     }
 
-    // Keeps the fault of a failed read, and returns its kind.
+    // Counts a read, keeps its fault if it failed, and returns the fault's kind.
     fn fail(&mut self, fault: ReadFault) -> SourceFault
         requires few { self.old.failures < 2 ^ 31 }
+        requires few_short { self.old.shortages < 2 ^ 31 }
         requires fault { OfFile (IsSourceFault (F.holds self.old.files)) fault }
         ensures files { self.new.files ≡ self.old.files }
         ensures counted { self.new.failures ≡ self.old.failures + failures_of result }
+        ensures counted_short { self.new.shortages ≡ self.old.shortages + shortages_of result }
         ensures failing { (asked : Asked) → OfFile (IsFaultOf (F.holds self.old.files) asked) fault
             → OfFailed result (IsKeptOf T.tells self.new.fault asked) }
     {
@@ -91,13 +101,18 @@ impl<'a, F: Files, T: Faults> FileSource<'a, F, T> {
                 self.fault = Some(fault);
                 SourceFault::Failed
             }
-            ReadFault::Memory => SourceFault::Memory,
+            ReadFault::Memory => {
+                self.shortages += 1;
+                SourceFault::Memory
+            }
         }
     }
 }
 
 impl<'a, F: Files, T: Faults> PackageSource for FileSource<'a, F, T> {
     ghost failed = { λ s. s.failures };
+
+    ghost short = { λ s. s.shortages };
 
     ghost holds_image = { λ s. IsImage (F.holds s.files) };
 
@@ -121,6 +136,10 @@ impl<'a, F: Files, T: Faults> PackageSource for FileSource<'a, F, T> {
 
     fn failures(&self) -> u32 {
         self.failures
+    }
+
+    fn shortages(&self) -> u32 {
+        self.shortages
     }
 }
 

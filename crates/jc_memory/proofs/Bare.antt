@@ -14,7 +14,7 @@ use Rattle.jc_natives.specs.Cells.{put_all}
 use Rattle.jc_natives.specs.Kept.{instance_of, instance_with}
 use Rattle.jc_natives.specs.declared.kept.Instance.{Instance}
 use Rattle.jc_names.specs.declared.owner.Owner.{Owner}
-use Rattle.jc_source.specs.Source.{Asked}
+use Rattle.jc_source.specs.Source.{SourceEnd}
 use Rattle.jc_words.specs.Values.{Word}
 use Rattle.jc_run.specs.Answer.{Answered, Responds, WasReset}
 use Rattle.jc_run.specs.CardRun.{IsCardRun}
@@ -23,7 +23,8 @@ use Rattle.jc_run.specs.Play.{BadLimits, BadLine, IsAnswered, IsGiven, IsPart, N
 use Rattle.jc_run.specs.Play.{ScriptEnd, SourceFailed, answer_line}
 use Rattle.jc_run.specs.Runs.{EndsWith, IsPlayed, answer_lines, commands_of}
 use Rattle.jc_run.specs.Runs.EndsWith.{bad_line, memory, over, source, unread, unwritten}
-use Rattle.jc_script.specs.Script.{Apdu, Cells, Install, Load, Numbered, Objects, Reset, Script, ScriptCommand, Steps}
+use Rattle.jc_script.specs.Script.{Apdu, Cells, Install, Load, Objects, Reset, ScriptCommand, Steps}
+use Rattle.jc_script.specs.Whole.{FaultyLine, Numbered, Script}
 
 -- ---- cards without applets
 
@@ -152,9 +153,10 @@ whole_of : (before part line rest behind : List ℕ) → line ≡ part ++ rest
 whole_of before part line rest behind is = rw is search (append_assoc)
 
 -- how a script of such commands ends, by its bad line and the lines of all answers
-abbrev pub EndsSo : Option ℕ → List ℕ → ScriptEnd → List ℕ → Type 0
+abbrev pub EndsSo : Option FaultyLine → List ℕ → ScriptEnd → List ℕ → Type 0
 EndsSo bad whole Over written = (bad ≡ None) × (written ≡ whole)
-EndsSo bad whole (BadLine number) written = (bad ≡ Some number) × (written ≡ whole)
+EndsSo bad whole (BadLine number fault) written =
+    (bad ≡ Some (record { number = number; fault = fault })) × (written ≡ whole)
 EndsSo bad whole (SourceFailed number) written = ⊥
 EndsSo bad whole NotRead written = IsPart written whole
 EndsSo bad whole NotWritten written = IsPart written whole
@@ -196,15 +198,15 @@ module _ (images certificates : List ℕ → List ℕ → Type 0) where
 
   -- ---- a script
 
-  module _ (failed_at : Asked → Type 0) where
-    ends_so : {c : CardState} {bad : Option ℕ} {left : List Numbered} {part : List ℕ} {end : ScriptEnd}
+  module _ (reads : SourceEnd) where
+    ends_so : {c : CardState} {bad : Option FaultyLine} {left : List Numbered} {part : List ℕ} {end : ScriptEnd}
         (done : List Numbered) → IsBare c → ArePlain (commands_of left)
-        → EndsWith images certificates failed_at c bad left part end
+        → EndsWith images certificates reads c bad left part end
         → EndsSo bad (lines_to done ++ lines_to left) end (lines_to done ++ part)
     ends_so done bare plain (over none) = (none, refl)
-    ends_so done bare plain (bad_line number is) = (is, refl)
+    ends_so done bare plain (bad_line at is) = (is, refl)
     ends_so done bare plain (source next left folder certificate is failing) = elim ((rw is at plain.0)) [ ]
-    ends_so done bare plain (memory next left folder certificate is) = elim ((rw is at plain.0)) [ ]
+    ends_so done bare plain (memory next left folder certificate is short) = elim ((rw is at plain.0)) [ ]
     ends_so done bare plain (unread left) =
         record { rest = lines_to left; whole_is = ap (λ (bs : List ℕ). bs ++ lines_to left) (sym (append-nil _)) }
     ends_so {c = c} done bare plain (unwritten next left part answer after answered is) =
@@ -218,7 +220,7 @@ module _ (images certificates : List ℕ → List ℕ → Type 0) where
 
     pub script_ends : (script : Script) (c : CardState) (written : List ℕ) (end : ScriptEnd)
         → ArePlain (commands_of script.commands) → IsBare c
-        → IsPlayed images certificates failed_at script c written end
+        → IsPlayed images certificates reads script c written end
         → EndsSo script.bad (lines_to script.commands) end written
     script_ends script c written end plain bare p =
         let plains = plain_parts p.done p.left (rw p.in_order at plain) in

@@ -3,15 +3,15 @@ use Rattle.std.proofs.Common.{◌≡◌, ℕ, List, [], Option, Some, None, refl
 use Rattle.jc_api.specs.Bound.{Bound}
 use Rattle.jc_card.specs.Card.{CardState}
 use Rattle.jc_machine.specs.declared.limits.Limits.{Limits}
-use Rattle.jc_source.specs.Source.{Asked, Certificate, HoldSame, Image}
+use Rattle.jc_source.specs.Source.{Asked, Certificate, HoldSame, Image, SourceEnd, source_end}
 use Rattle.jc_run.specs.Performs.{HasRun}
 use Rattle.jc_run.specs.Play.{IsFailing, ScriptEnd}
 use Rattle.jc_run.specs.Play.IsFailing.{certificate as of_certificate, image as of_image}
 use Rattle.jc_run.specs.Runs.{EndsWith, IsPlayed, IsSimulated, RunsTo}
 use Rattle.jc_run.specs.Runs.EndsWith.{bad_line, memory, over, source, unread, unwritten}
 use Rattle.jc_run.specs.Runs.RunsTo.{no_card, played, unfit}
-use Rattle.jc_script.specs.Script.{Numbered, Script}
-use Rattle.jc_memory.specs.Memory.{Holds, IsMissing, Stored, stored_under}
+use Rattle.jc_script.specs.Whole.{FaultyLine, Numbered, Script}
+use Rattle.jc_memory.specs.Memory.{Holds, IsMissing, Stored, missing_reads, stored_under}
 
 -- ---- what is missing
 
@@ -33,26 +33,26 @@ missing_before images certificates images_after certificates_after same same_cer
 
 -- ---- the end of a script
 
-module _ (images certificates : List ℕ → List ℕ → Type 0) (failed_at told_at : Asked → Type 0)
-    (told : (asked : Asked) → failed_at asked → told_at asked) where
-  failing_as : {folder name : List ℕ} → IsFailing failed_at folder name → IsFailing told_at folder name
-  failing_as (of_image h) = of_image (told _ h)
-  failing_as (of_certificate h) = of_certificate (told _ h)
+module _ (images certificates : List ℕ → List ℕ → Type 0) (reads told : SourceEnd)
+    (failing : (asked : Asked) → reads.failed_at asked → told.failed_at asked) (may_be : told.short ≡ 1) where
+  failing_as : {folder name : List ℕ} → IsFailing reads.failed_at folder name → IsFailing told.failed_at folder name
+  failing_as (of_image h) = of_image (failing _ h)
+  failing_as (of_certificate h) = of_certificate (failing _ h)
 
-  ends_as : {c : CardState} {bad : Option ℕ} {left : List Numbered} {part : List ℕ} {end : ScriptEnd}
-      → EndsWith images certificates failed_at c bad left part end
-      → EndsWith images certificates told_at c bad left part end
+  ends_as : {c : CardState} {bad : Option FaultyLine} {left : List Numbered} {part : List ℕ} {end : ScriptEnd}
+      → EndsWith images certificates reads c bad left part end
+      → EndsWith images certificates told c bad left part end
   ends_as (over none) = over none
-  ends_as (bad_line number is) = bad_line number is
-  ends_as (source next left folder name is failing) = source next left folder name is (failing_as failing)
-  ends_as (memory next left folder name is) = memory next left folder name is
+  ends_as (bad_line at is) = bad_line at is
+  ends_as (source next left folder name is fails) = source next left folder name is (failing_as fails)
+  ends_as (memory next left folder name is short) = memory next left folder name is may_be
   ends_as (unread left) = unread left
   ends_as (unwritten next left part answer after answered is) =
       unwritten next left part answer after answered is
 
   played_as : {script : Script} {c : CardState} {written : List ℕ} {end : ScriptEnd}
-      → IsPlayed images certificates failed_at script c written end
-      → IsPlayed images certificates told_at script c written end
+      → IsPlayed images certificates reads script c written end
+      → IsPlayed images certificates told script c written end
   played_as p = record {
     done = p.done;
     left = p.left;
@@ -68,15 +68,15 @@ module _ (images certificates : List ℕ → List ℕ → Type 0) (failed_at tol
   }
 
   runs_as : {limits : Limits} {binding : Bound} {script written : List ℕ} {end : ScriptEnd}
-      → RunsTo images certificates failed_at limits binding script written end
-      → RunsTo images certificates told_at limits binding script written end
+      → RunsTo images certificates reads limits binding script written end
+      → RunsTo images certificates told limits binding script written end
   runs_as (unfit too_far) = unfit too_far
   runs_as (no_card fit) = no_card fit
   runs_as (played written end fit p) = played written end fit (played_as p)
 
   simulated_as : {limits : Limits} {binding : Bound} {script written : List ℕ} {end : ScriptEnd}
-      → IsSimulated images certificates failed_at limits binding script written end
-      → IsSimulated images certificates told_at limits binding script written end
+      → IsSimulated images certificates reads limits binding script written end
+      → IsSimulated images certificates told limits binding script written end
   simulated_as s = record {
     responses = runs_as s.responses;
     accesses = s.accesses;
@@ -87,13 +87,15 @@ module _ (images certificates : List ℕ → List ℕ → Type 0) (failed_at tol
 
 -- what was written to an empty writer is all that it holds
 pub run_in_memory : (images certificates images_after certificates_after : List Stored) (limits : Limits)
-    (binding : Bound) (script written : List ℕ) (end : ScriptEnd)
+    (binding : Bound) (script written : List ℕ) (end : ScriptEnd) (before after : ℕ)
     → HoldSame (Holds images) (Holds images_after) → HoldSame (Holds certificates) (Holds certificates_after)
-    → HasRun (Holds images) (Holds certificates) (IsMissing images_after certificates_after) limits binding script []
-    (Some written) end
-    → IsSimulated (Holds images) (Holds certificates) (IsMissing images certificates) limits binding script written end
-run_in_memory images certificates images_after certificates_after limits binding script written end same also r =
+    → HasRun (Holds images) (Holds certificates)
+    (source_end (IsMissing images_after certificates_after) before after) limits binding script [] (Some written) end
+    → IsSimulated (Holds images) (Holds certificates) (missing_reads images certificates) limits binding script written
+    end
+run_in_memory images certificates images_after certificates_after limits binding script written end before after same
+    also r =
     let is : written ≡ r.written = cc in
-    rw is (simulated_as (Holds images) (Holds certificates) (IsMissing images_after certificates_after)
-    (IsMissing images certificates) (missing_before images certificates images_after certificates_after same also)
-    r.simulated)
+    rw is (simulated_as (Holds images) (Holds certificates)
+    (source_end (IsMissing images_after certificates_after) before after) (missing_reads images certificates)
+    (missing_before images certificates images_after certificates_after same also) refl r.simulated)

@@ -1,7 +1,7 @@
 -- Packages and certificates in memory, by their names.
 use Rattle.std.specs.Prelude.{◌≡◌, ℕ, List, [], Option, Some, None, bytes_eq, find}
 use Rattle.std.specs.Option.{option_map}
-use Rattle.jc_source.specs.Source.{Asked, Certificate, Image}
+use Rattle.jc_source.specs.Source.{Asked, Certificate, Image, SourceEnd}
 use Rattle.jc_source.specs.declared.source.SourceFault.{SourceFault}
 use Rattle.jc_source.specs.declared.source.SourceFault.TheVariants.{Failed, Memory}
 
@@ -10,17 +10,19 @@ pub record Stored : Type 0 where
   pub name : List ℕ
   pub bytes : List ℕ
 
--- a source: its images and certificates, how many reads were of a name that isn't there, and all reads so far, in order
+-- a source: its images and certificates, how many reads were of a name that isn't there, for how many memory ran out,
+-- and all reads so far, in order
 pub record Store : Type 0 where
   pub images : List Stored
   pub certificates : List Stored
   pub failures : ℕ
+  pub shortages : ℕ
   pub asked : List Asked
 
 -- nothing was read
 abbrev pub unread_store : (images certificates : List Stored) → Store
 unread_store images certificates =
-    record { images = images; certificates = certificates; failures = 0; asked = [] }
+    record { images = images; certificates = certificates; failures = 0; shortages = 0; asked = [] }
 
 -- the bytes under a name: the first that have it
 abbrev pub stored_under : List Stored → List ℕ → Option (List ℕ)
@@ -34,6 +36,11 @@ Holds stored name bytes = stored_under stored name ≡ Some bytes
 abbrev pub IsMissing : (images certificates : List Stored) → Asked → Type 0
 IsMissing images certificates (Image name) = stored_under images name ≡ None
 IsMissing images certificates (Certificate name) = stored_under certificates name ≡ None
+
+-- such a source after a script: its last failed read was of a name under which nothing is, and memory may have run out
+-- for one read
+abbrev pub missing_reads : (images certificates : List Stored) → SourceEnd
+missing_reads images certificates = record { failed_at = IsMissing images certificates; short = 1 }
 
 -- why nothing is read under a name: nothing is there, or something is, and memory ran out for it
 pub record IsThere (stored : List Stored) (name : List ℕ) : Type 0 where

@@ -1,7 +1,7 @@
 //! Scripts in memory on a new card.
 
 ghost use Rattle.std.specs.Prelude.{◌≡◌, ◌<◌, ◌++◌, ◌^◌, OnOk};
-ghost use Rattle.jc_memory.specs.Memory.{Holds, IsMissing};
+ghost use Rattle.jc_memory.specs.Memory.{Holds, missing_reads};
 ghost use Rattle.jc_run.specs.End.{end_of};
 ghost use Rattle.jc_run.specs.Performs.{asked_by};
 ghost use Rattle.jc_run.specs.Runs.{IsSimulated};
@@ -51,7 +51,7 @@ pub fn play_in_memory(
     limits: Limits,
     binding: &Binding,
 ) -> Played
-    ensures { IsSimulated (Holds images.now) (Holds certificates.now) (IsMissing images.now certificates.now) limits
+    ensures { IsSimulated (Holds images.now) (Holds certificates.now) (missing_reads images.now certificates.now) limits
         binding.now script.now result.written.items (end_of result.outcome) }
 {
     let mut source = MemorySource::new(images, certificates);
@@ -78,7 +78,8 @@ pub fn perform_in_memory(
     source: &mut MemorySource<'_>,
     command: &ScriptCommand<'_>,
 ) -> Result<CommandAnswer, SourceFault>
-    requires { source.old.failures < 2 ^ 31 }
+    requires few { source.old.failures < 2 ^ 31 }
+    requires few_short { source.old.shortages < 2 ^ 31 }
     ensures { OnOk result (source.new.asked ≡ source.old.asked ++ asked_by (shown_command command.now)) }
 {
     perform(card, alloc, source, command)

@@ -3,7 +3,7 @@
 ghost use Rattle.std.specs.Prelude.{◌≡◌, ◌≤◌, Some, IfOk, IfErr, bytes_eq, find};
 ghost use Rattle.std.specs.Option.{option_map};
 ghost use Rattle.jc_memory.specs.Memory.{Holds, IsMissing, IsUnread, unread_store};
-ghost use Rattle.jc_source.specs.Source.{failures_in};
+ghost use Rattle.jc_source.specs.Source.{failures_in, shortages_in};
 
 use crate::reads::{NamedRead, Reads};
 use jc_source::{PackageSource, SourceFault};
@@ -27,12 +27,13 @@ impl Model for NamedBytes {
 }
 
 /// A source of images and certificates in memory. Of several under one name the first counts. It counts the reads of
-/// names that aren't there.
+/// names that aren't there, and those for which memory ran out.
 #[derive(Drop)]
 pub struct MemorySource<'a> {
     images: &'a [NamedBytes],
     certificates: &'a [NamedBytes],
     failures: u32,
+    shortages: u32,
     reads: Reads,
 }
 
@@ -45,6 +46,7 @@ impl<'a> Model for MemorySource<'a> {
       images = s.images.now;
       certificates = s.certificates.now;
       failures = s.failures;
+      shortages = s.shortages;
       asked = s.reads.asked;
     } };
 }
@@ -58,6 +60,7 @@ impl<'a> MemorySource<'a> {
             images,
             certificates,
             failures: 0,
+            shortages: 0,
             reads: Reads::new(),
         }
     }
@@ -92,8 +95,21 @@ fn failures_in(read: &Result<Vec<u8>, SourceFault>) -> u32
     }
 }
 
+// How many shortages of memory a read is.
+fn shortages_in(read: &Result<Vec<u8>, SourceFault>) -> u32
+    ensures counted { result ≡ shortages_in read.now }
+    ensures most { result ≤ 1 }
+{
+    match read {
+        Ok(_) | Err(SourceFault::Failed) => 0,
+        Err(SourceFault::Memory) => 1,
+    }
+}
+
 impl<'a> PackageSource for MemorySource<'a> {
     ghost failed = { λ s. s.failures };
+
+    ghost short = { λ s. s.shortages };
 
     ghost holds_image = { λ s. Holds s.images };
 
@@ -107,6 +123,7 @@ impl<'a> PackageSource for MemorySource<'a> {
         self.reads = self.reads.then(&NamedRead::Image(name));
         let read = copied(alloc, self.images, name);
         self.failures += failures_in(&read);
+        self.shortages += shortages_in(&read);
         read
     }
 
@@ -114,10 +131,15 @@ impl<'a> PackageSource for MemorySource<'a> {
         self.reads = self.reads.then(&NamedRead::Certificate(name));
         let read = copied(alloc, self.certificates, name);
         self.failures += failures_in(&read);
+        self.shortages += shortages_in(&read);
         read
     }
 
     fn failures(&self) -> u32 {
         self.failures
+    }
+
+    fn shortages(&self) -> u32 {
+        self.shortages
     }
 }

@@ -1,12 +1,12 @@
 -- Lines that end a script, and commands that are done.
-use Rattle.std.proofs.Common.{◌≡◌, ◌≤◌, ℕ, List, [], ◌++◌, length, Option, Some, Result, IfErr, false, nat_lt, arith}
+use Rattle.std.proofs.Common.{◌≡◌, ◌≤◌, ◌+◌, ◌-◌, ℕ, List, [], ◌++◌, length, Option, Some, Result, IfErr, false, nat_lt, arith}
 use Rattle.std.proofs.Common.{refl, sym, ap, ◌∙◌, append-nil, rules}
 use Rattle.std.proofs.lemmas.Result.{err_from_is_err_and}
 use Rattle.std.specs.Io.KnownBytes.{Appends}
 use Rattle.std.specs.Prelude.{IsErrAnd}
 use Rattle.jc_card.specs.Card.{CardState}
 use Rattle.jc_card.specs.Reads.{CardWords}
-use Rattle.jc_source.specs.Source.{Asked}
+use Rattle.jc_source.specs.Source.{SourceEnd}
 use Rattle.jc_run.specs.Answer.{Answered}
 use Rattle.jc_run.specs.Performs.{Answers, AsksSource, IsFailingOf}
 use Rattle.jc_run.specs.Play.{BadLine, IsPart, NoMemory, NotRead, NotWritten, Over, ScriptEnd}
@@ -17,7 +17,11 @@ use Rattle.jc_run.specs.PrivatePlay.Plays.{ended, over, unread}
 use Rattle.jc_script.specs.Reading.{BeginsBad}
 use Rattle.jc_script.specs.Script.{Apdu, Asks, Bad, Cells, Install, Load, Objects, Reset, ScriptCommand, ScriptLine}
 use Rattle.jc_script.specs.Script.{Steps}
-use Rattle.jc_script.specs.Script.{line_at, lines_of, most_in_line, most_lines, said_by}
+use Rattle.jc_script.specs.Script.{is_unread, line_at, lines_of, most_in_line, most_lines, said_by}
+use Rattle.jc_script.specs.Faults.{fault_in}
+use Rattle.jc_script.specs.Whole.{unread_fault}
+use Rattle.jc_script.specs.declared.fault.LineFault.{LineFault}
+use Rattle.jc_script.specs.declared.finding.Dialect.TheVariants as dialects
 
 -- ---- what is known to be written
 
@@ -47,6 +51,9 @@ parted old now before whole is h = parted_known before now whole (rw is at h)
 
 -- ---- commands
 
+pub one_short : (old new : ℕ) → new ≡ old + 1 → new - old ≡ 1
+one_short old new h = omega (arith, h)
+
 pub command_done : (images certificates : List ℕ → List ℕ → Type 0) (c : CardState) (command : ScriptCommand)
     (answer : Answered) (after : CardWords) (old now : Option (List ℕ)) (before : List ℕ)
     → Answers images certificates c command answer after → old ≡ Some before → Appends old now (answer_line answer)
@@ -59,11 +66,11 @@ command_done images certificates c command answer after old now before a is h = 
   now_is = grown old now before _ is h;
 }
 
-module _ (images certificates : List ℕ → List ℕ → Type 0) (failed_at : Asked → Type 0) (c : CardState)
-    (number : ℕ) where
+module _ (images certificates : List ℕ → List ℕ → Type 0) (reads : SourceEnd) (c : CardState)
+    (number : ℕ) (told : LineFault) where
   pub source_end : (command : ScriptCommand) (before : List ℕ) (now : Option (List ℕ))
-      → IsFailingOf failed_at command → now ≡ Some before
-      → IsLineEnd images certificates failed_at c number (Asks command) before now (SourceFailed number)
+      → IsFailingOf reads.failed_at command → now ≡ Some before
+      → IsLineEnd images certificates reads c number told (Asks command) before now (SourceFailed number)
   source_end (Load folder certificate) before now failing is =
       record { written = []; ends = source folder certificate failing; now_is = none_more is }
   source_end (Install applet instance incoming) before now failing is = elim failing [ ]
@@ -74,20 +81,20 @@ module _ (images certificates : List ℕ → List ℕ → Type 0) (failed_at : A
   source_end (Steps steps) before now failing is = elim failing [ ]
 
   pub memory_end : (command : ScriptCommand) (before : List ℕ) (now : Option (List ℕ)) → AsksSource command
-      → now ≡ Some before → IsLineEnd images certificates failed_at c number (Asks command) before now NoMemory
-  memory_end (Load folder certificate) before now asks is =
-      record { written = []; ends = memory folder certificate; now_is = none_more is }
-  memory_end (Install applet instance incoming) before now asks is = elim asks [ ]
-  memory_end (Apdu bytes) before now asks is = elim asks [ ]
-  memory_end Reset before now asks is = elim asks [ ]
-  memory_end Cells before now asks is = elim asks [ ]
-  memory_end Objects before now asks is = elim asks [ ]
-  memory_end (Steps steps) before now asks is = elim asks [ ]
+      → reads.short ≡ 1 → now ≡ Some before → IsLineEnd images certificates reads c number told (Asks command) before now NoMemory
+  memory_end (Load folder certificate) before now asks short is =
+      record { written = []; ends = memory folder certificate short; now_is = none_more is }
+  memory_end (Install applet instance incoming) before now asks short is = elim asks [ ]
+  memory_end (Apdu bytes) before now asks short is = elim asks [ ]
+  memory_end Reset before now asks short is = elim asks [ ]
+  memory_end Cells before now asks short is = elim asks [ ]
+  memory_end Objects before now asks short is = elim asks [ ]
+  memory_end (Steps steps) before now asks short is = elim asks [ ]
 
   pub command_unwritten : (command : ScriptCommand) (answer : Answered) (after : CardWords)
       (old now : Option (List ℕ)) (before : List ℕ) → Answers images certificates c command answer after
       → old ≡ Some before → AppendsPart old now (answer_line answer)
-      → IsLineEnd images certificates failed_at c number (Asks command) before now NotWritten
+      → IsLineEnd images certificates reads c number told (Asks command) before now NotWritten
   command_unwritten command answer after old now before a is h =
       let p = parted old now before _ is h in
       record {
@@ -97,15 +104,15 @@ module _ (images certificates : List ℕ → List ℕ → Type 0) (failed_at : A
       }
 
   pub bad_end : (said : ScriptLine) (before : List ℕ) (now : Option (List ℕ)) → Bad ≡ said → now ≡ Some before
-      → IsLineEnd images certificates failed_at c number said before now (BadLine number)
+      → IsLineEnd images certificates reads c number told said before now (BadLine number told)
   bad_end said before now is known = record { written = []; ends = rw (← is) bad; now_is = none_more known }
 
 -- ---- lines
 
 -- a line that is neither too long nor one too many
-pub as_said : (number : ℕ) (line : List ℕ) → number ≤ most_lines → length line ≤ most_in_line
-    → line_at number line ≡ said_by line
-as_said number line few short = rw (few_enough, short_enough) refl
+read_whole : (number : ℕ) (line : List ℕ) → number ≤ most_lines → length line ≤ most_in_line
+    → is_unread number line ≡ false
+read_whole number line few short = rw (few_enough, short_enough) refl
   where
     few_enough : nat_lt most_lines number ≡ false
     few_enough = search (rules, few)
@@ -113,38 +120,42 @@ as_said number line few short = rw (few_enough, short_enough) refl
     short_enough : nat_lt most_in_line (length line) ≡ false
     short_enough = search (rules, short)
 
-module _ (images certificates : List ℕ → List ℕ → Type 0) (failed_at : Asked → Type 0) (number : ℕ) (bytes : List ℕ)
+pub as_said : (number : ℕ) (line : List ℕ) → number ≤ most_lines → length line ≤ most_in_line
+    → line_at number line ≡ said_by line
+as_said number line few short = rw (read_whole number line few short) refl
+
+module _ (images certificates : List ℕ → List ℕ → Type 0) (reads : SourceEnd) (number : ℕ) (bytes : List ℕ)
     (c : CardState) (before : List ℕ) (now : Option (List ℕ)) where
   pub none_left : lines_of bytes ≡ [] → now ≡ Some before
-      → PlaysFrom images certificates failed_at number bytes c before now Over
+      → PlaysFrom images certificates reads number bytes c before now Over
   none_left none known = record { written = []; plays = rw none (over number c); now_is = none_more known }
 
   bad_first : BeginsBad number (lines_of bytes) → now ≡ Some before
-      → PlaysFrom images certificates failed_at number bytes c before now (BadLine number)
+      → PlaysFrom images certificates reads number bytes c before now (BadLine number (unread_fault number))
   bad_first b known = record {
     written = [];
-    plays = rw b.are (ended number b.first b.others c [] (BadLine number) (rw b.bad bad));
+    plays = rw b.are (ended number b.first b.others c [] (BadLine number (unread_fault number)) (rw b.unread bad));
     now_is = none_more known;
   }
 
-  not_read : now ≡ Some before → PlaysFrom images certificates failed_at number bytes c before now NotRead
+  not_read : now ≡ Some before → PlaysFrom images certificates reads number bytes c before now NotRead
   not_read known = record { written = []; plays = unread number (lines_of bytes) c; now_is = none_more known }
 
   pub unread_plays : (end : ScriptEnd) → IsUnread number bytes end → now ≡ Some before
-      → PlaysFrom images certificates failed_at number bytes c before now end
+      → PlaysFrom images certificates reads number bytes c before now end
   unread_plays end h1 h2 = grind (arith, bad_first, not_read)
 
   pub end_plays : (end : ScriptEnd) → IsEnd number bytes end → now ≡ Some before
-      → PlaysFrom images certificates failed_at number bytes c before now end
+      → PlaysFrom images certificates reads number bytes c before now end
   end_plays end h1 h2 = grind (arith, none_left, bad_first, not_read)
 
   pub line_ends : (line : List ℕ) (left : Option (List ℕ)) (end : ScriptEnd) → IsTaken number line bytes left
-      → IsLineEnd images certificates failed_at c number (said_by line) before now end
-      → PlaysFrom images certificates failed_at number bytes c before now end
+      → IsLineEnd images certificates reads c number (fault_in dialects.Script line) (said_by line) before now end
+      → PlaysFrom images certificates reads number bytes c before now end
   line_ends line left end t e = record {
     written = e.written;
     plays = rw t.takes.lines (ended number line (lines_of t.rest) c e.written end
-        (rw (as_said number line t.takes.few t.takes.short) e.ends));
+        (rw (read_whole number line t.takes.few t.takes.short) e.ends));
     now_is = e.now_is;
   }
 

@@ -10,7 +10,7 @@ use Rattle.jc_card.specs.Load.{IsLoad}
 use Rattle.jc_card.specs.Order.{Order, Resets, apdu_order, install_order}
 use Rattle.jc_card.specs.Parts.{Left}
 use Rattle.jc_machine.specs.Machine.{Touch}
-use Rattle.jc_source.specs.Source.{Asked}
+use Rattle.jc_source.specs.Source.{SourceEnd}
 use Rattle.jc_store.specs.Heap.{Heap}
 use Rattle.jc_words.specs.Values.{TaggedValue}
 use Rattle.jc_run.specs.Answer.{Answered}
@@ -24,17 +24,18 @@ use Rattle.jc_run.specs.Runs.{AreGuarded, EndsWith, IsGuarded, IsKeptApart, IsPl
 use Rattle.jc_run.specs.Runs.EndsWith.{bad_line, memory as memory_left, over as over_left, source as source_left}
 use Rattle.jc_run.specs.Runs.EndsWith.{unread as unread_left, unwritten as unwritten_left}
 use Rattle.jc_run.specs.CardRun.IsCardRun.{command, nothing}
-use Rattle.jc_script.specs.Script.{Apdu, Asks, Bad, Cells, Install, Load, Numbered, Objects, Reset, Script, Steps}
-use Rattle.jc_script.specs.Script.{ScriptCommand, ScriptLine, Skipped, line_at, script_from, with_line}
+use Rattle.jc_script.specs.Script.{Apdu, Asks, Bad, Cells, Install, Load, Objects, Reset, ScriptCommand, ScriptLine}
+use Rattle.jc_script.specs.Script.{Skipped, Steps, line_at}
+use Rattle.jc_script.specs.Whole.{Numbered, Script, bad_fault, script_from, with_line}
 
-module _ (images certificates : List ℕ → List ℕ → Type 0) (failed_at : Asked → Type 0) where
+module _ (images certificates : List ℕ → List ℕ → Type 0) (reads : SourceEnd) where
   abbrev Is : Script → CardState → List ℕ → ScriptEnd → Type 0
-  Is script c written end = IsPlayed images certificates failed_at script c written end
+  Is script c written end = IsPlayed images certificates reads script c written end
 
   -- ---- no command is done
 
   none_done : (script : Script) (c : CardState) (part : List ℕ) (end : ScriptEnd)
-      → EndsWith images certificates failed_at c script.bad script.commands part end → Is script c part end
+      → EndsWith images certificates reads c script.bad script.commands part end → Is script c part end
   none_done script c part end ends = record {
     done = [];
     left = script.commands;
@@ -51,10 +52,10 @@ module _ (images certificates : List ℕ → List ℕ → Type 0) (failed_at : A
 
   -- ---- a command more
 
-  one_more : (number : ℕ) (first : ScriptCommand) (script : Script) (c between : CardState) (answer : Answered)
+  one_more : (number : ℕ) (bytes : List ℕ) (first : ScriptCommand) (script : Script) (c between : CardState) (answer : Answered)
       (behind : List ℕ) (end : ScriptEnd) → IsAnswered images certificates c first answer between
-      → Is script between behind end → Is (with_line number (Asks first) script) c (answer_line answer ++ behind) end
-  one_more number first script c between answer behind end answered d =
+      → Is script between behind end → Is (with_line number bytes (Asks first) script) c (answer_line answer ++ behind) end
+  one_more number bytes first script c between answer behind end answered d =
       let asked : Numbered = record { number = number; command = first } in
       record {
         done = asked ∷ d.done;
@@ -72,25 +73,26 @@ module _ (images certificates : List ℕ → List ℕ → Type 0) (failed_at : A
         ends = d.ends;
       }
 
-  line_done : (number : ℕ) (said : ScriptLine) (script : Script) (c after : CardState) (written behind : List ℕ)
+  line_done : (number : ℕ) (bytes : List ℕ) (said : ScriptLine) (script : Script) (c after : CardState) (written behind : List ℕ)
       (end : ScriptEnd) → IsLinePlayed images certificates c said written after → Is script after behind end
-      → Is (with_line number said script) c (written ++ behind) end
-  line_done number Skipped script c after written behind end played d = rw (played.0, ← played.1) d
-  line_done number (Asks first) script c after written behind end played d = search (arith, one_more)
-  line_done number Bad script c after written behind end played d = elim played [ ]
+      → Is (with_line number bytes said script) c (written ++ behind) end
+  line_done number bytes Skipped script c after written behind end played d = rw (played.0, ← played.1) d
+  line_done number bytes (Asks first) script c after written behind end played d = search (arith, one_more)
+  line_done number bytes Bad script c after written behind end played d = elim played [ ]
 
   -- ---- a line that ends it
 
-  line_ends : {number : ℕ} {c : CardState} {said : ScriptLine} {written : List ℕ} {end : ScriptEnd}
-      (script : Script) → EndsAt images certificates failed_at c number said written end
-      → Is (with_line number said script) c written end
-  line_ends {number = number} {c = c} script bad = none_done _ c [] _ (bad_line number refl)
+  line_ends : {number : ℕ} {bytes : List ℕ} {c : CardState} {said : ScriptLine} {written : List ℕ} {end : ScriptEnd}
+      (script : Script) → EndsAt images certificates reads c number (bad_fault number bytes) said written end
+      → Is (with_line number bytes said script) c written end
+  line_ends {number = number} {bytes = bytes} {c = c} script bad =
+      none_done _ c [] _ (bad_line (record { number = number; fault = bad_fault number bytes }) refl)
   line_ends {number = number} {c = c} script (source folder certificate failing) =
       none_done _ c [] _ (source_left (record { number = number; command = Load folder certificate }) script.commands
       folder certificate refl failing)
-  line_ends {number = number} {c = c} script (memory folder certificate) =
+  line_ends {number = number} {c = c} script (memory folder certificate short) =
       none_done _ c [] _ (memory_left (record { number = number; command = Load folder certificate }) script.commands
-      folder certificate refl)
+      folder certificate refl short)
   line_ends {number = number} {c = c} script (unwritten asked part answer after answered first) =
       none_done _ c part _ (unwritten_left (record { number = number; command = asked }) script.commands part answer
       after answered first)
@@ -98,18 +100,18 @@ module _ (images certificates : List ℕ → List ℕ → Type 0) (failed_at : A
   -- ---- all lines
 
   run_of : {number : ℕ} {lines : List (List ℕ)} {c : CardState} {written : List ℕ} {end : ScriptEnd}
-      → Plays images certificates failed_at number lines c written end → Is (script_from number lines) c written end
+      → Plays images certificates reads number lines c written end → Is (script_from number lines) c written end
   unfolding script_from
   run_of (over number c) = none_done _ c [] _ (over_left refl)
   run_of (line number first more c after part behind end played rest) =
-      line_done number (line_at number first) (script_from (suc number) more) c after part behind end played
+      line_done number first (line_at number first) (script_from (suc number) more) c after part behind end played
       (run_of rest)
   run_of (ended number first more c part end e) = line_ends (script_from (suc number) more) e
   run_of (unread number more c) = none_done _ c [] _ (unread_left _)
 
   pub played_on : {script : List ℕ} {c : CardState} {before : List ℕ} {now : Option (List ℕ)} {end : ScriptEnd}
-      → PlaysFrom images certificates failed_at 1 script c before now end
-      → PlaysOn images certificates failed_at script c before now end
+      → PlaysFrom images certificates reads 1 script c before now end
+      → PlaysOn images certificates reads script c before now end
   played_on p = record { written = p.written; played = run_of p.plays; now_is = p.now_is }
 
 -- ---- what it accesses

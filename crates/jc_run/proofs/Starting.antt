@@ -7,7 +7,7 @@ use Rattle.jc_machine.specs.Limits.{are_limits}
 use Rattle.jc_card.specs.declared.fault.CardFault.{CardFault}
 use Rattle.jc_card.specs.declared.fault.CardFault.TheVariants as cards
 use Rattle.jc_machine.specs.declared.limits.Limits.{Limits}
-use Rattle.jc_source.specs.Source.{Asked}
+use Rattle.jc_source.specs.Source.{SourceEnd}
 use Rattle.jc_run.proofs.Ending.{none_more}
 use Rattle.jc_run.specs.Isolation.{AreIsolated}
 use Rattle.jc_run.specs.NeverStuck.{IsNeverStuck}
@@ -30,18 +30,18 @@ pub limits_fit : {A : Type 0} (fit : Bool) (result made : Result A CardFault)
     → result ≡ made → (made ≡ Err cards.BadLimits → ⊥) → fit ≡ true
 limits_fit fit result made h1 h2 h3 = grind arith
 
-module _ (images certificates : List ℕ → List ℕ → Type 0) (failed_at : Asked → Type 0) (limits : Limits)
+module _ (images certificates : List ℕ → List ℕ → Type 0) (reads : SourceEnd) (limits : Limits)
     (binding : Bound) (lawful : AreLawful limits binding) (script before : List ℕ)
     (now : Option (List ℕ)) {A : Type 0} (result : Result A CardFault)
     (told : (result ≡ Err cards.BadLimits) ↔ (are_limits limits ≡ false)) where
   simulated : (written : List ℕ) (end : ScriptEnd)
-      → RunsTo images certificates failed_at limits binding script written end
-      → IsSimulated images certificates failed_at limits binding script written end
+      → RunsTo images certificates reads limits binding script written end
+      → IsSimulated images certificates reads limits binding script written end
   simulated written end runs = grind arith
 
   pub made_runs : (card : A) (end : ScriptEnd) → result ≡ Ok card
-      → PlaysOn images certificates failed_at script (new_card limits binding) before now end
-      → HasRun images certificates failed_at limits binding script before now end
+      → PlaysOn images certificates reads script (new_card limits binding) before now end
+      → HasRun images certificates reads limits binding script before now end
   made_runs card end is p = record {
     written = p.written;
     simulated = simulated p.written end (played p.written end
@@ -50,7 +50,7 @@ module _ (images certificates : List ℕ → List ℕ → Type 0) (failed_at : A
   }
 
   pub not_made : (fault : CardFault) → result ≡ Err fault → now ≡ Some before
-      → HasRun images certificates failed_at limits binding script before now (end_of_fault (card_fault fault))
+      → HasRun images certificates reads limits binding script before now (end_of_fault (card_fault fault))
   not_made cards.BadLimits is known =
       record { written = []; simulated = simulated [] BadLimits (unfit (told.0 is)); now_is = none_more known }
   not_made cards.Memory is known = record {

@@ -19,7 +19,7 @@ source_fault number sources.Failed = faults.Source number
 source_fault number sources.Memory = faults.Memory
 
 abbrev pub end_of_fault : ScriptFault → ScriptEnd
-end_of_fault (faults.BadLine number fault) = BadLine number
+end_of_fault (faults.BadLine number fault) = BadLine number fault
 end_of_fault (faults.Source number) = SourceFailed number
 end_of_fault (faults.Read fault) = NotRead
 end_of_fault (faults.Write error) = NotWritten

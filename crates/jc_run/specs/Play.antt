@@ -1,7 +1,6 @@
 -- The answers of the defensive machine's card to commands, and the ends of scripts. The contents of the source of
 -- packages are two relations: the image of a package under a name, and the bytes of a certificate under a name.
-use Rattle.std.specs.Prelude.{◌≡◌, ◌+◌, ℕ, nat_lt, true, List, [], ◌∷◌, ◌++◌, length, Option, Some, Result, Ok, Err}
-use Rattle.std.specs.Prelude.{if◌then◌else◌}
+use Rattle.std.specs.Prelude.{◌≡◌, ℕ, true, List, [], ◌∷◌, ◌++◌, length, Option, Some, Result, Ok, Err}
 use Rattle.jc_base.specs.declared.fault.LoadFault.{LoadFault}
 use Rattle.jc_card.specs.Card.{CardState, with_steps}
 use Rattle.jc_card.specs.Commands.{apdu_command, reset_command}
@@ -13,9 +12,6 @@ use Rattle.jc_source.specs.Source.{Asked, Certificate, Image}
 use Rattle.jc_run.specs.Answer as answers
 use Rattle.jc_run.specs.Answer.{Answered, Installed, Loaded, NotInstalled, NotLoaded, Responds, WasReset, line_of}
 use Rattle.jc_script.specs.Script.{Apdu, Cells, Install, Load, Objects, Reset, ScriptCommand, Steps}
-use Rattle.jc_script.specs.Script.{most_in_line, most_lines}
-use Rattle.jc_script.specs.Faults.{fault_at}
-use Rattle.jc_script.specs.declared.fault.LineCause.TheVariants.{TooLong, TooMany}
 use Rattle.jc_script.specs.declared.fault.LineFault.{LineFault}
 use Rattle.jc_store.specs.Heap.{cells_in}
 
@@ -73,11 +69,11 @@ answer_line answer = line_of answer ++ 10 ∷ []
 
 -- ---- how a script ends
 
--- all lines are done; a line is no command; a file of a line can't be read; the script can't be read; an answer can't
--- be written; out of memory; bad limits of the card
+-- all lines are done; a line is no command, for this fault; a file of a line can't be read; the script can't be read; an
+-- answer can't be written; out of memory; bad limits of the card
 pub data ScriptEnd : Type 0 where
   Over : ScriptEnd
-  BadLine : (number : ℕ) → ScriptEnd
+  BadLine : (number : ℕ) (fault : LineFault) → ScriptEnd
   SourceFailed : (number : ℕ) → ScriptEnd
   NotRead : ScriptEnd
   NotWritten : ScriptEnd
@@ -89,11 +85,6 @@ pub data IsFailing (failed_at : Asked → Type 0) (folder certificate : List ℕ
   image : failed_at (Image folder) → IsFailing failed_at folder certificate
   certificate : failed_at (Certificate certificate) → IsFailing failed_at folder certificate
 
--- the fault of a line that isn't read whole: it comes after the last that a script may have, or is too long
-abbrev pub unread_fault : ℕ → LineFault
-unread_fault number =
-    if nat_lt most_lines number then fault_at TooMany 1 else fault_at TooLong (most_in_line + 1)
-
 -- the first part of some bytes
 pub record IsPart (bytes whole : List ℕ) : Type 0 where
   pub rest : List ℕ
@@ -102,7 +93,7 @@ pub record IsPart (bytes whole : List ℕ) : Type 0 where
 -- how many reads of the source failed: one, if it ended the script
 abbrev pub failures_at : ScriptEnd → ℕ
 failures_at Over = 0
-failures_at (BadLine number) = 0
+failures_at (BadLine number fault) = 0
 failures_at (SourceFailed number) = 1
 failures_at NotRead = 0
 failures_at NotWritten = 0

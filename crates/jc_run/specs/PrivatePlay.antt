@@ -4,12 +4,14 @@ use Rattle.jc_base.specs.declared.fault.LoadFault.{LoadFault}
 use Rattle.jc_card.specs.Card.{CardState}
 use Rattle.jc_card.specs.Load.{IsLoad}
 use Rattle.jc_card.specs.Reads.{CardWords, Holds}
-use Rattle.jc_source.specs.Source.{Asked}
+use Rattle.jc_source.specs.Source.{SourceEnd}
 use Rattle.jc_run.specs.Answer.{Answered}
 use Rattle.jc_run.specs.Play.{BadLimits, BadLine, IsAnswered, IsFailing, IsPart, NoMemory, NotRead, NotWritten, Over}
 use Rattle.jc_run.specs.Play.{ScriptEnd, SourceFailed, answer_line, load_answer}
 use Rattle.jc_script.specs.Reading.{BeginsBad, TakesLine}
 use Rattle.jc_script.specs.Script.{Asks, Bad, Load, ScriptCommand, ScriptLine, Skipped, line_at, lines_of}
+use Rattle.jc_script.specs.Whole.{bad_fault, unread_fault}
+use Rattle.jc_script.specs.declared.fault.LineFault.{LineFault}
 
 -- ---- lines
 
@@ -28,38 +30,38 @@ IsLinePlayed images certificates c (Asks command) written after =
     IsCommandPlayed images certificates c command written after
 IsLinePlayed images certificates c Bad written after = ⊥
 
--- what is written for a line that ends the script, and the end
-pub data EndsAt (images certificates : List ℕ → List ℕ → Type 0) (failed_at : Asked → Type 0) (c : CardState)
-    (number : ℕ) : ScriptLine → List ℕ → ScriptEnd → Type 0 where
-  bad : EndsAt images certificates failed_at c number Bad [] (BadLine number)
-  source : (folder certificate : List ℕ) → IsFailing failed_at folder certificate
-      → EndsAt images certificates failed_at c number (Asks (Load folder certificate)) [] (SourceFailed number)
-  memory : (folder certificate : List ℕ)
-      → EndsAt images certificates failed_at c number (Asks (Load folder certificate)) [] NoMemory
+-- what is written for a line that ends the script, and the end; if the line is no command it has this fault
+pub data EndsAt (images certificates : List ℕ → List ℕ → Type 0) (reads : SourceEnd) (c : CardState)
+    (number : ℕ) (told : LineFault) : ScriptLine → List ℕ → ScriptEnd → Type 0 where
+  bad : EndsAt images certificates reads c number told Bad [] (BadLine number told)
+  source : (folder certificate : List ℕ) → IsFailing reads.failed_at folder certificate
+      → EndsAt images certificates reads c number told (Asks (Load folder certificate)) [] (SourceFailed number)
+  memory : (folder certificate : List ℕ) → reads.short ≡ 1
+      → EndsAt images certificates reads c number told (Asks (Load folder certificate)) [] NoMemory
   unwritten : (command : ScriptCommand) (written : List ℕ) (answer : Answered) (after : CardState)
       → IsAnswered images certificates c command answer after → IsPart written (answer_line answer)
-      → EndsAt images certificates failed_at c number (Asks command) written NotWritten
+      → EndsAt images certificates reads c number told (Asks command) written NotWritten
 
 -- the result of lines, of which the first has a number: the bytes that are written, and the end. The lines are played
 -- in order, each on the card that the one before it left
-pub data Plays (images certificates : List ℕ → List ℕ → Type 0) (failed_at : Asked → Type 0)
+pub data Plays (images certificates : List ℕ → List ℕ → Type 0) (reads : SourceEnd)
     : ℕ → List (List ℕ) → CardState → List ℕ → ScriptEnd → Type 0 where
-  over : (number : ℕ) (c : CardState) → Plays images certificates failed_at number [] c [] Over
+  over : (number : ℕ) (c : CardState) → Plays images certificates reads number [] c [] Over
   line : (number : ℕ) (first : List ℕ) (lines : List (List ℕ)) (c after : CardState) (written behind : List ℕ)
       (end : ScriptEnd) → IsLinePlayed images certificates c (line_at number first) written after
-      → Plays images certificates failed_at (suc number) lines after behind end
-      → Plays images certificates failed_at number (first ∷ lines) c (written ++ behind) end
+      → Plays images certificates reads (suc number) lines after behind end
+      → Plays images certificates reads number (first ∷ lines) c (written ++ behind) end
   ended : (number : ℕ) (first : List ℕ) (lines : List (List ℕ)) (c : CardState) (written : List ℕ) (end : ScriptEnd)
-      → EndsAt images certificates failed_at c number (line_at number first) written end
-      → Plays images certificates failed_at number (first ∷ lines) c written end
+      → EndsAt images certificates reads c number (bad_fault number first) (line_at number first) written end
+      → Plays images certificates reads number (first ∷ lines) c written end
   unread : (number : ℕ) (lines : List (List ℕ)) (c : CardState)
-      → Plays images certificates failed_at number lines c [] NotRead
+      → Plays images certificates reads number lines c [] NotRead
 
 -- what was appended to the output, and the end, are the result of these lines; the first has a number
-pub record PlaysFrom (images certificates : List ℕ → List ℕ → Type 0) (failed_at : Asked → Type 0) (number : ℕ)
+pub record PlaysFrom (images certificates : List ℕ → List ℕ → Type 0) (reads : SourceEnd) (number : ℕ)
     (bytes : List ℕ) (c : CardState) (before : List ℕ) (now : Option (List ℕ)) (end : ScriptEnd) : Type 0 where
   pub written : List ℕ
-  pub plays : Plays images certificates failed_at number (lines_of bytes) c written end
+  pub plays : Plays images certificates reads number (lines_of bytes) c written end
   pub now_is : now ≡ Some (before ++ written)
 
 -- ---- parts
@@ -93,10 +95,10 @@ pub record IsLineDone (images certificates : List ℕ → List ℕ → Type 0) (
   pub now_is : now ≡ Some (before ++ written)
 
 -- a line ends the script
-pub record IsLineEnd (images certificates : List ℕ → List ℕ → Type 0) (failed_at : Asked → Type 0) (c : CardState)
-    (number : ℕ) (said : ScriptLine) (before : List ℕ) (now : Option (List ℕ)) (end : ScriptEnd) : Type 0 where
+pub record IsLineEnd (images certificates : List ℕ → List ℕ → Type 0) (reads : SourceEnd) (c : CardState) (number : ℕ)
+    (told : LineFault) (said : ScriptLine) (before : List ℕ) (now : Option (List ℕ)) (end : ScriptEnd) : Type 0 where
   pub written : List ℕ
-  pub ends : EndsAt images certificates failed_at c number said written end
+  pub ends : EndsAt images certificates reads c number told said written end
   pub now_is : now ≡ Some (before ++ written)
 
 -- a read: a line was taken off, or none is left
@@ -112,7 +114,8 @@ IsRead number taken bytes left false = lines_of bytes ≡ []
 -- no line is read: the first line is bad, or the reader fails
 abbrev pub IsUnread : ℕ → List ℕ → ScriptEnd → Type 0
 IsUnread number bytes Over = ⊥
-IsUnread number bytes (BadLine told) = (told ≡ number) × BeginsBad number (lines_of bytes)
+IsUnread number bytes (BadLine told fault) =
+    (told ≡ number) × (fault ≡ unread_fault number) × BeginsBad number (lines_of bytes)
 IsUnread number bytes (SourceFailed told) = ⊥
 IsUnread number bytes NotRead = ⊤
 IsUnread number bytes NotWritten = ⊥
@@ -122,7 +125,8 @@ IsUnread number bytes BadLimits = ⊥
 -- no line is left; or no line is read, as above
 abbrev pub IsEnd : ℕ → List ℕ → ScriptEnd → Type 0
 IsEnd number bytes Over = lines_of bytes ≡ []
-IsEnd number bytes (BadLine told) = (told ≡ number) × BeginsBad number (lines_of bytes)
+IsEnd number bytes (BadLine told fault) =
+    (told ≡ number) × (fault ≡ unread_fault number) × BeginsBad number (lines_of bytes)
 IsEnd number bytes (SourceFailed told) = ⊥
 IsEnd number bytes NotRead = ⊤
 IsEnd number bytes NotWritten = ⊥
@@ -138,16 +142,16 @@ pub record IsTurn (images certificates : List ℕ → List ℕ → Type 0) (numb
   pub lines : lines_of bytes ≡ first ∷ lines_of rest
   pub done : IsLineDone images certificates c (line_at number first) after before now
 
-abbrev pub Turns : (images certificates : List ℕ → List ℕ → Type 0) → (failed_at : Asked → Type 0) → ℕ → List ℕ
+abbrev pub Turns : (images certificates : List ℕ → List ℕ → Type 0) → (reads : SourceEnd) → ℕ → List ℕ
     → CardState → CardWords → Option (List ℕ) → List ℕ → Option (List ℕ) → Bool → Type 0
-Turns images certificates failed_at number bytes c after left before now true =
+Turns images certificates reads number bytes c after left before now true =
     IsTurn images certificates number bytes c after left before now
-Turns images certificates failed_at number bytes c after left before now false =
-    PlaysFrom images certificates failed_at number bytes c before now Over
+Turns images certificates reads number bytes c after left before now false =
+    PlaysFrom images certificates reads number bytes c before now Over
 
 -- lines are played: if the lines that are left have a result, all lines have that result after what is written,
 -- whatever the source is at the end
-pub record HasPlayed {S : Type 0} (images certificates : List ℕ → List ℕ → Type 0) (failed_at : S → Asked → Type 0)
+pub record HasPlayed {S : Type 0} (images certificates : List ℕ → List ℕ → Type 0) (reads : S → SourceEnd)
     (c : CardState) (script before : List ℕ) (number : ℕ) (after : CardWords) (left now : Option (List ℕ))
     : Type 0 where
   pub card : CardState
@@ -157,5 +161,5 @@ pub record HasPlayed {S : Type 0} (images certificates : List ℕ → List ℕ �
   pub written : List ℕ
   pub now_is : now ≡ Some (before ++ written)
   pub leads : (s : S) (behind : List ℕ) (end : ScriptEnd)
-      → Plays images certificates (failed_at s) number (lines_of rest) card behind end
-      → Plays images certificates (failed_at s) 1 (lines_of script) c (written ++ behind) end
+      → Plays images certificates (reads s) number (lines_of rest) card behind end
+      → Plays images certificates (reads s) 1 (lines_of script) c (written ++ behind) end

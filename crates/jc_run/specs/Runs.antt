@@ -12,15 +12,15 @@ use Rattle.jc_machine.specs.Limits.{are_limits}
 use Rattle.jc_card.specs.Order.{Resets, apdu_order, install_order}
 use Rattle.jc_machine.specs.declared.limits.Limits.{Limits}
 use Rattle.jc_machine.specs.Machine.{Touch}
-use Rattle.jc_source.specs.Source.{Asked}
+use Rattle.jc_source.specs.Source.{SourceEnd}
 use Rattle.jc_run.specs.Answer.{Answered}
 use Rattle.jc_run.specs.CardRun.{IsCardRun}
 use Rattle.jc_run.specs.Isolation.{AreIsolated}
 use Rattle.jc_run.specs.NeverStuck.{IsNeverStuck}
 use Rattle.jc_run.specs.Play.{BadLimits, BadLine, IsAnswered, IsFailing, IsPart, NoMemory, NotRead, NotWritten, Over}
 use Rattle.jc_run.specs.Play.{ScriptEnd, SourceFailed, answer_line}
-use Rattle.jc_script.specs.Script.{Apdu, Cells, Install, Load, Numbered, Objects, Reset, Script, ScriptCommand}
-use Rattle.jc_script.specs.Script.{Steps, script_commands}
+use Rattle.jc_script.specs.Script.{Apdu, Cells, Install, Load, Objects, Reset, ScriptCommand, Steps}
+use Rattle.jc_script.specs.Whole.{FaultyLine, Numbered, Script, script_commands}
 
 -- ---- the law of its accesses
 
@@ -79,27 +79,28 @@ answer_lines [] = []
 answer_lines (answer ∷ answers) = answer_line answer ++ answer_lines answers
 
 -- the end of a script, on the card after the commands that were performed: which commands are left, what is written
--- after the answers, and the end. All are performed; or all up to a line that is none; a file of the next one, which is
--- a load, can't be read, and the last read that failed was of it, or memory runs out for its files; the script can't be
--- read; or a part of the next one's answer is written
-pub data EndsWith (images certificates : List ℕ → List ℕ → Type 0) (failed_at : Asked → Type 0) (c : CardState)
-    (bad : Option ℕ) : List Numbered → List ℕ → ScriptEnd → Type 0 where
-  over : bad ≡ None → EndsWith images certificates failed_at c bad [] [] Over
-  bad_line : (number : ℕ) → bad ≡ Some number → EndsWith images certificates failed_at c bad [] [] (BadLine number)
+-- after the answers, and the end. All are performed; or all up to a line that is none, for its fault; a file of the next
+-- one, which is a load, can't be read, and the last read that failed was of it; memory runs out for one of its files, and
+-- for no other read; the script can't be read; or a part of the next one's answer is written
+pub data EndsWith (images certificates : List ℕ → List ℕ → Type 0) (reads : SourceEnd) (c : CardState)
+    (bad : Option FaultyLine) : List Numbered → List ℕ → ScriptEnd → Type 0 where
+  over : bad ≡ None → EndsWith images certificates reads c bad [] [] Over
+  bad_line : (at : FaultyLine) → bad ≡ Some at
+      → EndsWith images certificates reads c bad [] [] (BadLine at.number at.fault)
   source : (next : Numbered) (left : List Numbered) (folder certificate : List ℕ)
-      → next.command ≡ Load folder certificate → IsFailing failed_at folder certificate
-      → EndsWith images certificates failed_at c bad (next ∷ left) [] (SourceFailed next.number)
+      → next.command ≡ Load folder certificate → IsFailing reads.failed_at folder certificate
+      → EndsWith images certificates reads c bad (next ∷ left) [] (SourceFailed next.number)
   memory : (next : Numbered) (left : List Numbered) (folder certificate : List ℕ)
-      → next.command ≡ Load folder certificate
-      → EndsWith images certificates failed_at c bad (next ∷ left) [] NoMemory
-  unread : (left : List Numbered) → EndsWith images certificates failed_at c bad left [] NotRead
+      → next.command ≡ Load folder certificate → reads.short ≡ 1
+      → EndsWith images certificates reads c bad (next ∷ left) [] NoMemory
+  unread : (left : List Numbered) → EndsWith images certificates reads c bad left [] NotRead
   unwritten : (next : Numbered) (left : List Numbered) (part : List ℕ) (answer : Answered) (after : CardState)
       → IsAnswered images certificates c next.command answer after → IsPart part (answer_line answer)
-      → EndsWith images certificates failed_at c bad (next ∷ left) part NotWritten
+      → EndsWith images certificates reads c bad (next ∷ left) part NotWritten
 
 -- a script on a card: its commands are performed in order, up to an end. Their answers are what is written, each answer
 -- in a line of its own
-pub record IsPlayed (images certificates : List ℕ → List ℕ → Type 0) (failed_at : Asked → Type 0) (script : Script)
+pub record IsPlayed (images certificates : List ℕ → List ℕ → Type 0) (reads : SourceEnd) (script : Script)
     (c : CardState) (written : List ℕ) (end : ScriptEnd) : Type 0 where
   pub done : List Numbered
   pub left : List Numbered
@@ -111,24 +112,24 @@ pub record IsPlayed (images certificates : List ℕ → List ℕ → Type 0) (fa
   pub run : IsCardRun images certificates (commands_of done) c answers touches ran card
   pub part : List ℕ
   pub lines : written ≡ answer_lines answers ++ part
-  pub ends : EndsWith images certificates failed_at card script.bad left part end
+  pub ends : EndsWith images certificates reads card script.bad left part end
 
--- a script on a new card, which is made first: its limits are bad, or memory runs out for it, and then nothing is read
-pub data RunsTo (images certificates : List ℕ → List ℕ → Type 0) (failed_at : Asked → Type 0) (limits : Limits)
+-- a script on a new card, which is made first: its limits are bad, or memory runs out for it, and no command is performed
+pub data RunsTo (images certificates : List ℕ → List ℕ → Type 0) (reads : SourceEnd) (limits : Limits)
     (binding : Bound) (script : List ℕ) : List ℕ → ScriptEnd → Type 0 where
-  unfit : are_limits limits ≡ false → RunsTo images certificates failed_at limits binding script [] BadLimits
-  no_card : are_limits limits ≡ true → RunsTo images certificates failed_at limits binding script [] NoMemory
+  unfit : are_limits limits ≡ false → RunsTo images certificates reads limits binding script [] BadLimits
+  no_card : are_limits limits ≡ true → RunsTo images certificates reads limits binding script [] NoMemory
   played : (written : List ℕ) (end : ScriptEnd) → are_limits limits ≡ true
-      → IsPlayed images certificates failed_at (script_commands script) (new_card limits binding) written end
-      → RunsTo images certificates failed_at limits binding script written end
+      → IsPlayed images certificates reads (script_commands script) (new_card limits binding) written end
+      → RunsTo images certificates reads limits binding script written end
 
 -- the theorem: the responses are those of the defensive machine on a new card; each access is one that the firewall
 -- allows, or is denied, throws and changes nothing; contexts are isolated, on each card on which only the runtime runs
 -- as the runtime; the new card is such a card; and no list of commands is stuck there. Only the responses depend on the
 -- source's contents: the others hold for every list of commands, whatever is loaded
-pub record IsSimulated (images certificates : List ℕ → List ℕ → Type 0) (failed_at : Asked → Type 0) (limits : Limits)
+pub record IsSimulated (images certificates : List ℕ → List ℕ → Type 0) (reads : SourceEnd) (limits : Limits)
     (binding : Bound) (script written : List ℕ) (end : ScriptEnd) : Type 0 where
-  pub responses : RunsTo images certificates failed_at limits binding script written end
+  pub responses : RunsTo images certificates reads limits binding script written end
   pub accesses : AreGuarded anything anything
   pub isolated : AreIsolated anything anything
   pub apart : IsApartCard (new_card limits binding)

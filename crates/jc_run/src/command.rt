@@ -8,7 +8,7 @@ ghost use Rattle.jc_card.specs.Commands.{apdu_command};
 ghost use Rattle.jc_card.specs.Install.{install_command};
 ghost use Rattle.jc_card.specs.Reads.{Does, Holds};
 ghost use Rattle.jc_natives.specs.Kept.{are_bytes};
-ghost use Rattle.jc_source.specs.Source.{Asks, Certificate, HoldSame, IfFailed, Image, failures_in};
+ghost use Rattle.jc_source.specs.Source.{Asks, Certificate, HoldSame, IfFailed, Image, failures_in, shortages_in};
 ghost use Rattle.jc_run.specs.Answer.{Responds, shown};
 ghost use Rattle.jc_run.specs.Play.{IsFailing, install_answer};
 ghost use Rattle.jc_run.specs.Performs.{Answers, AsksSource, IsFailingOf, asked_by};
@@ -36,7 +36,8 @@ fn files_of<S: PackageSource>(
     folder: &str,
     certificate: &str,
 ) -> Result<PackageFiles, SourceFault>
-    requires { S.failed source.old < 2 ^ 31 }
+    requires few { S.failed source.old < 2 ^ 31 }
+    requires few_short { S.short source.old < 2 ^ 31 }
     ensures image { IfOk result (λ files. S.holds_image source.old folder.now files.image.items) }
     ensures bytes { IfOk result (λ files. are_bytes files.image.items ≡ true) }
     ensures certificate { IfOk result (λ files.
@@ -45,6 +46,7 @@ fn files_of<S: PackageSource>(
         (Image folder.now ∷ Certificate certificate.now ∷ [])) }
     ensures failing { IfFailed result (IsFailing (S.failed_at source.new) folder.now certificate.now) }
     ensures counted { S.failed source.new ≡ S.failed source.old + failures_in result }
+    ensures counted_short { S.short source.new ≡ S.short source.old + shortages_in result }
     ensures same_images { HoldSame (S.holds_image source.old) (S.holds_image source.new) }
     ensures same_certificates { HoldSame (S.holds_certificate source.old) (S.holds_certificate source.new) }
 {
@@ -120,7 +122,8 @@ pub fn perform<S: PackageSource>(
     source: &mut S,
     command: &ScriptCommand<'_>,
 ) -> Result<CommandAnswer, SourceFault>
-    requires { S.failed source.old < 2 ^ 31 }
+    requires few { S.failed source.old < 2 ^ 31 }
+    requires few_short { S.short source.old < 2 ^ 31 }
     ensures done { IfOk result (λ answer. (c : CardState) → Holds card.old c
         → Answers (S.holds_image source.old) (S.holds_certificate source.old) c (shown_command command.now)
         (shown answer) card.new) }
@@ -129,6 +132,7 @@ pub fn perform<S: PackageSource>(
     ensures kept { OnErr result (card.new ≡ card.old) }
     ensures asks { OnOk result (Asks (S.asked source.old) (S.asked source.new) (asked_by (shown_command command.now))) }
     ensures counted { S.failed source.new ≡ S.failed source.old + failures_in result }
+    ensures counted_short { S.short source.new ≡ S.short source.old + shortages_in result }
     ensures same_images { HoldSame (S.holds_image source.old) (S.holds_image source.new) }
     ensures same_certificates { HoldSame (S.holds_certificate source.old) (S.holds_certificate source.new) }
 {

@@ -13,8 +13,7 @@ ghost use Rattle.jc_machine.specs.declared.limits.Limits.{Limits};
 ghost use Rattle.jc_run.specs.Isolation.{AreIsolated};
 ghost use Rattle.jc_run.specs.NeverStuck.{GoesOn, IsNeverStuck};
 ghost use Rattle.jc_run.specs.Runs.{AreGuarded, anything};
-ghost use Rattle.jc_run.specs.Session.{MayRefuse};
-ghost use Rattle.jc_script.specs.Script.{Apdu, Asks, Cells, Install, Objects, Reset, Skipped, Steps};
+ghost use Rattle.jc_script.specs.Script.{Apdu, Install, Reset};
 
 use jc_card::{
     accesses_add_up, commands_are_answered, commands_are_guarded, commands_are_never_stuck,
@@ -40,17 +39,6 @@ pub(crate) fn commands_are_lawful()
     commands_are_never_stuck();
     accesses_add_up();
 }
-
-/// A session may refuse only a line that is no command, and a load. It does nothing.
-pub fn sessions_refuse_no_other_line()
-    ensures apdu { (bytes : List ℕ) → MayRefuse (Asks (Apdu bytes)) → ⊥ }
-    ensures install { (applet instance incoming : List ℕ) → MayRefuse (Asks (Install applet instance incoming)) → ⊥ }
-    ensures reset { MayRefuse (Asks Reset) → ⊥ }
-    ensures cells { MayRefuse (Asks Cells) → ⊥ }
-    ensures objects { MayRefuse (Asks Objects) → ⊥ }
-    ensures steps { (steps : ℕ) → MayRefuse (Asks (Steps steps)) → ⊥ }
-    ensures skipped { MayRefuse Skipped → ⊥ }
-{}
 
 /// A command that calls methods goes on only if the card of the defensive machine answers it. It does nothing.
 pub fn commands_that_go_on_are_answered()

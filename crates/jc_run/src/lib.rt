@@ -14,7 +14,7 @@ mod writing;
 pub use answer::CommandAnswer;
 pub use command::perform;
 pub use fault::ScriptFault;
-pub use laws::{commands_that_go_on_are_answered, sessions_refuse_no_other_line};
+pub use laws::commands_that_go_on_are_answered;
 pub use run::{play, run_script};
 pub use session::{converse, run_session};
 pub use telling::{LineRefusal, Teller};

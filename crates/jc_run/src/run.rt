@@ -4,14 +4,17 @@ ghost use Rattle.std.specs.Prelude.{false, ◌≡◌, ◌+◌, ◌<◌, ◌≤�
 ghost use Rattle.jc_machine.specs.Limits.{are_limits};
 ghost use Rattle.jc_card.specs.Card.{CardState};
 ghost use Rattle.jc_card.specs.Reads.{Holds};
-ghost use Rattle.jc_source.specs.Source.{HoldSame};
+ghost use Rattle.jc_source.specs.Source.{HoldSame, source_end};
 ghost use Rattle.jc_run.specs.End.{end_of, end_of_fault};
 ghost use Rattle.jc_run.specs.Performs.{HasRun, PlaysOn};
-ghost use Rattle.jc_run.specs.Play.{BadLimits, failures_at, unread_fault};
+ghost use Rattle.jc_run.specs.Play.{BadLimits, failures_at};
 ghost use Rattle.jc_run.specs.PrivatePlay.{IsLineDone, IsEnd, IsLineEnd, IsRead, IsUnread, PlaysFrom, Turns};
+ghost use Rattle.jc_script.specs.Faults.{fault_in};
 ghost use Rattle.jc_script.specs.Reading.{pending};
 ghost use Rattle.jc_script.specs.Script as script;
 ghost use Rattle.jc_script.specs.Shown.{shown_command};
+ghost use Rattle.jc_script.specs.Whole.{unread_fault};
+ghost use Rattle.jc_script.specs.declared.finding.Dialect.TheVariants as dialects;
 
 use crate::command::perform;
 use crate::fault::ScriptFault;
@@ -39,14 +42,17 @@ fn play_command<W: Write, S: PackageSource, T: Teller<S>>(
     command: &ScriptCommand<'_>,
     number: u32,
 ) -> Result<(), ScriptFault>
-    requires { S.failed source.old < 2 ^ 31 }
+    requires few { S.failed source.old < 2 ^ 31 }
+    requires few_short { S.short source.old < 2 ^ 31 }
     ensures done { OnOk result ((c : CardState) (before : List ℕ) → Holds card.old c
         → W.contents writer.old ≡ Some before
         → IsLineDone (S.holds_image source.old) (S.holds_certificate source.old) c
         (script.Asks (shown_command command.now)) card.new before (W.contents writer.new)) }
-    ensures ended { IfErr result (λ fault. (c : CardState) (before : List ℕ) → Holds card.old c
+    ensures none_short { OnOk result (S.short source.new ≡ S.short source.old) }
+    ensures ended { IfErr result (λ fault. (c : CardState) (before : List ℕ) (told : LineFault) → Holds card.old c
         → W.contents writer.old ≡ Some before
-        → IsLineEnd (S.holds_image source.old) (S.holds_certificate source.old) (S.failed_at source.new) c number
+        → IsLineEnd (S.holds_image source.old) (S.holds_certificate source.old)
+        (source_end (S.failed_at source.new) (S.short source.old) (S.short source.new)) c number told
         (script.Asks (shown_command command.now)) before (W.contents writer.new) (end_of_fault fault)) }
     ensures counted { S.failed source.new ≡ S.failed source.old + failures_at (end_of result) }
     ensures same_images { HoldSame (S.holds_image source.old) (S.holds_image source.new) }
@@ -77,15 +83,19 @@ fn play_line<W: Write, S: PackageSource, T: Teller<S>>(
     number: u32,
 ) -> Result<(), ScriptFault>
     requires few { S.failed source.old < 2 ^ 31 }
+    requires few_short { S.short source.old < 2 ^ 31 }
     requires short { length line.now ≤ 1024 }
     ensures done { OnOk result ((c : CardState) (before : List ℕ) → Holds card.old c
         → W.contents writer.old ≡ Some before
         → IsLineDone (S.holds_image source.old) (S.holds_certificate source.old) c
         (script.said_by line.now) card.new before (W.contents writer.new)) }
+    ensures none_short { OnOk result (S.short source.new ≡ S.short source.old) }
     ensures ended { IfErr result (λ fault. (c : CardState) (before : List ℕ) → Holds card.old c
         → W.contents writer.old ≡ Some before
-        → IsLineEnd (S.holds_image source.old) (S.holds_certificate source.old) (S.failed_at source.new) c number
-        (script.said_by line.now) before (W.contents writer.new) (end_of_fault fault)) }
+        → IsLineEnd (S.holds_image source.old) (S.holds_certificate source.old)
+        (source_end (S.failed_at source.new) (S.short source.old) (S.short source.new)) c number
+        (fault_in dialects.Script line.now) (script.said_by line.now) before (W.contents writer.new)
+        (end_of_fault fault)) }
     ensures counted { S.failed source.new ≡ S.failed source.old + failures_at (end_of result) }
     ensures same_images { HoldSame (S.holds_image source.old) (S.holds_image source.new) }
     ensures same_certificates { HoldSame (S.holds_certificate source.old) (S.holds_certificate source.new) }
@@ -155,16 +165,20 @@ fn play_next<R: Read, W: Write, S: PackageSource, T: Teller<S>>(
     lines: &mut ScriptReader,
     number: u32,
 ) -> Result<bool, ScriptFault>
-    requires { S.failed source.old < 2 ^ 31 }
+    requires few { S.failed source.old < 2 ^ 31 }
+    requires few_short { S.short source.old < 2 ^ 31 }
     ensures done { IfOk result (λ is_line. (c : CardState) (bytes before : List ℕ) → Holds card.old c
         → pending lines.old.unread (R.remaining reader.old) ≡ Some bytes → W.contents writer.old ≡ Some before
-        → Turns (S.holds_image source.old) (S.holds_certificate source.old) (S.failed_at source.new) number bytes c
-        card.new (pending lines.new.unread (R.remaining reader.new)) before (W.contents writer.new) is_line) }
+        → Turns (S.holds_image source.old) (S.holds_certificate source.old)
+        (source_end (S.failed_at source.new) (S.short source.old) (S.short source.new)) number bytes c card.new
+        (pending lines.new.unread (R.remaining reader.new)) before (W.contents writer.new) is_line) }
     ensures ended { IfErr result (λ fault. (c : CardState) (bytes before : List ℕ) → Holds card.old c
         → pending lines.old.unread (R.remaining reader.old) ≡ Some bytes → W.contents writer.old ≡ Some before
-        → PlaysFrom (S.holds_image source.old) (S.holds_certificate source.old) (S.failed_at source.new) number bytes
-        c before (W.contents writer.new) (end_of_fault fault)) }
+        → PlaysFrom (S.holds_image source.old) (S.holds_certificate source.old)
+        (source_end (S.failed_at source.new) (S.short source.old) (S.short source.new)) number bytes c before
+        (W.contents writer.new) (end_of_fault fault)) }
     ensures none_failed { IfOk result (λ is_line. S.failed source.new ≡ S.failed source.old) }
+    ensures none_short { IfOk result (λ is_line. S.short source.new ≡ S.short source.old) }
     ensures counted { IfErr result (λ fault.
         S.failed source.new ≡ S.failed source.old + failures_at (end_of_fault fault)) }
     ensures same_images { HoldSame (S.holds_image source.old) (S.holds_image source.new) }
@@ -209,10 +223,12 @@ pub fn play<R: Read, W: Write, S: PackageSource, T: Teller<S>>(
     card: &mut Card,
     teller: &mut T,
 ) -> Result<(), ScriptFault>
-    requires { S.failed source.old < 2 ^ 31 }
+    requires few { S.failed source.old < 2 ^ 31 }
+    requires few_short { S.short source.old < 2 ^ 31 }
     ensures played { (c : CardState) (bytes before : List ℕ) → Holds card.old c
         → R.remaining reader.old ≡ Some bytes → W.contents writer.old ≡ Some before
-        → PlaysOn (S.holds_image source.old) (S.holds_certificate source.old) (S.failed_at source.new) bytes c before
+        → PlaysOn (S.holds_image source.old) (S.holds_certificate source.old)
+        (source_end (S.failed_at source.new) (S.short source.old) (S.short source.new)) bytes c before
         (W.contents writer.new) (end_of result) }
     ensures counted { S.failed source.new ≡ S.failed source.old + failures_at (end_of result) }
     ensures same_images { HoldSame (S.holds_image source.old) (S.holds_image source.new) }
@@ -242,10 +258,12 @@ pub fn run_script<R: Read, W: Write, S: PackageSource, T: Teller<S>>(
     limits: Limits,
     binding: &Binding,
 ) -> Result<(), ScriptFault>
-    requires { S.failed source.old < 2 ^ 31 }
+    requires few { S.failed source.old < 2 ^ 31 }
+    requires few_short { S.short source.old < 2 ^ 31 }
     ensures run { (bytes before : List ℕ) → R.remaining reader.old ≡ Some bytes → W.contents writer.old ≡ Some before
-        → HasRun (S.holds_image source.old) (S.holds_certificate source.old) (S.failed_at source.new) limits
-        binding.now bytes before (W.contents writer.new) (end_of result) }
+        → HasRun (S.holds_image source.old) (S.holds_certificate source.old)
+        (source_end (S.failed_at source.new) (S.short source.old) (S.short source.new)) limits binding.now bytes before
+        (W.contents writer.new) (end_of result) }
     ensures limits { are_limits limits ≡ false → (end_of result ≡ BadLimits)
         × (R.remaining reader.new ≡ R.remaining reader.old) × (W.contents writer.new ≡ W.contents writer.old) }
     ensures counted { S.failed source.new ≡ S.failed source.old + failures_at (end_of result) }

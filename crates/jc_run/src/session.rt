@@ -8,7 +8,7 @@ ghost use Rattle.jc_source.specs.Source.{HoldSame};
 ghost use Rattle.jc_run.specs.End.{end_of, end_of_fault};
 ghost use Rattle.jc_run.specs.Play.{BadLimits};
 ghost use Rattle.jc_run.specs.PrivateSession.{ConversesFrom, EndsLine, IsLineHeld, SessionTurns};
-ghost use Rattle.jc_run.specs.Session.{ConversesOn, HasHeld};
+ghost use Rattle.jc_run.specs.Session.{ConversesOn, HasHeld, fault_count};
 ghost use Rattle.jc_script.specs.Reading.{pending};
 ghost use Rattle.jc_script.specs.Script as script;
 ghost use Rattle.jc_script.specs.Shown.{shown_command};
@@ -29,14 +29,22 @@ use jc_source::{PackageSource, SourceFault};
 use std::alloc::Global;
 use std::io::{Read, Write};
 
-/// The most reads of a source that may fail.
-const MOST_FAILURES: u32 = 2_147_483_647;
+/// The most reads of a source that may fail, or run out of memory.
+const MOST_FAULTS: u32 = 2_147_483_647;
 
 /// A line that is too long.
 const TOO_LONG: LineRefusal = LineRefusal::Bad(LineFault {
     cause: LineCause::TooLong,
     column: MOST_IN_LINE + 1,
 });
+
+/// Whether a source has counted as many faults as it may.
+fn has_most_faults<S: PackageSource>(source: &S) -> bool
+    ensures few { result ≡ false → S.failed source.now < 2 ^ 31 }
+    ensures few_short { result ≡ false → S.short source.now < 2 ^ 31 }
+{
+    source.failures() > MOST_FAULTS || source.shortages() > MOST_FAULTS
+}
 
 /// The refusal of a load for a fault of the source.
 fn refusal_of(fault: SourceFault) -> LineRefusal {
@@ -56,15 +64,19 @@ fn converse_command<W: Write, S: PackageSource, T: Teller<S>>(
     command: &ScriptCommand<'_>,
     number: u64,
 ) -> Result<(), ScriptFault>
-    requires { S.failed source.old < 2 ^ 31 }
+    requires few { S.failed source.old < 2 ^ 31 }
+    requires few_short { S.short source.old < 2 ^ 31 }
     ensures done { OnOk result ((c : CardState) (before : List ℕ) → Holds card.old c
         → W.contents writer.old ≡ Some before
-        → IsLineHeld (S.holds_image source.old) (S.holds_certificate source.old) c
+        → IsLineHeld (S.holds_image source.old) (S.holds_certificate source.old)
+        (fault_count (S.failed source.old) (S.short source.old) (S.failed source.new) (S.short source.new)) c
         (script.Asks (shown_command command.now)) card.new before (W.contents writer.new)) }
     ensures ended { IfErr result (λ fault. (c : CardState) (before : List ℕ) → Holds card.old c
         → W.contents writer.old ≡ Some before
         → EndsLine (S.holds_image source.old) (S.holds_certificate source.old) c
         (script.Asks (shown_command command.now)) before (W.contents writer.new) (end_of_fault fault)) }
+    ensures none_counted { IfErr result (λ fault. S.failed source.new ≡ S.failed source.old) }
+    ensures none_short { IfErr result (λ fault. S.short source.new ≡ S.short source.old) }
     ensures same_images { HoldSame (S.holds_image source.old) (S.holds_image source.new) }
     ensures same_certificates { HoldSame (S.holds_certificate source.old) (S.holds_certificate source.new) }
 {
@@ -95,15 +107,19 @@ fn converse_line<W: Write, S: PackageSource, T: Teller<S>>(
     number: u64,
 ) -> Result<(), ScriptFault>
     requires few { S.failed source.old < 2 ^ 31 }
+    requires few_short { S.short source.old < 2 ^ 31 }
     requires short { length line.now ≤ 1024 }
     ensures done { OnOk result ((c : CardState) (before : List ℕ) → Holds card.old c
         → W.contents writer.old ≡ Some before
-        → IsLineHeld (S.holds_image source.old) (S.holds_certificate source.old) c
+        → IsLineHeld (S.holds_image source.old) (S.holds_certificate source.old)
+        (fault_count (S.failed source.old) (S.short source.old) (S.failed source.new) (S.short source.new)) c
         (script.said_in_session line.now) card.new before (W.contents writer.new)) }
     ensures ended { IfErr result (λ fault. (c : CardState) (before : List ℕ) → Holds card.old c
         → W.contents writer.old ≡ Some before
         → EndsLine (S.holds_image source.old) (S.holds_certificate source.old) c
         (script.said_in_session line.now) before (W.contents writer.new) (end_of_fault fault)) }
+    ensures none_counted { IfErr result (λ fault. S.failed source.new ≡ S.failed source.old) }
+    ensures none_short { IfErr result (λ fault. S.short source.new ≡ S.short source.old) }
     ensures same_images { HoldSame (S.holds_image source.old) (S.holds_image source.new) }
     ensures same_certificates { HoldSame (S.holds_certificate source.old) (S.holds_certificate source.new) }
 {
@@ -132,14 +148,17 @@ fn converse_next<R: Read, W: Write, S: PackageSource, T: Teller<S>>(
     lines: &mut ScriptReader,
     number: u64,
 ) -> Result<bool, ScriptFault>
-    requires { S.failed source.old < 2 ^ 31 }
+    requires few { S.failed source.old < 2 ^ 31 }
+    requires few_short { S.short source.old < 2 ^ 31 }
     ensures done { IfOk result (λ is_line. (c : CardState) (bytes before : List ℕ) → Holds card.old c
         → pending lines.old.unread (R.remaining reader.old) ≡ Some bytes → W.contents writer.old ≡ Some before
-        → SessionTurns (S.holds_image source.old) (S.holds_certificate source.old) bytes c card.new
+        → SessionTurns (S.holds_image source.old) (S.holds_certificate source.old)
+        (fault_count (S.failed source.old) (S.short source.old) (S.failed source.new) (S.short source.new)) bytes c card.new
         (pending lines.new.unread (R.remaining reader.new)) before (W.contents writer.new) is_line) }
     ensures ended { IfErr result (λ fault. (c : CardState) (bytes before : List ℕ) → Holds card.old c
         → pending lines.old.unread (R.remaining reader.old) ≡ Some bytes → W.contents writer.old ≡ Some before
-        → ConversesFrom (S.holds_image source.old) (S.holds_certificate source.old) bytes c before
+        → ConversesFrom (S.holds_image source.old) (S.holds_certificate source.old)
+        (fault_count (S.failed source.old) (S.short source.old) (S.failed source.new) (S.short source.new)) bytes c before
         (W.contents writer.new) (end_of_fault fault)) }
     ensures same_images { HoldSame (S.holds_image source.old) (S.holds_image source.new) }
     ensures same_certificates { HoldSame (S.holds_certificate source.old) (S.holds_certificate source.new) }
@@ -170,14 +189,15 @@ pub fn converse<R: Read, W: Write, S: PackageSource, T: Teller<S>>(
 ) -> Result<(), ScriptFault>
     ensures held { (c : CardState) (bytes before : List ℕ) → Holds card.old c
         → R.remaining reader.old ≡ Some bytes → W.contents writer.old ≡ Some before
-        → ConversesOn (S.holds_image source.old) (S.holds_certificate source.old) bytes c before
+        → ConversesOn (S.holds_image source.old) (S.holds_certificate source.old)
+        (fault_count (S.failed source.old) (S.short source.old) (S.failed source.new) (S.short source.new)) bytes c before
         (W.contents writer.new) (end_of result) }
     ensures same_images { HoldSame (S.holds_image source.old) (S.holds_image source.new) }
     ensures same_certificates { HoldSame (S.holds_certificate source.old) (S.holds_certificate source.new) }
 {
     let mut lines = ScriptReader::new();
     for number in 1..u64::MAX {
-        if source.failures() > MOST_FAILURES {
+        if has_most_faults(source) {
             return Err(ScriptFault::Read(ReadFault::TooManyReads));
         }
         if !converse_next(
@@ -202,8 +222,9 @@ pub fn run_session<R: Read, W: Write, S: PackageSource, T: Teller<S>>(
 ) -> Result<(), ScriptFault>
     ensures held { (bytes before : List ℕ) → R.remaining reader.old ≡ Some bytes
         → W.contents writer.old ≡ Some before
-        → HasHeld (S.holds_image source.old) (S.holds_certificate source.old) limits binding.now bytes before
-        (W.contents writer.new) (end_of result) }
+        → HasHeld (S.holds_image source.old) (S.holds_certificate source.old)
+        (fault_count (S.failed source.old) (S.short source.old) (S.failed source.new) (S.short source.new)) limits binding.now bytes
+        before (W.contents writer.new) (end_of result) }
     ensures limits { are_limits limits ≡ false → (end_of result ≡ BadLimits)
         × (R.remaining reader.new ≡ R.remaining reader.old) × (W.contents writer.new ≡ W.contents writer.old) }
     ensures same_images { HoldSame (S.holds_image source.old) (S.holds_image source.new) }

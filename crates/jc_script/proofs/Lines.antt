@@ -1,5 +1,6 @@
 -- The parts of reading a line, one behind the other.
-use Rattle.std.proofs.Common.{◌≡◌, ℕ, ◌<◌, ◌≤◌, true, List, [], ◌∷◌, ◌++◌, length, Option, Some, None, Result, Ok, Err, ap, ◌∙◌, sym, refl, arith, nat_lt, ◌||◌, append_assoc, append-nil}
+use Rattle.std.proofs.Common.{◌≡◌, ℕ, ◌<◌, ◌≤◌, List, [], ◌∷◌, ◌++◌, length, Option, Some, None, Result, Ok, Err}
+use Rattle.std.proofs.Common.{ap, ◌∙◌, sym, arith, append_assoc, append-nil}
 use Rattle.std.specs.Io.KnownBytes.{Consumes, IsAtEnd}
 use Rattle.std.proofs.lemmas.List.{length-append}
 use Rattle.std.specs.Prelude.{IfOk}
@@ -7,7 +8,7 @@ use Rattle.jc_script.proofs.Feeds.{feedless_append, line_begins, line_last, line
 use Rattle.jc_script.specs.PrivateReading.{AreSoFar, EndsPart, GoesOnPart, IsSoFar, IsTooLong}
 use Rattle.jc_script.specs.PrivateReading.{NoFeed, ReadsKnown, ReadsOn, TellsKnown, TellsMore, told_last}
 use Rattle.jc_script.specs.Reading.{SoFar, Tells, TellsOf, pending}
-use Rattle.jc_script.specs.Script.{Bad, line_at, lines_of, most_in_line, most_lines}
+use Rattle.jc_script.specs.Script.{lines_of, most_in_line, most_lines}
 use Rattle.jc_script.specs.declared.reader.NextLine.{NextLine}
 use Rattle.jc_script.specs.declared.reader.NextLine.TheVariants as next
 
@@ -106,10 +107,6 @@ at_end (Some bytes) (Some k) line unread s e u short =
 
 -- ---- the line with a number
 
-bad_if : (number : ℕ) (line : List ℕ) → (nat_lt most_lines number || nat_lt most_in_line (length line)) ≡ true
-    → line_at number line ≡ Bad
-bad_if number line e = rw e refl
-
 told_known : (number : ℕ) (line bytes rest : List ℕ) (told : NextLine) → number ≤ most_lines
     → ReadsKnown line bytes rest told → TellsOf number line bytes rest told
 told_known number line bytes rest next.Line few r = record { lines = r.0; short = r.1; few = few }
@@ -119,7 +116,7 @@ told_known number line bytes rest next.Bad few r =
       first = long.first;
       others = long.others;
       are = ap lines_of r.are ∙ long.are;
-      bad = bad_if number long.first (grind (arith, long.long));
+      unread = grind (arith, long.long);
     }
 
 pub told_short : (number : ℕ) (line : List ℕ) (before after : Option (List ℕ)) → number ≤ most_lines
@@ -138,7 +135,7 @@ past_known number line (b ∷ bytes) rest next.Bad past t =
       first = some.first;
       others = some.others;
       are = some.are;
-      bad = bad_if number some.first (grind (arith, past));
+      unread = grind (arith, past);
     }
 
 pub told_past : (number : ℕ) (line : List ℕ) (before after : Option (List ℕ)) → most_lines < number

@@ -1,7 +1,7 @@
--- The fault of a line that is no command, and its place. It is a message for people: no result of a script depends on
--- it.
+-- The fault of a line that is no command, and its place. A script that ends at such a line reports it; no answer depends
+-- on it.
 use Rattle.std.specs.Prelude.{ℕ, ◌+◌, ◌-◌, ◌/◌, ◌%◌, ◌==◌, ◌&&◌, Bool, true, false, not, nat_le, nat_lt}
-use Rattle.std.specs.Prelude.{List, [], ◌∷◌, ◌++◌, codes, length, Option, Some, None, option_map}
+use Rattle.std.specs.Prelude.{List, [], ◌∷◌, ◌++◌, codes, length, Option, Some, None}
 use Rattle.std.specs.Prelude.{replicate, bytes_eq, get_or, position, if◌then◌else◌, unwrap_or}
 use Rattle.std.specs.Char.{encode_utf8, is_ascii_hexdigit}
 use Rattle.std.specs.Fmt.{decimal}
@@ -11,7 +11,7 @@ use Rattle.hex.specs.Hex.{encode_upper}
 use Rattle.jc_api.specs.Text.{words_of}
 use Rattle.jc_base.specs.Aid.{has_aid_length}
 use Rattle.jc_api.specs.Options.{◌>>=◌}
-use Rattle.jc_script.specs.Script.{budget_of, control_in, cut_name, is_quote, name_of, quoted_names, trimmed}
+use Rattle.jc_script.specs.Script.{budget_of, cut_name, is_quote, name_of, quoted_names, trimmed}
 use Rattle.jc_script.specs.declared.fault.LineCause.{LineCause}
 use Rattle.jc_script.specs.declared.fault.LineCause.TheVariants.{AidLength, BlankTooMany, NoBudget, NoDigit, NotText}
 use Rattle.jc_script.specs.declared.fault.LineCause.TheVariants.{OddDigit, OpenQuote, TooLong, TooMany, UnknownCommand}
@@ -52,14 +52,9 @@ aid_fault column word =
     option_map_or Some (digits_fault column word)
     (if has_aid_length (length word / 2) then None else Some (fault_at AidLength column))
 
--- the first control byte
-abbrev pub control_fault : ℕ → List ℕ → Option LineFault
-control_fault column word =
-    option_map (λ at. fault_at (Unprintable (get_or word at 0)) (column + at)) (control_in word)
-
--- a name is UTF-8 without control bytes
+-- a name is UTF-8
 abbrev pub name_fault : ℕ → List ℕ → Option LineFault
-name_fault column word = if is_utf8 word then control_fault column word else Some (fault_at NotText column)
+name_fault column word = if is_utf8 word then None else Some (fault_at NotText column)
 
 -- a budget of steps
 abbrev pub budget_fault : ℕ → List ℕ → Option LineFault

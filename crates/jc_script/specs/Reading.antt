@@ -1,6 +1,6 @@
 -- The results of reading a script: a line, its end, or a line that is none.
-use Rattle.std.specs.Prelude.{⊤, ◌≡◌, ℕ, ◌≤◌, List, [], ◌∷◌, ◌++◌, length, Option, Some, None, option_map}
-use Rattle.jc_script.specs.Script.{Bad, line_at, lines_of, most_in_line, most_lines, session_line}
+use Rattle.std.specs.Prelude.{⊤, ◌≡◌, ℕ, ◌≤◌, true, List, [], ◌∷◌, ◌++◌, length, Option, Some, None, option_map}
+use Rattle.jc_script.specs.Script.{Bad, is_unread, lines_of, most_in_line, most_lines, session_line}
 use Rattle.jc_script.specs.declared.reader.NextLine.{NextLine}
 use Rattle.jc_script.specs.declared.reader.NextLine.TheVariants as next
 
@@ -13,12 +13,12 @@ pub record SoFar : Type 0 where
 abbrev pub pending : List ℕ → Option (List ℕ) → Option (List ℕ)
 pending unread known = option_map (λ bytes. unread ++ bytes) known
 
--- the first of these lines is bad, with its number
+-- the first of these lines isn't read whole, with its number
 pub record BeginsBad (number : ℕ) (lines : List (List ℕ)) : Type 0 where
   pub first : List ℕ
   pub others : List (List ℕ)
   pub are : lines ≡ first ∷ others
-  pub bad : line_at number first ≡ Bad
+  pub unread : is_unread number first ≡ true
 
 -- a line that isn't too long was taken off
 pub record TakesLine (number : ℕ) (line bytes rest : List ℕ) : Type 0 where

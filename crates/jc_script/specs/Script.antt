@@ -1,8 +1,8 @@
 -- Scripts: their lines, and the commands that these are. A byte is its number: 10 is the line feed.
 use Rattle.std.specs.Prelude.{ℕ, suc, ◌+◌, ◌-◌, ◌^◌, ◌==◌, ◌&&◌, ◌||◌, nat_le, nat_lt}
 use Rattle.std.specs.Prelude.{List, [], ◌∷◌, ◌++◌, drop, length, take, Option, Some, None}
-use Rattle.std.specs.Prelude.{Bool, bytes_eq, codes, not, position, if◌then◌else◌}
-use Rattle.std.specs.Char.{is_ascii_control, is_ascii_digit, is_ascii_whitespace}
+use Rattle.std.specs.Prelude.{Bool, bytes_eq, codes, position, if◌then◌else◌}
+use Rattle.std.specs.Char.{is_ascii_digit, is_ascii_whitespace}
 use Rattle.std.specs.List.{list_all, onto_first, suffix_len}
 use Rattle.std.specs.Option.{is_some, option_map_or}
 use Rattle.std.specs.Str.{is_utf8}
@@ -38,16 +38,12 @@ pub data ScriptCommand : Type 0 where
   Objects : ScriptCommand
   Steps : (steps : ℕ) → ScriptCommand
 
--- the index of the first control byte of ASCII, such as a carriage return or a tab
-abbrev pub control_in : List ℕ → Option ℕ
-control_in word = position is_ascii_control word
-
 abbrev pub text_of : List ℕ → Option (List ℕ)
 text_of word = if is_utf8 word then Some word else None
 
--- a name is UTF-8 without control bytes
+-- a name is UTF-8. It may have control bytes, such as a tab
 abbrev pub name_of : List ℕ → Option (List ℕ)
-name_of word = if nat_lt 0 (length word) && not (is_some (control_in word)) then text_of word else None
+name_of word = if nat_lt 0 (length word) then text_of word else None
 
 -- at least one byte, two hexadecimal digits each
 abbrev pub bytes_of : List ℕ → Option (List ℕ)
@@ -228,33 +224,10 @@ said_in_session line = said_trimmed (trimmed line)
 abbrev pub session_line : List ℕ → ScriptLine
 session_line line = if nat_lt most_in_line (length line) then Bad else said_in_session line
 
--- the meaning of a line by its number, from 1 on: a line that is too long is bad, and so is a line whose number is too
--- great
+-- a line isn't read whole if its number, from 1 on, is too great, or if it is too long
+abbrev pub is_unread : ℕ → List ℕ → Bool
+is_unread number line = nat_lt most_lines number || nat_lt most_in_line (length line)
+
+-- the meaning of a line by its number: a line that isn't read whole is bad
 abbrev pub line_at : ℕ → List ℕ → ScriptLine
-line_at number line =
-    if nat_lt most_lines number || nat_lt most_in_line (length line) then Bad else said_by line
-
--- ---- all of a script
-
--- a command, and the number of its line
-pub record Numbered : Type 0 where
-  pub number : ℕ
-  pub command : ScriptCommand
-
--- the commands up to the first bad line, and that line's number, if there is one
-pub record Script : Type 0 where
-  pub commands : List Numbered
-  pub bad : Option ℕ
-
-abbrev pub with_line : ℕ → ScriptLine → Script → Script
-with_line number Skipped script = script
-with_line number (Asks command) script =
-    record script { commands = record { number = number; command = command } ∷ script.commands }
-with_line number Bad script = record { commands = []; bad = Some number }
-
-unfoldable pub script_from : ℕ → List (List ℕ) → Script
-script_from number [] = record { commands = []; bad = None }
-script_from number (line ∷ lines) = with_line number (line_at number line) (script_from (suc number) lines)
-
-abbrev pub script_commands : List ℕ → Script
-script_commands bytes = script_from 1 (lines_of bytes)
+line_at number line = if is_unread number line then Bad else said_by line

@@ -2,7 +2,7 @@
 
 ghost use Rattle.std.specs.Prelude.{◌≡◌, ◌+◌, ◌<◌, ◌≤◌, length, not, position, IfSome};
 ghost use Rattle.std.specs.Char.{is_ascii_hexdigit};
-ghost use Rattle.jc_script.specs.Faults.{aid_fault, budget_fault, byte_cause, byte_forms, command_fault, control_fault};
+ghost use Rattle.jc_script.specs.Faults.{aid_fault, budget_fault, byte_cause, byte_forms, command_fault};
 ghost use Rattle.jc_api.specs.Text.{words_of};
 ghost use Rattle.jc_script.specs.Faults.{digits_fault, fault_among, fault_of, is_open, looked_at, open_fault};
 ghost use Rattle.jc_script.specs.Faults.{quote_fault, quote_fault_in, second_fault};
@@ -11,7 +11,7 @@ ghost use Rattle.jc_script.specs.Faults.{missing_fault, name_fault, odd_fault, s
 
 use crate::fault::{LineCause, LineFault};
 use crate::words::{
-    Words, budget_of, control_in, cut_name, name_of, quote_in, quoted_names, trimmed,
+    Words, budget_of, cut_name, name_of, quote_in, quoted_names, trimmed,
 };
 
 /// The kind of the line: a script's, or a session's, which has three more commands.
@@ -114,24 +114,12 @@ fn aid_fault(column: usize, word: &[u8]) -> Option<LineFault>
     }
 }
 
-/// The fault of a control byte in a name whose first byte is in a column.
-fn control_fault(column: usize, word: &[u8]) -> Option<LineFault>
-    requires { column + length word.now ≤ 1027 }
-    ensures { result ≡ control_fault column word.now }
-{
-    match control_in(word) {
-        Some(at) => Some(fault_at(LineCause::Unprintable(word[at]), column + at)),
-        None => None,
-    }
-}
-
 /// The fault of a name.
 fn name_fault(column: usize, word: &[u8]) -> Option<LineFault>
-    requires { column + length word.now ≤ 1027 }
     ensures { result ≡ name_fault column word.now }
 {
     match str::from_utf8(word) {
-        Ok(_) => control_fault(column, word),
+        Ok(_) => None,
         Err(_) => Some(fault_at(LineCause::NotText, column)),
     }
 }

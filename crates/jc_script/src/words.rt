@@ -9,7 +9,7 @@ ghost use Rattle.hex.specs.Hex.{decode_of};
 ghost use Rattle.jc_api.specs.Text.{given, is_skipped, spelled_aid, words_of};
 ghost use Rattle.jc_script.specs.PrivateWords.{shown_cut, words_left};
 ghost use Rattle.jc_script.specs.Script.{behind_quote, cut_at_quote, cut_at_space, cut_name, is_quote, quoted_names};
-ghost use Rattle.jc_script.specs.Script.{budget_in, budget_of, bytes_of, control_in, name_of, text_of, trimmed};
+ghost use Rattle.jc_script.specs.Script.{budget_in, budget_of, bytes_of, name_of, text_of, trimmed};
 
 use crate::command::{MOST_BYTES, MOST_IN_LINE};
 use jc_base::Aid;
@@ -168,14 +168,6 @@ pub(crate) fn is_skipped(line: &[u8]) -> bool
     }
 }
 
-/// The index of the first control byte of ASCII, such as a carriage return or a tab.
-pub(crate) fn control_in(word: &[u8]) -> Option<usize>
-    ensures place { result ≡ control_in word.now }
-    ensures within { IfSome result (λ at. at < length word.now) }
-{
-    word.iter().position(|byte| byte.is_ascii_control())
-}
-
 // A word as text.
 fn text_of(word: &[u8]) -> Option<&str>
     ensures { option_map (λ text. text.now) result ≡ text_of word.now }
@@ -186,17 +178,14 @@ fn text_of(word: &[u8]) -> Option<&str>
     }
 }
 
-/// A word as the name of a file or folder: UTF-8 without control bytes.
+/// A word as the name of a file or folder: UTF-8, which may have control bytes.
 pub(crate) fn name_of(word: &[u8]) -> Option<&str>
     ensures { option_map (λ name. name.now) result ≡ name_of word.now }
 {
     if word.is_empty() {
         return None;
     }
-    match control_in(word) {
-        Some(_) => None,
-        None => text_of(word),
-    }
+    text_of(word)
 }
 
 /// Writes the bytes that hexadecimal digits encode, and returns whether they encode any.

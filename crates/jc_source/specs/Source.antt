@@ -1,5 +1,6 @@
--- Sources of packages and certificates: their contents, the number of failed reads, and the names that were read.
-use Rattle.std.specs.Prelude.{⊤, ◌≡◌, ℕ, List, ◌++◌, Option, Some, None, Result, Ok, Err}
+-- Sources of packages and certificates: their contents, how many reads failed or ran out of memory, and the names that
+-- were read.
+use Rattle.std.specs.Prelude.{⊤, ◌≡◌, ℕ, ◌-◌, List, ◌++◌, Option, Some, None, Result, Ok, Err}
 use Rattle.jc_source.specs.declared.source.SourceFault.{SourceFault}
 use Rattle.jc_source.specs.declared.source.SourceFault.TheVariants.{Failed, Memory}
 
@@ -12,6 +13,15 @@ failures_of Memory = 0
 abbrev pub failures_in : {A : Type 0} → Result A SourceFault → ℕ
 failures_in (Ok bytes) = 0
 failures_in (Err fault) = failures_of fault
+
+-- how often memory ran out for a read
+abbrev pub shortages_of : SourceFault → ℕ
+shortages_of Failed = 0
+shortages_of Memory = 1
+
+abbrev pub shortages_in : {A : Type 0} → Result A SourceFault → ℕ
+shortages_in (Ok bytes) = 0
+shortages_in (Err fault) = shortages_of fault
 
 -- a fact that holds if a read failed. Out of memory says nothing
 abbrev pub OfFailed : SourceFault → Type 0 → Type 0
@@ -31,6 +41,15 @@ pub record HoldSame (before after : List ℕ → List ℕ → Type 0) : Type 0 w
 pub data Asked : Type 0 where
   Image : (name : List ℕ) → Asked
   Certificate : (name : List ℕ) → Asked
+
+-- a source after some reads: of which name the last read that failed was, and how many of them ran out of memory
+pub record SourceEnd : Type 1 where
+  pub failed_at : Asked → Type 0
+  pub short : ℕ
+
+-- from how many ran out of memory before these reads, and after them
+abbrev pub source_end : (failed_at : Asked → Type 0) → (before after : ℕ) → SourceEnd
+source_end failed_at before after = record { failed_at = failed_at; short = after - before }
 
 -- these reads were recorded, in order, after the earlier ones, if those are known
 abbrev pub Asks : Option (List Asked) → Option (List Asked) → List Asked → Type 0

@@ -2,6 +2,7 @@
 
 ghost use Rattle.std.specs.Prelude.{◌≡◌, ◌+◌, ◌<◌, ◌^◌, ℕ, List, [], ◌∷◌, Option, None, IfOk};
 ghost use Rattle.jc_source.specs.Source.{Asked, Asks, Certificate, HoldSame, IfFailed, Image, failures_in};
+ghost use Rattle.jc_source.specs.Source.{shortages_in};
 
 use std::alloc::Global;
 
@@ -14,10 +15,13 @@ pub enum SourceFault {
     Memory,
 }
 
-/// A source of packages and certificates, by their names. It counts the reads that failed, fewer than 2^31. Each read
-/// returns what the source holds, and no read changes that.
+/// A source of packages and certificates, by their names. It counts the reads that failed, and those for which memory
+/// ran out, fewer than 2^31 of each. Each read returns what the source holds, and no read changes that.
 pub trait PackageSource {
     ghost failed: { Self → ℕ };
+
+    // How many reads ran out of memory.
+    ghost short: { Self → ℕ };
 
     // A package's image in the source is these bytes, under a name.
     ghost holds_image: { Self → List ℕ → List ℕ → Type 0 };
@@ -33,8 +37,10 @@ pub trait PackageSource {
 
     /// The image of a package.
     fn image(&mut self, alloc: Global, name: &str) -> Result<Vec<u8>, SourceFault>
-        requires { failed self.now < 2 ^ 31 }
+        requires few { failed self.now < 2 ^ 31 }
+        requires few_short { short self.now < 2 ^ 31 }
         ensures counted { failed self.new ≡ failed self.old + failures_in result }
+        ensures counted_short { short self.new ≡ short self.old + shortages_in result }
         ensures asks { Asks (asked self.old) (asked self.new) (Image name.now ∷ []) }
         ensures failing { IfFailed result (failed_at self.new (Image name.now)) }
         ensures held { IfOk result (λ image. holds_image self.old name.now image.items) }
@@ -43,8 +49,10 @@ pub trait PackageSource {
 
     /// The bytes of a certificate.
     fn certificate(&mut self, alloc: Global, name: &str) -> Result<Vec<u8>, SourceFault>
-        requires { failed self.now < 2 ^ 31 }
+        requires few { failed self.now < 2 ^ 31 }
+        requires few_short { short self.now < 2 ^ 31 }
         ensures counted { failed self.new ≡ failed self.old + failures_in result }
+        ensures counted_short { short self.new ≡ short self.old + shortages_in result }
         ensures asks { Asks (asked self.old) (asked self.new) (Certificate name.now ∷ []) }
         ensures failing { IfFailed result (failed_at self.new (Certificate name.now)) }
         ensures held { IfOk result (λ certificate. holds_certificate self.old name.now certificate.items) }
@@ -54,4 +62,8 @@ pub trait PackageSource {
     /// How many reads have failed.
     fn failures(&self) -> u32
         ensures { result ≡ failed self.now };
+
+    /// For how many reads memory ran out.
+    fn shortages(&self) -> u32
+        ensures { result ≡ short self.now };
 }

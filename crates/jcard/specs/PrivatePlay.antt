@@ -6,7 +6,7 @@ use Rattle.jc_run.specs.Play.{BadLimits, BadLine, NoMemory, NotRead, NotWritten,
 -- if the source ended the script, what is known of its last failed read is reported
 abbrev pub IsToldAt : ScriptEnd → (failed_at told_at : Asked → Type 0) → Type 0
 IsToldAt Over failed_at told_at = ⊤
-IsToldAt (BadLine number) failed_at told_at = ⊤
+IsToldAt (BadLine number fault) failed_at told_at = ⊤
 IsToldAt (SourceFailed number) failed_at told_at = (asked : Asked) → failed_at asked → told_at asked
 IsToldAt NotRead failed_at told_at = ⊤
 IsToldAt NotWritten failed_at told_at = ⊤

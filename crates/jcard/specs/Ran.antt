@@ -3,12 +3,11 @@ use Rattle.std.specs.Prelude.{◌≡◌, ◌⊎◌, ◌∷◌, [], ℕ, List, Op
 use Rattle.jc_api.specs.Bound.{Bound}
 use Rattle.jc_machine.specs.declared.limits.Limits.{Limits}
 use Rattle.jc_run.specs.Performs.{HasRun}
-use Rattle.jc_run.specs.Session.{HasHeld}
 use Rattle.jc_host.specs.Binding.{IsBindingFault, IsBindingFor}
 use Rattle.jc_host.specs.Files.{Entry, IsFaultAt}
 use Rattle.jc_host.specs.FileSource.{HoldsCertificate, IsFaultOf, IsSourceFault}
 use Rattle.jc_host.specs.Folders.{IsImage}
-use Rattle.jcard.specs.Play.{IsTold, IsToldOfSession, end_of_play, fault_of_end}
+use Rattle.jcard.specs.Play.{HoldsLines, IsTold, IsToldOfSession, end_of_play, fault_of_end, told_reads}
 use Rattle.jc_host.specs.Scripts.{IsUnopened, Opening}
 use Rattle.jc_host.specs.Scripts.Opening.{readable}
 use Rattle.jc_host.specs.declared.files.FileFault.{FileFault}
@@ -27,8 +26,8 @@ Played = Result (Unit {0}) PlayFault
 abbrev pub ScriptComesTo : (List ℕ → Entry → Type 0) → Limits → Bound → (bytes before : List ℕ) → Option (List ℕ)
     → Played → Type 0
 ScriptComesTo holds limits binding bytes before now result =
-    HasRun (IsImage holds) (HoldsCertificate holds) (fault_of_end (IsFaultOf holds) result) limits binding bytes before
-    now (end_of_play result)
+    HasRun (IsImage holds) (HoldsCertificate holds) (told_reads (fault_of_end (IsFaultOf holds) result)) limits binding
+    bytes before now (end_of_play result)
 
 -- the binding that the job names was read, the script that it names was opened, and it was played with its limits. Its
 -- result is known if its bytes, and the output before, are
@@ -74,7 +73,7 @@ pub data ComesOfRun {W : Type 0} (holds : List ℕ → Entry → Type 0) (tells 
 abbrev pub SessionComesTo : (List ℕ → Entry → Type 0) → Limits → Bound → (bytes before : List ℕ) → Option (List ℕ)
     → Played → Type 0
 SessionComesTo holds limits binding bytes before now result =
-    HasHeld (IsImage holds) (HoldsCertificate holds) limits binding bytes before now (end_of_play result)
+    HoldsLines (IsImage holds) (HoldsCertificate holds) limits binding bytes before now (end_of_play result)
 
 -- the binding that the job names was read, and the lines of a reader were answered with its limits. Their result is
 -- known if their bytes, and the output before, are

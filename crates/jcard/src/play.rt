@@ -4,11 +4,11 @@ ghost use Rattle.std.specs.Prelude.{◌≡◌, ℕ, List, Some, IfErr};
 ghost use Rattle.jc_run.specs.End.{end_of_fault};
 ghost use Rattle.jc_run.specs.Performs.{HasRun};
 ghost use Rattle.jc_run.specs.Play.{failures_at};
-ghost use Rattle.jc_run.specs.Session.{HasHeld};
 ghost use Rattle.jc_host.specs.FileSource.{HoldsCertificate, IsFaultOf, IsKeptOf, IsSourceFault, IsToldOfSome};
 ghost use Rattle.jc_host.specs.FileSource.{TellsAll};
 ghost use Rattle.jc_host.specs.Folders.{IsImage};
-ghost use Rattle.jcard.specs.Play.{IsTold, IsToldOfSession, end_of_play, end_of_told, fault_of_end, fault_of_told};
+ghost use Rattle.jcard.specs.Play.{HoldsLines, IsTold, IsToldOfSession, end_of_play, end_of_told, fault_of_end};
+ghost use Rattle.jcard.specs.Play.{fault_of_told, told_reads};
 ghost use Rattle.jcard.specs.PrivatePlay.{IsToldAt};
 
 use crate::telling::LineTeller;
@@ -75,8 +75,8 @@ pub fn play_script<F: Files, R: Read, W: Write, E: Write>(
     ensures played { (bytes before : List ℕ) → R.remaining reader.old ≡ Some bytes
         → W.contents writer.old ≡ Some before
         → HasRun (IsImage (F.holds files.now)) (HoldsCertificate (F.holds files.now))
-        (fault_of_end (IsFaultOf (F.holds files.now)) result) limits binding.now bytes before (W.contents writer.new)
-        (end_of_play result) }
+        (told_reads (fault_of_end (IsFaultOf (F.holds files.now)) result)) limits binding.now bytes before
+        (W.contents writer.new) (end_of_play result) }
     ensures told { IfErr result (IsTold (IsSourceFault (F.holds files.now))) }
 {
     play_telling::<F, R, W, E, Brand>(files, alloc, reader, writer, teller, limits, binding)
@@ -96,7 +96,7 @@ fn play_telling<F: Files, R: Read, W: Write, E: Write, T: Faults>(
     ensures played { (bytes before : List ℕ) → R.remaining reader.old ≡ Some bytes
         → W.contents writer.old ≡ Some before
         → HasRun (IsImage (F.holds files.now)) (HoldsCertificate (F.holds files.now))
-        (fault_of_end T.tells result) limits binding.now bytes before (W.contents writer.new)
+        (told_reads (fault_of_end T.tells result)) limits binding.now bytes before (W.contents writer.new)
         (end_of_play result) }
     ensures told { IfErr result (IsTold (IsToldOfSome T.tells)) }
 {
@@ -118,7 +118,7 @@ pub fn hold_session<F: Files, R: Read, W: Write, E: Write>(
     binding: &Binding,
 ) -> Result<(), PlayFault>
     ensures held { (bytes before : List ℕ) → R.remaining reader.old ≡ Some bytes → W.contents writer.old ≡ Some before
-        → HasHeld (IsImage (F.holds files.now)) (HoldsCertificate (F.holds files.now)) limits binding.now
+        → HoldsLines (IsImage (F.holds files.now)) (HoldsCertificate (F.holds files.now)) limits binding.now
         bytes before (W.contents writer.new) (end_of_play result) }
     ensures told { IfErr result IsToldOfSession }
 {

@@ -10,10 +10,11 @@ pub loop-number-init : goal.loop-number-init
 loop-number-init g c = (
   omega arith,
   refl,
+  refl,
   same_self _,
   same_self _,
   λ t bytes before h is known.
-      begun _ _ g.S.PackageSource.failed_at t bytes before _ _ _ h (rw (c.new-lines.ensures.unread, is) refl) known,
+      begun _ _ _ t bytes before _ _ _ h (rw (c.new-lines.ensures.unread, is) refl) known,
 )
 
 pub loop-number-preserved : goal.loop-number-preserved
@@ -22,36 +23,37 @@ loop-number-preserved g c =
     let p = c.in_ok-play_next.ensures in (
       omega (arith, c.loop-number-test.true),
       p.none_failed ∙ v.1,
-      same_through _ _ _ v.2 p.same_images,
-      same_through _ _ _ v.3 p.same_certificates,
+      p.none_short ∙ v.2,
+      same_through _ _ _ v.3 p.same_images,
+      same_through _ _ _ v.4 p.same_certificates,
       λ t bytes before h is known.
-          let so_far = v.4 t bytes before h is known in
-          one_more _ _ g.S.PackageSource.failed_at t bytes before
+          let so_far = v.5 t bytes before h is known in
+          one_more _ _ _ t bytes before
           {rest = pending c.play_next.new.lines.unread (g.R.Read.remaining c.play_next.new.reader)} so_far
-          (turn_as _ _ _ _ v.2 v.3 ((rw c.if-not-branch.false at p.done)
+          (turn_as _ _ _ _ v.3 v.4 ((rw c.if-not-branch.false at p.done)
           so_far.card so_far.rest (before ++ so_far.written) so_far.holds so_far.left_is so_far.now_is)),
     )
 
 pub returns-then-not-branch-clause-played : goal.returns-then-not-branch-clause-played
 returns-then-not-branch-clause-played g c = λ t bytes before h is known.
     let v = c.loop-number.invariant in
-    let so_far = v.4 t bytes before h is known in
-    played_on _ _ _ (at_end _ _ g.S.PackageSource.failed_at t bytes before c.play_next.new.source so_far
-    (plays_from_as _ _ _ _ v.2 v.3 ((rw c.if-not-branch.true at c.in_ok-play_next.ensures.done)
+    let so_far = v.5 t bytes before h is known in
+    played_on _ _ _ (at_end _ _ _ t bytes before c.play_next.new.source so_far
+    (plays_from_as _ _ _ _ v.3 v.4 ((rw (c.if-not-branch.true, v.2) at c.in_ok-play_next.ensures.done)
     so_far.card so_far.rest (before ++ so_far.written) so_far.holds so_far.left_is so_far.now_is)))
 
 pub returns-in_err-play_next-clause-played : goal.returns-in_err-play_next-clause-played
 returns-in_err-play_next-clause-played g c = λ t bytes before h is known.
     let v = c.loop-number.invariant in
-    let so_far = v.4 t bytes before h is known in
+    let so_far = v.5 t bytes before h is known in
     handed_end _ _ (PlaysOn _ _ _ bytes t before _) c.from_residual.ensures.1
-    (played_on _ _ _ (at_end _ _ g.S.PackageSource.failed_at t bytes before c.play_next.new.source so_far
-    (plays_from_as _ _ _ _ v.2 v.3 (c.in_err-play_next.ensures.ended
+    (played_on _ _ _ (at_end _ _ _ t bytes before c.play_next.new.source so_far
+    (plays_from_as _ _ _ _ v.3 v.4 ((rw v.2 at c.in_err-play_next.ensures.ended)
     so_far.card so_far.rest (before ++ so_far.written) so_far.holds so_far.left_is so_far.now_is))))
 
 pub returns-clause-played : goal.returns-clause-played
 returns-clause-played g c = λ t bytes before h is known.
-    let so_far = c.loop-number.invariant.4 t bytes before h is known in
-    played_on _ _ _ (at_end _ _ g.S.PackageSource.failed_at t bytes before c.loop-number.source so_far
+    let so_far = c.loop-number.invariant.5 t bytes before h is known in
+    played_on _ _ _ (at_end _ _ _ t bytes before c.loop-number.source so_far
     (end_plays _ _ _ _ so_far.rest so_far.card _ _ _
     (c.play_end.ensures.ended so_far.rest so_far.left_is) so_far.now_is))

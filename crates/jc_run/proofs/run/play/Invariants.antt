@@ -1,7 +1,7 @@
 use Rattle.std.proofs.Common.{◌≡◌, ◌≤◌, ◌-◌, ℕ, List, Some}
 use Rattle.jc_card.specs.Card.{CardState}
 use Rattle.jc_card.specs.Reads.{Holds}
-use Rattle.jc_source.specs.Source.{HoldSame}
+use Rattle.jc_source.specs.Source.{HoldSame, source_end}
 use Rattle.jc_run.specs.PrivatePlay.{HasPlayed}
 use Rattle.jc_script.specs.Reading.{pending}
 use Rattle.jc_run.proofs.run.play.Given as goal
@@ -10,12 +10,14 @@ abbrev pub invariant-loop-number : goal.invariant-loop-number
 invariant-loop-number g l =
     (l.number ≤ 100001)
     × (g.S.PackageSource.failed l.source ≡ g.S.PackageSource.failed l.fn.source)
+    × (g.S.PackageSource.short l.source ≡ g.S.PackageSource.short l.fn.source)
     × HoldSame (g.S.PackageSource.holds_image l.fn.source) (g.S.PackageSource.holds_image l.source)
     × HoldSame (g.S.PackageSource.holds_certificate l.fn.source) (g.S.PackageSource.holds_certificate l.source)
     × ((c : CardState) (bytes before : List ℕ) → Holds l.fn.card c → g.R.Read.remaining l.fn.reader ≡ Some bytes
     → g.W.Write.contents l.fn.writer ≡ Some before
     → HasPlayed (g.S.PackageSource.holds_image l.fn.source) (g.S.PackageSource.holds_certificate l.fn.source)
-    g.S.PackageSource.failed_at c bytes before l.number l.card (pending l.lines.unread (g.R.Read.remaining l.reader))
+    (λ s. source_end (g.S.PackageSource.failed_at s) (g.S.PackageSource.short l.fn.source) (g.S.PackageSource.short s))
+    c bytes before l.number l.card (pending l.lines.unread (g.R.Read.remaining l.reader))
     (g.W.Write.contents l.writer))
 
 abbrev pub decreases-loop-number : goal.decreases-loop-number

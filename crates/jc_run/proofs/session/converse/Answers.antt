@@ -10,7 +10,8 @@ pub loop-number-init : goal.loop-number-init
 loop-number-init g c = (
   same_self _,
   same_self _,
-  λ t bytes before h is known. begun _ _ t bytes before _ _ _ h (rw (c.new-lines.ensures.unread, is) refl) known,
+  λ t bytes before h is known. begun _ _ t bytes before _ _ _ _ refl h
+      (rw (c.new-lines.ensures.unread, is) refl) known,
 )
 
 pub loop-number-preserved : goal.loop-number-preserved
@@ -27,18 +28,18 @@ loop-number-preserved g c =
           so_far.card so_far.rest (before ++ so_far.written) so_far.holds so_far.left_is so_far.now_is)),
     )
 
-pub returns-then-failures-gt-MOST_FAILURES-clause-held : goal.returns-then-failures-gt-MOST_FAILURES-clause-held
-returns-then-failures-gt-MOST_FAILURES-clause-held g c = λ t bytes before h is known.
+pub returns-then-branch-clause-held : goal.returns-then-branch-clause-held
+returns-then-branch-clause-held g c = λ t bytes before h is known.
     let so_far = c.loop-number.invariant.2 t bytes before h is known in
-    held_on _ _ (at_end _ _ t bytes before so_far (not_read _ _ so_far.card so_far.rest _ _ so_far.now_is))
+    held_on _ _ (at_end _ _ t bytes before so_far (not_read _ _ _ so_far.card so_far.rest _ _ refl so_far.now_is))
 
-pub returns-then-failures-gt-MOST_FAILURES-clause-same_images :
-    goal.returns-then-failures-gt-MOST_FAILURES-clause-same_images
-returns-then-failures-gt-MOST_FAILURES-clause-same_images g c = c.loop-number.invariant.0
+pub returns-then-branch-clause-same_images :
+    goal.returns-then-branch-clause-same_images
+returns-then-branch-clause-same_images g c = c.loop-number.invariant.0
 
-pub returns-then-failures-gt-MOST_FAILURES-clause-same_certificates :
-    goal.returns-then-failures-gt-MOST_FAILURES-clause-same_certificates
-returns-then-failures-gt-MOST_FAILURES-clause-same_certificates g c = c.loop-number.invariant.1
+pub returns-then-branch-clause-same_certificates :
+    goal.returns-then-branch-clause-same_certificates
+returns-then-branch-clause-same_certificates g c = c.loop-number.invariant.1
 
 pub returns-then-not-branch-clause-held : goal.returns-then-not-branch-clause-held
 returns-then-not-branch-clause-held g c = λ t bytes before h is known.
@@ -52,7 +53,7 @@ pub returns-in_err-converse_next-clause-held : goal.returns-in_err-converse_next
 returns-in_err-converse_next-clause-held g c = λ t bytes before h is known.
     let v = c.loop-number.invariant in
     let so_far = v.2 t bytes before h is known in
-    handed_end _ _ (ConversesOn _ _ bytes t before _) c.from_residual.ensures.1
+    handed_end _ _ (ConversesOn _ _ _ bytes t before _) c.from_residual.ensures.1
     (held_on _ _ (at_end _ _ t bytes before so_far (converses_from_as _ _ _ _ v.0 v.1
     (c.in_err-converse_next.ensures.ended
     so_far.card so_far.rest (before ++ so_far.written) so_far.holds so_far.left_is so_far.now_is))))
@@ -60,4 +61,4 @@ returns-in_err-converse_next-clause-held g c = λ t bytes before h is known.
 pub returns-clause-held : goal.returns-clause-held
 returns-clause-held g c = λ t bytes before h is known.
     let so_far = c.loop-number.invariant.2 t bytes before h is known in
-    held_on _ _ (at_end _ _ t bytes before so_far (not_read _ _ so_far.card so_far.rest _ _ so_far.now_is))
+    held_on _ _ (at_end _ _ t bytes before so_far (not_read _ _ _ so_far.card so_far.rest _ _ refl so_far.now_is))

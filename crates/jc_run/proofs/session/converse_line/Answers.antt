@@ -1,12 +1,14 @@
+use Rattle.std.proofs.Common.{refl}
 use Rattle.jc_run.proofs.Conversing.{bad_refused, nothing_said}
 use Rattle.jc_run.proofs.session.converse_line.Goals as goal
 
 pub returns-in-Skipped-clause-done : goal.returns-in-Skipped-clause-done
 returns-in-Skipped-clause-done g c = λ t before h known.
-    nothing_said _ _ t _ _ before _ c.in-Skipped.ensures h known
+    nothing_said _ _ _ t _ _ before _ refl c.in-Skipped.ensures h known
 
 pub returns-in-Asks-clause-ended : goal.returns-in-Asks-clause-ended
 returns-in-Asks-clause-ended g c = rw (← c.in-Asks.ensures) c.converse_command.ensures.ended
 
 pub returns-in-Bad-clause-done : goal.returns-in-Bad-clause-done
-returns-in-Bad-clause-done g c = λ t before h known. bad_refused _ _ t _ _ before _ c.in-Bad.ensures h known
+returns-in-Bad-clause-done g c = λ t before h known.
+    bad_refused _ _ _ t _ _ before _ refl c.in-Bad.ensures h known

@@ -8,7 +8,7 @@ use Rattle.jc_run.proofs.session.run_session.Goals as goal
 pub returns-clause-held : goal.returns-clause-held
 returns-clause-held g c = λ bytes before is known.
     let card = new_card c.args.limits c.args.binding.now in
-    made_holds _ _ c.args.limits c.args.binding.now (record {
+    made_holds _ _ _ c.args.limits c.args.binding.now (record {
       accesses = c.commands_are_lawful.ensures.guarded;
       isolated = c.commands_are_lawful.ensures.isolated;
       apart = c.commands_are_lawful.ensures.apart c.args.limits c.args.binding.now c.has_no_clash.ensures;
@@ -19,8 +19,8 @@ returns-clause-held g c = λ bytes before is known.
 
 pub returns-in_err-card-clause-held : goal.returns-in_err-card-clause-held
 returns-in_err-card-clause-held g c = λ bytes before is known.
-    handed_end _ _ (HasHeld _ _ c.args.limits c.args.binding.now bytes before _) c.from_residual.ensures.1
-    (not_made _ _ c.args.limits c.args.binding.now (record {
+    handed_end _ _ (HasHeld _ _ _ c.args.limits c.args.binding.now bytes before _) c.from_residual.ensures.1
+    (not_made _ _ _ c.args.limits c.args.binding.now (record {
       accesses = c.commands_are_lawful.ensures.guarded;
       isolated = c.commands_are_lawful.ensures.isolated;
       apart = c.commands_are_lawful.ensures.apart c.args.limits c.args.binding.now c.has_no_clash.ensures;

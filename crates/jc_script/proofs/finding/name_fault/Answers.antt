@@ -11,7 +11,7 @@ no_text word n = elim (cases_Bool (is_utf8 word)) [ inl t ↦ absurd (n (IsUtf8-
 pub returns-in-Ok : goal.returns-in-Ok
 returns-in-Ok c =
     let yes = is_utf8-from_IsUtf8 c.args.word.now c.in-Ok.ensures.cases.1 in
-    rw (yes, c.control_fault.ensures) refl
+    rw yes refl
 
 pub returns-in-Err : goal.returns-in-Err
 returns-in-Err c =

@@ -1,0 +1,15 @@
+use Rattle.jcard.proofs.play.hold_session.Goals as goal
+
+pub returns-in-Ok-clause-held : goal.returns-in-Ok-clause-held
+returns-in-Ok-clause-held g c = λ bytes before is known. record {
+  refused = _;
+  held = (rw (c.new-source.ensures.files, c.new-source.ensures.failures, c.new-source.ensures.shortages)
+      at c.in-Ok.ensures.held) bytes before is known;
+}
+
+pub returns-in-Err-clause-held : goal.returns-in-Err-clause-held
+returns-in-Err-clause-held g c = λ bytes before is known. record {
+  refused = _;
+  held = (rw (c.new-source.ensures.files, c.new-source.ensures.failures, c.new-source.ensures.shortages)
+      at c.in-Err.ensures.held) bytes before is known;
+}

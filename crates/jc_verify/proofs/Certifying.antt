@@ -22,7 +22,7 @@ offsets_ascend [] least from up = tt
 offsets_ascend (c ∷ cs) least from up =
     (from 0 c refl, offsets_ascend cs (c.offset + 1) (λ n r e. let lt = up 0 (suc n) c r refl e (omega arith) in omega (arith, lt)) (λ j k r s e f lt. up (suc j) (suc k) r s e f (omega (arith, lt))))
 
-all_stated : (m : CheckedMethod) → length m.arguments + m.max_locals < 2 ^ 16 → (cs : List Stated) → AllByRecursion (IsInShape m) cs → AllByRecursion IsStated cs
+pub all_stated : (m : CheckedMethod) → length m.arguments + m.max_locals < 2 ^ 16 → (cs : List Stated) → AllByRecursion (IsInShape m) cs → AllByRecursion IsStated cs
 all_stated m few [] h = tt
 all_stated m few (c ∷ cs) h = search (arith, all_stated m few cs h.1)
 

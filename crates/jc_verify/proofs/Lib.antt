@@ -14,7 +14,6 @@ mod Reaching
 mod Ending
 mod Ordering
 mod Rows
-mod Telling
 mod Numbers
 mod PcSets
 mod Starting
@@ -29,3 +28,4 @@ mod Taking
 mod Seeing
 mod Certified
 mod Certifying
+mod Telling

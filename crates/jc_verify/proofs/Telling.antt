@@ -9,8 +9,10 @@ use Rattle.jc_cert.specs.Cert.{Stated, rows}
 use Rattle.jc_link.specs.Linked.{Linked}
 use Rattle.jc_check.specs.Method.{CheckedMethod}
 use Rattle.jc_check.specs.Package.{method_of, package_rules}
-use Rattle.jc_verify.specs.PrivateGathered.{AreGathered, IsDenied, IsInferred, IsSoFar, IsTold, Stands}
+use Rattle.jc_verify.specs.PrivateGathered.{AreGathered, CanBeInferred, IsDenied, IsInferred, IsSoFar, IsTold, Stands}
+use Rattle.jc_verify.proofs.Certifying.{all_stated}
 use Rattle.jc_verify.specs.PrivateNames.{KeepsNames}
+use Rattle.jc_verify.specs.PrivateRefused.{HasFitMethods}
 use Rattle.jc_verify.specs.PrivateTurns.{AreCounted}
 use Rattle.jc_verify.specs.Refusal.{CanBeCarried, IsUncarried}
 use Rattle.jc_verify.specs.MethodFault.{IsToldOf}
@@ -44,7 +46,7 @@ module _ (l : Linked) (n : ℕ) (b : MethodBody) (at : slice_get l.body.kept.met
     carried = λ k c s lower. by k c (either k c s) lower;
   }
     where
-      by : (k : ℕ) (c : MethodBody) → Stands l n k c ⊎ (b ≡ c) → ((u : MethodFault) → g.told ≡ Some u → c.offset < u.method) → CanBeCarried l (method_of l c)
+      by : (k : ℕ) (c : MethodBody) → Stands l n k c ⊎ (b ≡ c) → ((u : MethodFault) → g.told ≡ Some u → c.offset < u.method) → CanBeInferred l (method_of l c)
       by k c h1 h2 = grind arith
 
   -- it is told of now
@@ -57,7 +59,7 @@ module _ (l : Linked) (n : ℕ) (b : MethodBody) (at : slice_get l.body.kept.met
     carried = λ k c s lower. by k c (either k c s) (lower t told);
   }
     where
-      by : (k : ℕ) (c : MethodBody) → Stands l n k c ⊎ (b ≡ c) → c.offset < t.method → CanBeCarried l (method_of l c)
+      by : (k : ℕ) (c : MethodBody) → Stands l n k c ⊎ (b ≡ c) → c.offset < t.method → CanBeInferred l (method_of l c)
       by k c h1 h2 = grind (arith, before)
 
   -- it has states
@@ -70,14 +72,29 @@ module _ (l : Linked) (n : ℕ) (b : MethodBody) (at : slice_get l.body.kept.met
     carried = λ k c s lower. by k c (either k c s) lower;
   }
     where
-      by : (k : ℕ) (c : MethodBody) → Stands l n k c ⊎ (b ≡ c) → ((t : MethodFault) → after.told ≡ Some t → c.offset < t.method) → CanBeCarried l (method_of l c)
+      by : (k : ℕ) (c : MethodBody) → Stands l n k c ⊎ (b ≡ c) → ((t : MethodFault) → after.told ≡ Some t → c.offset < t.method) → CanBeInferred l (method_of l c)
       by k c h1 h2 = grind arith
 
 -- what is told of all methods is a refusal
-pub is_refusal : (l : Linked) (g : Gathered) → IsSoFar l (length l.body.kept.methods) g → (t : MethodFault) → g.told ≡ Some t → IsUncarried l t.method t.fault
-is_refusal l g so_far t told =
+pub is_refusal : (l : Linked) (g : Gathered) → HasFitMethods l → IsSoFar l (length l.body.kept.methods) g → (t : MethodFault) → g.told ≡ Some t
+    → IsUncarried l t.method t.fault
+is_refusal l g fit so_far t told =
     let why = so_far.told t told in
     record { first = record { place = why.place; method = why.method; is = why.is; at = why.at; without = why.without; before = before }; told = why.told }
   where
+    inferred : (n : ℕ) (c : MethodBody) → slice_get l.body.kept.methods n ≡ Some c → c.offset < t.method → CanBeInferred l (method_of l c)
+    inferred n c at lower = grind (arith, slice_get_within, same_Some)
+
     before : (n : ℕ) (c : MethodBody) → slice_get l.body.kept.methods n ≡ Some c → c.offset < t.method → CanBeCarried l (method_of l c)
-    before n c at lower = grind (arith, slice_get_within, same_Some)
+    before n c at lower =
+        let can = inferred n c at lower in
+        let order = can.inferred.order in
+        record {
+          states = can.states;
+          are = record {
+            few = order.few;
+            ascend = order.ascend;
+            each = all_stated (method_of l c) (fit.locals n c at) can.states order.each;
+          };
+          carried = can.inferred.carried;
+        }

@@ -67,6 +67,11 @@ pub record AreGathered (l : Linked) (n : ℕ) (of : List Row) : Type 0 where
   pub distinct : (j k : ℕ) (r s : Row) → slice_get of j ≡ Some r → slice_get of k ≡ Some s → r.offset ≡ s.offset → j ≡ k
   pub few : length of ≤ n
 
+-- states were inferred for a method
+pub record CanBeInferred (l : Linked) (m : CheckedMethod) : Type 0 where
+  pub states : List Stated
+  pub inferred : IsInferred l m states
+
 -- no states carry a method, or control flow through it doesn't keep to classes with names
 abbrev pub IsDenied : Linked → CheckedMethod → Type 0
 IsDenied l m = (CanBeCarried l m → ⊥) ⊎ (KeepsNames l m → ⊥)
@@ -80,14 +85,14 @@ pub record IsTold (l : Linked) (offset : ℕ) (fault : Fault) : Type 0 where
   pub without : CanBeCarried l (method_of l method) → ⊥
   pub told : IsToldOf (package_rules l) (method_of l method) fault
 
--- if there is no fault, the first methods are gathered and counted. No states carry the method with the fault. Methods
--- of lower offset can be carried, or all if there is no fault
+-- if there is no fault, the first methods are gathered and counted. No states carry the method with the fault. States
+-- were inferred for methods of lower offset, or for all if there is no fault
 pub record IsSoFar (l : Linked) (n : ℕ) (g : Gathered) : Type 0 where
   pub gathered : g.told ≡ None → AreGathered l n (rows g.rows.items)
   pub told : (t : MethodFault) → g.told ≡ Some t → IsTold l t.method t.fault
   pub counted : g.told ≡ None → AreCounted l n (rows g.rows.items) g.followed
   pub carried : (k : ℕ) (b : MethodBody) → Stands l n k b → ((t : MethodFault) → g.told ≡ Some t → b.offset < t.method)
-      → CanBeCarried l (method_of l b)
+      → CanBeInferred l (method_of l b)
 
 -- the row of a method was appended, if it has states
 abbrev pub IsPut : ℕ → List Stated → List Row → List Row → Type 0

@@ -1,5 +1,8 @@
 -- Images that are linked one behind the other.
-use Rattle.std.proofs.Common.{◌≡◌, ◌≤◌, ◌∙◌, sym, ap, subst, refl, ℕ, List, [], ◌∷◌, ◌++◌, ◌+◌, ◌<◌, length, drop, get_or, map, slice_get, Some, Vec, Global, inl, inr}
+use Rattle.std.proofs.Common.{◌≡◌, ◌≤◌, ◌==◌, ◌∙◌, sym, ap, subst, refl, arith, ℕ, List, [], ◌∷◌, ◌++◌, ◌+◌, ◌<◌, length, drop, get_or, map}
+use Rattle.std.proofs.Common.{slice_get, Some, Vec, Global, inl, inr}
+use Rattle.std.specs.List.{AllByRecursion}
+use Rattle.std.proofs.lemmas.Bool.{cases_Bool}
 use Rattle.std.proofs.lemmas.List.{drop_all, drop_more}
 use Rattle.jc_api.specs.Bound.{Bound}
 use Rattle.jc_base.proofs.Binding.{the_some}
@@ -10,7 +13,8 @@ use Rattle.jc_check.specs.declared.fault.Fault.{Fault}
 use Rattle.jc_classes.specs.Api.{api_world}
 use Rattle.jc_classes.specs.Growth.{grown}
 use Rattle.jc_link.specs.Linked.{Linked}
-use Rattle.jc_verify.specs.Refusal.{IsUncarried}
+use Rattle.jc_cert.specs.Cert.{IsRow, Row}
+use Rattle.jc_verify.specs.Refusal.{AreStates, IsUncarried}
 use Rattle.jc_offcard.specs.Verify.{AreLoaded, IsCarriedByNone, IsFirstRefusal, IsLinkedAfter, IsVerified, MayBeShort}
 use Rattle.jc_offcard.specs.Verify.AreLoaded.{next, none}
 use Rattle.jc_offcard.specs.Verify.IsFirstRefusal.{full, here, later}
@@ -21,14 +25,25 @@ use Rattle.jc_offcard.specs.declared.verify_answer.VerifyAnswer.{VerifyAnswer}
 use Rattle.jc_offcard.specs.declared.verify_answer.VerifyAnswer.TheVariants.{Certificate, NoCertificate}
 use Rattle.jc_offcard.specs.declared.verify_answer.VerifyAnswer.TheVariants as answers
 
--- a package whose method no states carry is carried by no certificate
-pub carried_by_none : (l : Linked) (offset : ℕ) (fault : Fault) → IsUncarried l offset fault → IsCarriedByNone l offset fault
+-- what a certificate has for a method are states that it may have
+states_fit : (rows : List Row) → AllByRecursion IsRow rows → (offset : ℕ) → AreStates (stated_for rows offset)
+states_fit [] each offset = record { few = omega arith; ascend = tt; each = tt }
+states_fit (r ∷ rows) each offset =
+    elim (cases_Bool (r.offset == offset)) [
+      inl found ↦ rw found (record { few = each.0.count; ascend = each.0.ascend; each = each.0.each })
+    | inr other ↦ rw other (states_fit rows each.1 offset)
+    ]
+
+-- a package whose method no such states carry is carried by no certificate
+pub carried_by_none : (l : Linked) (offset : ℕ) (fault : Fault) → IsUncarried l offset fault
+    → IsCarriedByNone l offset fault
 carried_by_none l offset fault is =
     let first = is.first in
     record {
       uncarried = is;
       none = λ whole. first.without (record {
         states = stated_for whole.rows first.method.offset;
+        are = states_fit whole.rows whole.cert.each first.method.offset;
         carried = whole.carried.methods first.place first.method first.is;
       });
     }

@@ -69,7 +69,7 @@ module _ (s : Laws) (l : Linked) (rows : List Row) where
   never_carried _ (method b fault none u) carried = never_first b fault u.first (carried.methods u.place b u.is)
 
   -- of two methods that are the first ones that aren't carried, neither stands before the other
-  none_lower : (b d : MethodBody) (f g : Fault) → IsFirstUncarried l rows b f → IsFirstUncarried l rows d g
+  pub none_lower : (b d : MethodBody) (f g : Fault) → IsFirstUncarried l rows b f → IsFirstUncarried l rows d g
       → b.offset ≤ d.offset
   none_lower b d f g u v = part (cases_lt d.offset b.offset)
     where
@@ -211,7 +211,7 @@ module _ (s : Laws) (c : CardState) (image certificate : List ℕ) where
       let same = one_split image ps qs rest others h k in
       subst (λ (x : List ℕ). OfCutting qs x g) same.1 (subst (λ (x : List Piece). OfCutting x rest g) same.0 of)
 
-  same_cut : (one other : Result Infos LoadFault) → IsCut image one → IsCut image other → one ≡ other
+  pub same_cut : (one other : Result Infos LoadFault) → IsCut image one → IsCut image other → one ≡ other
   same_cut one other h k =
       h.is ∙ cut_once image h.pieces k.pieces h.rest k.rest h.splits k.splits ∙ sym k.is
 
@@ -226,7 +226,7 @@ module _ (s : Laws) (c : CardState) (image certificate : List ℕ) where
   same_read parts more one other h k e f =
       sym e ∙ ap package_of (same_parts parts more h k) ∙ f
 
-  same_linked : (l m : Linked) → Linked_as l → Linked_as m → l ≡ m
+  pub same_linked : (l m : Linked) → Linked_as l → Linked_as m → l ≡ m
   same_linked l m h k =
       let e =
       same_read h.parts k.parts (Ok h.linked.«package») (Ok k.linked.«package») h.cut k.cut h.linked.read
@@ -361,7 +361,7 @@ module _ (s : Laws) (c : CardState) (image certificate : List ℕ) where
         less_than 16 18 BadCertificate other (omega arith) (omega arith) (ap number_of is)
 
     -- another check is the same check
-    its_check : (rows more : List Row) (m : Linked) (g : LoadFault) → AreSpelled certificate rows → Linked_as m
+    pub its_check : (rows more : List Row) (m : Linked) (g : LoadFault) → AreSpelled certificate rows → Linked_as m
         → AreSpelled certificate more → IsFirstRefusal m more g → IsFirstRefusal l rows g
     its_check rows more m g spelled linked its first =
         subst (λ (x : Linked). IsFirstRefusal x rows g) (same_linked m l linked h)
@@ -381,7 +381,7 @@ module _ (s : Laws) (c : CardState) (image certificate : List ℕ) where
         let most = checked l rows fault first in
         less_than 17 18 fault other (omega (arith, most)) (omega arith) (ap number_of is)
 
-    not_refused : (rows more : List Row) (m : Linked) (g : LoadFault) → AreSpelled certificate rows
+    pub not_refused : (rows more : List Row) (m : Linked) (g : LoadFault) → AreSpelled certificate rows
         → CarriesPackage l rows → Linked_as m → AreSpelled certificate more → IsFirstRefusal m more g → ⊥
     not_refused rows more m g spelled carried linked its first =
         never_carried s l rows g (its_check rows more m g spelled linked its first) carried

@@ -10,3 +10,5 @@ mod Unlinked
 mod Stages
 mod Least
 mod Installing
+mod Sized
+mod Once

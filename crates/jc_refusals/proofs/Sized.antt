@@ -7,7 +7,6 @@ use Rattle.jc_base.specs.Cutting.{IsWhole, Piece, answer, bytes_of, info_of, inf
 use Rattle.jc_base.specs.Parts.{Infos}
 use Rattle.jc_base.specs.Results.{◌>>=◌}
 use Rattle.jc_base.specs.Tag.{method_tag}
-use Rattle.jc_base.specs.declared.fault.LoadFault.{LoadFault}
 use Rattle.jc_natives.specs.Kept.{are_bytes}
 use Rattle.jc_card.specs.Load.{IsCut}
 

@@ -12,6 +12,7 @@ ghost use Rattle.jc_check.specs.Checked.{IsFirstRefusal};
 ghost use Rattle.jc_link.specs.Linked.{Linked};
 ghost use Rattle.jc_link.specs.WellFormed.{fault_behind};
 ghost use Rattle.jc_base.specs.declared.fault.LoadFault.TheVariants.{Memory};
+ghost use Rattle.jc_natives.specs.Kept.{are_bytes};
 ghost use Rattle.jc_card.specs.Answering.{comes_at_once};
 ghost use Rattle.jc_card.specs.Card.{CardState};
 ghost use Rattle.jc_card.specs.Install.{Installed, Refused, install_command};
@@ -21,8 +22,9 @@ ghost use Rattle.jc_card.specs.declared.fault.InstallFault.{InstallFault};
 ghost use Rattle.jc_refusals.specs.Installs.{AppliesToInstall, IsLeastOfInstall, IsRefusedAtOnce};
 ghost use Rattle.jc_refusals.specs.Loads.{Applies, IsLeast};
 ghost use Rattle.jc_refusals.specs.Order.{IsBetween};
-ghost use Rattle.std.specs.Prelude.{◌≡◌, ◌≢◌, ℕ, true, List, Some, Ok, Err};
+ghost use Rattle.std.specs.Prelude.{◌≡◌, ◌≢◌, ℕ, true, List, Some, Result, Ok, Err};
 
+use jc_cap_desc::read_packages_are_whole;
 use jc_cert::one_spelling;
 use jc_check::first_fault_laws;
 use jc_code::listing_laws;
@@ -58,6 +60,18 @@ pub fn the_least_refusal_is_told()
     first_fault_laws();
     listing_laws();
     one_spelling();
+}
+
+/// Two results of one load, neither of them out of memory, are equal, and so are the cards after it. It does nothing.
+pub fn a_load_has_one_answer()
+    ensures { (c first second : CardState) (image certificate : List ℕ) (one other : Result ℕ LoadFault)
+        → are_bytes image ≡ true → IsLoad c image certificate one first → IsLoad c image certificate other second
+        → one ≢ Err Memory → other ≢ Err Memory → (one ≡ other) × (first ≡ second) }
+{
+    first_fault_laws();
+    listing_laws();
+    one_spelling();
+    read_packages_are_whole();
 }
 
 /// If an install is refused before the install method is called, the refusal that it reports applies to it, and no

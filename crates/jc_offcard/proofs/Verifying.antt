@@ -30,8 +30,8 @@ states_fit : (rows : List Row) → AllByRecursion IsRow rows → (offset : ℕ) 
 states_fit [] each offset = record { few = omega arith; ascend = tt; each = tt }
 states_fit (r ∷ rows) each offset =
     elim (cases_Bool (r.offset == offset)) [
-      inl found ↦ rw found (record { few = each.0.count; ascend = each.0.ascend; each = each.0.each })
-    | inr other ↦ rw other (states_fit rows each.1 offset)
+      | inl found ↦ rw found (record { few = each.0.count; ascend = each.0.ascend; each = each.0.each })
+      | inr other ↦ rw other (states_fit rows each.1 offset)
     ]
 
 -- a package whose method no such states carry is carried by no certificate

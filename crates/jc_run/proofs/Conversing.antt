@@ -129,7 +129,7 @@ module _ (images certificates : List ℕ → List ℕ → Type 0) (c : CardState
       → EndsLine images certificates c (Asks command) before now NotWritten
   command_not_written command answer after old now before a is h =
       let e = command_unwritten images certificates (source_end (λ asked. ⊥) 0 0) c 0 (unread_fault 0) command answer
-          after old now before a is h in
+      after old now before a is h in
       unwritten_by refl before now e.now_is e.ends
 
 -- ---- what is told of known bytes

@@ -34,7 +34,7 @@ module _ (images certificates older old : List ℕ → List ℕ → Type 0) (sam
   line_as c said written after h1 = grind (arith, answered_as)
 
   ends_as : {reads : SourceEnd} {c : CardState} {number : ℕ} {told : LineFault} {said : ScriptLine}
-      {written : List ℕ}       {end : ScriptEnd} → EndsAt images certificates reads c number told said written end
+      {written : List ℕ} {end : ScriptEnd} → EndsAt images certificates reads c number told said written end
       → EndsAt older old reads c number told said written end
   ends_as bad = bad
   ends_as (source folder certificate failing) = source folder certificate failing

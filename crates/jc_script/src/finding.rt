@@ -10,9 +10,7 @@ ghost use Rattle.jc_script.specs.Faults.{extra_fault, fault_at, fault_behind, fa
 ghost use Rattle.jc_script.specs.Faults.{missing_fault, name_fault, odd_fault, spread, word_fault, words_fault};
 
 use crate::fault::{LineCause, LineFault};
-use crate::words::{
-    Words, budget_of, cut_name, name_of, quote_in, quoted_names, trimmed,
-};
+use crate::words::{Words, budget_of, cut_name, name_of, quote_in, quoted_names, trimmed};
 
 /// The kind of the line: a script's, or a session's, which has three more commands.
 #[derive(Clone, Copy, Debug, PartialEq, Eq)]

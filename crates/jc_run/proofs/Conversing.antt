@@ -1,7 +1,7 @@
 -- A session, line by line.
 use Rattle.std.proofs.Common.{◌≡◌, ◌≤◌, ◌+◌, ℕ, List, [], ◌∷◌, ◌++◌, length, arith, sym, ap}
 use Rattle.std.proofs.Common.{Option, Some, Result, IfErr, false, nat_lt, refl}
-use Rattle.std.proofs.Common.{◌∙◌, add_assoc, add-zero, append_assoc, refl, rules, subst}
+use Rattle.std.proofs.Common.{◌∙◌, add_assoc, add-zero, append_assoc, one-add, refl, rules, subst, zero-add}
 use Rattle.std.proofs.lemmas.Result.{err_from_is_err_and}
 use Rattle.std.specs.Io.KnownBytes.{Appends}
 use Rattle.std.specs.Prelude.{IsErrAnd}
@@ -242,11 +242,11 @@ one_line : (images certificates : List ℕ → List ℕ → Type 0) (c after : C
     → Converses images certificates (lines_of rest) after more behind end
     → Converses images certificates (first ∷ lines_of rest) c (refused + more) (written ++ behind) end
 one_line images certificates c after first rest written behind refused more end (played w a p) h =
-    one_done first (lines_of rest) c after more written behind end p h
+    rw (zero-add more) (one_done first (lines_of rest) c after more written behind end p h)
 one_line images certificates c after first rest written behind refused more end (left_out is) h =
-    one_bad first (lines_of rest) c more behind end is h
+    rw (zero-add more) (one_bad first (lines_of rest) c more behind end is h)
 one_line images certificates c after first rest written behind refused more end (not_loaded folder name is) h =
-    one_unloaded first (lines_of rest) c more behind end folder name is h
+    rw (one-add more) (one_unloaded first (lines_of rest) c more behind end folder name is h)
 
 module _ (images certificates : List ℕ → List ℕ → Type 0) (c : CardState) (input before : List ℕ) where
   pub begun : (faults : FaultCount) (after : CardWords) (left now : Option (List ℕ)) → faults.after ≡ faults.before
@@ -261,7 +261,7 @@ module _ (images certificates : List ℕ → List ℕ → Type 0) (c : CardState
     left_is = is;
     written = [];
     now_is = none_more known;
-    leads = λ more behind end p. p;
+    leads = λ more behind end p. rw (zero-add more) p;
   }
 
   pub one_more : {card after : CardWords} {left rest now further : Option (List ℕ)} {start middle last : ℕ}

@@ -77,23 +77,24 @@ module _ (images certificates : List ℕ → List ℕ → Type 0) (reads : Sourc
       (end : ScriptEnd) → IsLinePlayed images certificates c said written after → Is script after behind end
       → Is (with_line number bytes said script) c (written ++ behind) end
   line_done number bytes Skipped script c after written behind end played d = rw (played.0, ← played.1) d
-  line_done number bytes (Asks first) script c after written behind end played d = search (arith, one_more)
+  line_done number bytes (Asks first) script c after written behind end played d =
+      rw played.written_is (one_more number bytes first script c after played.answer behind end played.answered d)
   line_done number bytes Bad script c after written behind end played d = elim played [ ]
 
   -- ---- a line that ends it
 
-  line_ends : {number : ℕ} {bytes : List ℕ} {c : CardState} {said : ScriptLine} {written : List ℕ} {end : ScriptEnd}
-      (script : Script) → EndsAt images certificates reads c number (bad_fault number bytes) said written end
+  line_ends : {number : ℕ} (bytes : List ℕ) (script : Script) {c : CardState} {said : ScriptLine} {written : List ℕ}
+      {end : ScriptEnd} → EndsAt images certificates reads c number (bad_fault number bytes) said written end
       → Is (with_line number bytes said script) c written end
-  line_ends {number = number} {bytes = bytes} {c = c} script bad =
+  line_ends {number = number} bytes script {c = c} bad =
       none_done _ c [] _ (bad_line (record { number = number; fault = bad_fault number bytes }) refl)
-  line_ends {number = number} {c = c} script (source folder certificate failing) =
+  line_ends {number = number} bytes script {c = c} (source folder certificate failing) =
       none_done _ c [] _ (source_left (record { number = number; command = Load folder certificate }) script.commands
       folder certificate refl failing)
-  line_ends {number = number} {c = c} script (memory folder certificate short) =
+  line_ends {number = number} bytes script {c = c} (memory folder certificate short) =
       none_done _ c [] _ (memory_left (record { number = number; command = Load folder certificate }) script.commands
       folder certificate refl short)
-  line_ends {number = number} {c = c} script (unwritten asked part answer after answered first) =
+  line_ends {number = number} bytes script {c = c} (unwritten asked part answer after answered first) =
       none_done _ c part _ (unwritten_left (record { number = number; command = asked }) script.commands part answer
       after answered first)
 
@@ -106,7 +107,7 @@ module _ (images certificates : List ℕ → List ℕ → Type 0) (reads : Sourc
   run_of (line number first more c after part behind end played rest) =
       line_done number first (line_at number first) (script_from (suc number) more) c after part behind end played
       (run_of rest)
-  run_of (ended number first more c part end e) = line_ends (script_from (suc number) more) e
+  run_of (ended number first more c part end e) = line_ends first (script_from (suc number) more) e
   run_of (unread number more c) = none_done _ c [] _ (unread_left _)
 
   pub played_on : {script : List ℕ} {c : CardState} {before : List ℕ} {now : Option (List ℕ)} {end : ScriptEnd}

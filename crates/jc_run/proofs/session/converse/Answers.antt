@@ -28,18 +28,10 @@ loop-number-preserved g c =
           so_far.card so_far.rest (before ++ so_far.written) so_far.holds so_far.left_is so_far.now_is)),
     )
 
-pub returns-then-branch-clause-held : goal.returns-then-branch-clause-held
-returns-then-branch-clause-held g c = λ t bytes before h is known.
+pub returns-then-has_most_faults-clause-held : goal.returns-then-has_most_faults-clause-held
+returns-then-has_most_faults-clause-held g c = λ t bytes before h is known.
     let so_far = c.loop-number.invariant.2 t bytes before h is known in
     held_on _ _ (at_end _ _ t bytes before so_far (not_read _ _ _ so_far.card so_far.rest _ _ refl so_far.now_is))
-
-pub returns-then-branch-clause-same_images :
-    goal.returns-then-branch-clause-same_images
-returns-then-branch-clause-same_images g c = c.loop-number.invariant.0
-
-pub returns-then-branch-clause-same_certificates :
-    goal.returns-then-branch-clause-same_certificates
-returns-then-branch-clause-same_certificates g c = c.loop-number.invariant.1
 
 pub returns-then-not-branch-clause-held : goal.returns-then-not-branch-clause-held
 returns-then-not-branch-clause-held g c = λ t bytes before h is known.

@@ -7,8 +7,8 @@ returns-in-Ok-clause-held g c = λ bytes before is known. record {
       at c.in-Ok.ensures.held) bytes before is known;
 }
 
-pub returns-in-Err-clause-held : goal.returns-in-Err-clause-held
-returns-in-Err-clause-held g c = λ bytes before is known. record {
+pub returns-clause-held : goal.returns-clause-held
+returns-clause-held g c = λ bytes before is known. record {
   refused = _;
   held = (rw (c.new-source.ensures.files, c.new-source.ensures.failures, c.new-source.ensures.shortages)
       at c.in-Err.ensures.held) bytes before is known;

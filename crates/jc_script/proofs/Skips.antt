@@ -1,7 +1,7 @@
 -- The rest of a line that is too long.
-use Rattle.std.proofs.Common.{◌≡◌, ℕ, ◌<◌, true, List, [], ◌∷◌, ◌++◌, length}
+use Rattle.std.proofs.Common.{◌≡◌, ℕ, ◌<◌, List, [], ◌∷◌, ◌++◌, length}
 use Rattle.std.proofs.Common.{Option, Some, None, ap, ◌∙◌, sym}
-use Rattle.std.proofs.Common.{refl, arith, nat_lt, append_assoc, append-nil, subst}
+use Rattle.std.proofs.Common.{arith, append_assoc, append-nil, subst}
 use Rattle.std.specs.Io.KnownBytes.{Consumes}
 use Rattle.std.proofs.lemmas.List.{length-append}
 use Rattle.jc_script.proofs.Feeds.{feedless_append, line_last, line_off, no_lines}
@@ -9,7 +9,7 @@ use Rattle.jc_script.specs.PrivateReading.{ArePast, AreSkipped, BeginsLong, Ends
 use Rattle.jc_script.specs.PrivateReading.{ReadsKnown, ReadsOn}
 use Rattle.jc_script.specs.PrivateReading.IsSkipped.{at_end, at_feed}
 use Rattle.jc_script.specs.Reading.{SkipsLine, TellsInSession, TellsOfSession, pending}
-use Rattle.jc_script.specs.Script.{Bad, lines_of, most_in_line, session_line}
+use Rattle.jc_script.specs.Script.{lines_of, most_in_line}
 use Rattle.jc_script.specs.declared.reader.NextLine.{NextLine}
 use Rattle.jc_script.specs.declared.reader.NextLine.TheVariants as next
 
@@ -53,9 +53,6 @@ skipped_here (Some bytes) (Some k) unread after p e = at_feed (feed_found bytes 
 
 -- ---- a line of a session
 
-too_long : (line : List ℕ) → most_in_line < length line → session_line line ≡ Bad
-too_long line long = let is : nat_lt most_in_line (length line) ≡ true = grind (arith, long) in rw is refl
-
 longer : (front piece : List ℕ) → most_in_line < length front → most_in_line < length (front ++ piece)
 longer front piece long = let n = length-append front piece in omega (arith, n, long)
 
@@ -69,13 +66,13 @@ skipped_line bytes mid rest b (at_feed e) = record {
   first = b.front ++ e.piece;
   lines = ap lines_of (b.are ∙ ap (λ l. b.front ++ l) e.are ∙ sym (append_assoc b.front e.piece (10 ∷ rest)))
       ∙ line_off (b.front ++ e.piece) rest (feedless_append b.front e.piece b.feedless e.feedless);
-  bad = too_long (b.front ++ e.piece) (longer b.front e.piece b.long);
+  long = longer b.front e.piece b.long;
 }
 skipped_line bytes mid rest b (at_end f none) = record {
   first = b.front ++ mid;
   lines = ap lines_of b.are ∙ last_line b.front mid b.feedless f b.long
       ∙ ap (λ l. (b.front ++ mid) ∷ l) (sym (ap lines_of none ∙ no_lines));
-  bad = too_long (b.front ++ mid) (longer b.front mid b.long);
+  long = longer b.front mid b.long;
 }
 
 pub told_skipped : (line last : List ℕ) (before mid after : Option (List ℕ)) (told : NextLine) → told ≡ next.Bad

@@ -1,13 +1,27 @@
 -- The results of reading a script: a line, its end, or a line that is none.
-use Rattle.std.specs.Prelude.{⊤, ◌≡◌, ℕ, ◌≤◌, true, List, [], ◌∷◌, ◌++◌, length, Option, Some, None, option_map}
-use Rattle.jc_script.specs.Script.{Bad, is_unread, lines_of, most_in_line, most_lines, session_line}
+use Rattle.std.specs.Prelude.{⊤, ◌≡◌, ℕ, suc, ◌<◌, ◌≤◌, true, List, [], ◌∷◌, ◌++◌, length, Option, Some, None}
+use Rattle.std.specs.Prelude.{option_map}
+use Rattle.jc_script.specs.Script.{is_unread, lines_of, most_in_line, most_lines}
 use Rattle.jc_script.specs.declared.reader.NextLine.{NextLine}
 use Rattle.jc_script.specs.declared.reader.NextLine.TheVariants as next
+use Rattle.jc_script.specs.declared.reader.ReadFault.{ReadFault}
+use Rattle.jc_script.specs.declared.reader.ReadFault.TheVariants as faults
 
--- bytes that were read and belong to later lines, and the line that was read last
+-- bytes that were read and belong to later lines, the line that was read last, and how often the reader was called
 pub record SoFar : Type 0 where
   pub unread : List ℕ
   pub line : List ℕ
+  pub calls : ℕ
+
+-- the most calls of a reader
+abbrev pub most_calls : ℕ
+most_calls = 16777216
+
+-- why nothing was read, from how many calls of the reader had failed before and after, and how often it was called for
+-- the script: one call failed; or it was called as often as it may be
+abbrev pub IsReadFault : (before after calls : ℕ) → ReadFault → Type 0
+IsReadFault before after calls (faults.System error) = after ≡ suc before
+IsReadFault before after calls faults.TooManyReads = calls ≡ most_calls
 
 -- the bytes that are left of the script, if its reader's bytes are known
 abbrev pub pending : List ℕ → Option (List ℕ) → Option (List ℕ)
@@ -44,11 +58,11 @@ pub record TakesShortLine (line bytes rest : List ℕ) : Type 0 where
   pub lines : lines_of bytes ≡ line ∷ lines_of rest
   pub short : length line ≤ most_in_line
 
--- a line that is none was taken off
+-- a line that is too long was taken off
 pub record SkipsLine (bytes rest : List ℕ) : Type 0 where
   pub first : List ℕ
   pub lines : lines_of bytes ≡ first ∷ lines_of rest
-  pub bad : session_line first ≡ Bad
+  pub long : most_in_line < length first
 
 abbrev pub TellsOfSession : List ℕ → List ℕ → List ℕ → NextLine → Type 0
 TellsOfSession line bytes rest next.Line = TakesShortLine line bytes rest

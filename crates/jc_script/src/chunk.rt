@@ -1,9 +1,11 @@
 //! A chunk of bytes from a reader, which is taken part by part.
 
-ghost use Rattle.std.specs.Prelude.{◌≡◌, ◌≤◌, ◌==◌, [], length, drop, IfOk, OnErr};
+ghost use Rattle.std.specs.Prelude.{◌≡◌, ◌≤◌, ◌==◌, ◌+◌, suc, [], length, drop};
 ghost use Rattle.std.specs.Io.KnownBytes.{Consumes, IsAtEnd, Keeps};
+ghost use Rattle.jc_streams.specs.Streams.{faults_in, IfCame};
+ghost use Rattle.jc_script.specs.PrivateReading.{IfNoneCame};
 
-use std::io::{self, Read};
+use jc_streams::{Input, ReadOutcome};
 use std::marker::Model;
 
 /// The most bytes that are read at once.
@@ -62,17 +64,22 @@ impl Chunk {
         self.at += count;
     }
 
-    /// Replaces the bytes by new ones from the reader, and returns how many came. It is 0 only at the reader's end.
-    pub(crate) fn fill<R: Read>(&mut self, reader: &mut R) -> io::Result<usize>
-        ensures filled { IfOk result (λ count. count ≡ length self.new) }
-        ensures came { IfOk result (λ count. Consumes (R.remaining reader.old) (R.remaining reader.new) self.new) }
-        ensures end { IfOk result (λ count. count ≡ 0 → IsAtEnd (R.remaining reader.new)) }
-        ensures kept { OnErr result (Keeps (R.remaining reader.old) (R.remaining reader.new)) }
+    /// Replaces the bytes by new ones from the reader, by one call of it. None come only at the reader's end, or if the
+    /// call didn't succeed.
+    pub(crate) fn fill<R: Input>(&mut self, reader: &mut R) -> ReadOutcome
+        ensures called { R.calls reader.new ≡ suc (R.calls reader.old) }
+        ensures counted { R.faults reader.new ≡ R.faults reader.old + faults_in result }
+        ensures filled { IfCame result (λ count. count ≡ length self.new) }
+        ensures came { IfCame result (λ count. Consumes (R.remaining reader.old) (R.remaining reader.new) self.new) }
+        ensures end { IfCame result (λ count. count ≡ 0 → IsAtEnd (R.remaining reader.new)) }
+        ensures kept { IfNoneCame result (Keeps (R.remaining reader.old) (R.remaining reader.new)) }
     {
         self.at = 0;
         self.end = 0;
-        let count = reader.read(self.bytes.as_mut_slice())?;
-        self.end = count;
-        Ok(count)
+        let outcome = reader.read(self.bytes.as_mut_slice());
+        if let ReadOutcome::Came(count) = &outcome {
+            self.end = *count;
+        }
+        outcome
     }
 }

@@ -1,16 +1,18 @@
 //! The lines of a script, as they are read.
 
-ghost use Rattle.std.specs.Prelude.{◌≡◌, ◌≤◌, ◌<◌, ◌==◌, ◌++◌, [], length, position, drop, take, IfOk, IfSome, None, Some};
+ghost use Rattle.std.specs.Prelude.{◌≡◌, ◌≤◌, ◌<◌, ◌==◌, ◌+◌, ◌++◌, [], length, position, drop, take, IfOk, IfErr};
+ghost use Rattle.std.specs.Prelude.{IfSome, None, OnOk, Some};
 ghost use Rattle.std.specs.Bool.{OnFalse, OnTrue};
 ghost use Rattle.std.specs.Io.KnownBytes.{prepend_known};
 ghost use Rattle.jc_script.specs.PrivateReading.{AreSkipped, Fills, ReadsOn, SkipsPart, TakesPart, TellsMore};
 ghost use Rattle.jc_script.specs.PrivateReading.{told_last};
-ghost use Rattle.jc_script.specs.Reading.{Tells, TellsInSession, pending};
+ghost use Rattle.jc_script.specs.Reading.{IsReadFault, Tells, TellsInSession, most_calls, pending};
 
 use crate::chunk::Chunk;
 use crate::command::MOST_IN_LINE;
 use arrayvec::ArrayVec;
-use std::io::{self, Read};
+use jc_streams::{Input, ReadOutcome};
+use std::io;
 use std::marker::Model;
 use thiserror::Error;
 
@@ -68,9 +70,9 @@ impl Model for ScriptReader {
 
     ghost Value = { SoFar };
 
-    ghost view = { λ r. record { unread = r.chunk; line = r.line.items } };
+    ghost view = { λ r. record { unread = r.chunk; line = r.line.items; calls = r.calls } };
 
-    ghost invariant = { λ r. length r.line.items ≤ 1024 };
+    ghost invariant = { λ r. (length r.line.items ≤ 1024) × (r.calls ≤ 16777216) };
 }
 
 impl ScriptReader {
@@ -78,6 +80,7 @@ impl ScriptReader {
     pub fn new() -> ScriptReader
         ensures unread { result.unread ≡ [] }
         ensures line { result.line ≡ [] }
+        ensures calls { result.calls ≡ 0 }
     {
         ScriptReader {
             chunk: Chunk::new(),
@@ -95,17 +98,22 @@ impl ScriptReader {
     }
 
     // Reads a chunk, and returns whether bytes came.
-    fn fill<R: Read>(&mut self, reader: &mut R) -> Result<bool, ReadFault>
+    fn fill<R: Input>(&mut self, reader: &mut R) -> Result<bool, ReadFault>
         ensures line { self.new.line ≡ self.old.line }
         ensures filled { IfOk result
             (Fills self.new.unread (R.remaining reader.old) (R.remaining reader.new)) }
+        ensures called { R.calls reader.new + self.old.calls ≡ R.calls reader.old + self.new.calls }
+        ensures unread { IfErr result (IsReadFault (R.faults reader.old) (R.faults reader.new) self.new.calls) }
+        ensures working { OnOk result (R.faults reader.new ≡ R.faults reader.old) }
+        ensures more { OnOk result (self.old.calls < self.new.calls) }
+        ensures few { self.new.calls ≤ most_calls }
     {
         while self.calls < MOST_CALLS {
             self.calls += 1;
             match self.chunk.fill(reader) {
-                Ok(count) => return Ok(count > 0),
-                Err(error) if error.kind() == io::ErrorKind::Interrupted => {}
-                Err(error) => return Err(ReadFault::System(error)),
+                ReadOutcome::Came(count) => return Ok(count > 0),
+                ReadOutcome::Interrupted => {}
+                ReadOutcome::Failed(error) => return Err(ReadFault::System(error)),
             }
         }
         Err(ReadFault::TooManyReads)
@@ -132,6 +140,7 @@ impl ScriptReader {
         ensures unread { self.new.unread ≡ drop count self.old.unread }
         ensures line { self.new.line ≡ self.old.line }
         ensures short { length self.new.line ≤ 1024 }
+        ensures calls { self.new.calls ≡ self.old.calls }
     {
         self.chunk.take(count);
     }
@@ -142,6 +151,7 @@ impl ScriptReader {
         ensures taken { self.new.unread ≡ drop count self.old.unread }
         ensures fits { OnTrue result (self.new.line ≡ self.old.line ++ take count self.old.unread) }
         ensures long { OnFalse result (1024 < length (self.old.line ++ take count self.old.unread)) }
+        ensures calls { self.new.calls ≡ self.old.calls }
     {
         let fits = self
             .line
@@ -154,7 +164,8 @@ impl ScriptReader {
     // Moves the bytes before a line feed to the line, and drops the line feed.
     fn take_line(&mut self, at: usize) -> Part
         requires { position (λ b. b == 10) self.old.unread ≡ Some at }
-        ensures { TakesPart self.old self.new result }
+        ensures part { TakesPart self.old self.new result }
+        ensures calls { self.new.calls ≡ self.old.calls }
     {
         if !self.take_front(at) {
             return Part::TooLong;
@@ -166,7 +177,8 @@ impl ScriptReader {
     // Moves all unread bytes, which have no line feed, to the line.
     fn take_all(&mut self) -> Part
         requires { position (λ b. b == 10) self.old.unread ≡ None }
-        ensures { TakesPart self.old self.new result }
+        ensures part { TakesPart self.old self.new result }
+        ensures calls { self.new.calls ≡ self.old.calls }
     {
         if self.take_front(self.unread_len()) {
             Part::GoesOn
@@ -177,7 +189,8 @@ impl ScriptReader {
 
     // Moves the unread bytes up to a line feed to the line.
     fn take_part(&mut self) -> Part
-        ensures { TakesPart self.old self.new result }
+        ensures part { TakesPart self.old self.new result }
+        ensures calls { self.new.calls ≡ self.old.calls }
     {
         match self.feed() {
             Some(at) => self.take_line(at),
@@ -186,12 +199,15 @@ impl ScriptReader {
     }
 
     // The next line, if its number is allowed.
-    fn next_short<R: Read>(&mut self, reader: &mut R) -> Result<NextLine, ReadFault>
+    fn next_short<R: Input>(&mut self, reader: &mut R) -> Result<NextLine, ReadFault>
         requires { self.old.line ≡ [] }
-        ensures { IfOk result (ReadsOn self.new.line (pending self.old.unread (R.remaining reader.old))
+        ensures read { IfOk result (ReadsOn self.new.line (pending self.old.unread (R.remaining reader.old))
             (pending self.new.unread (R.remaining reader.new))) }
+        ensures called { R.calls reader.new + self.old.calls ≡ R.calls reader.old + self.new.calls }
+        ensures unread { IfErr result (IsReadFault (R.faults reader.old) (R.faults reader.new) self.new.calls) }
+        ensures working { OnOk result (R.faults reader.new ≡ R.faults reader.old) }
     {
-        for _ in 0..MOST_CALLS {
+        loop {
             match self.take_part() {
                 Part::Ended => return Ok(NextLine::Line),
                 Part::TooLong => return Ok(NextLine::Bad),
@@ -201,7 +217,6 @@ impl ScriptReader {
                 return Ok(self.last());
             }
         }
-        Err(ReadFault::TooManyReads)
     }
 
     // What comes if nothing is left to read.
@@ -217,9 +232,12 @@ impl ScriptReader {
     }
 
     // What comes if a line's number would be too great.
-    fn next_past<R: Read>(&mut self, reader: &mut R) -> Result<NextLine, ReadFault>
-        ensures { IfOk result (TellsMore (pending self.old.unread (R.remaining reader.old))
+    fn next_past<R: Input>(&mut self, reader: &mut R) -> Result<NextLine, ReadFault>
+        ensures told { IfOk result (TellsMore (pending self.old.unread (R.remaining reader.old))
             (pending self.new.unread (R.remaining reader.new))) }
+        ensures called { R.calls reader.new + self.old.calls ≡ R.calls reader.old + self.new.calls }
+        ensures unread { IfErr result (IsReadFault (R.faults reader.old) (R.faults reader.new) self.new.calls) }
+        ensures working { OnOk result (R.faults reader.new ≡ R.faults reader.old) }
     {
         if self.chunk.is_empty() && !self.fill(reader)? {
             Ok(NextLine::End)
@@ -232,6 +250,7 @@ impl ScriptReader {
     fn skip_part(&mut self) -> bool
         ensures line { self.new.line ≡ self.old.line }
         ensures skipped { SkipsPart self.old.unread self.new.unread result }
+        ensures calls { self.new.calls ≡ self.old.calls }
     {
         match self.feed() {
             Some(at) => {
@@ -246,11 +265,14 @@ impl ScriptReader {
     }
 
     // Drops the rest of a line, with its line feed, if it has one.
-    fn skip_rest<R: Read>(&mut self, reader: &mut R) -> Result<(), ReadFault>
-        ensures { IfOk result (λ u. AreSkipped (pending self.old.unread (R.remaining reader.old))
+    fn skip_rest<R: Input>(&mut self, reader: &mut R) -> Result<(), ReadFault>
+        ensures skipped { IfOk result (λ u. AreSkipped (pending self.old.unread (R.remaining reader.old))
             (pending self.new.unread (R.remaining reader.new))) }
+        ensures called { R.calls reader.new + self.old.calls ≡ R.calls reader.old + self.new.calls }
+        ensures unread { IfErr result (IsReadFault (R.faults reader.old) (R.faults reader.new) self.new.calls) }
+        ensures working { OnOk result (R.faults reader.new ≡ R.faults reader.old) }
     {
-        for _ in 0..MOST_CALLS {
+        loop {
             if self.skip_part() {
                 return Ok(());
             }
@@ -258,14 +280,16 @@ impl ScriptReader {
                 return Ok(());
             }
         }
-        Err(ReadFault::TooManyReads)
     }
 
     /// Reads the next line of a session, which may have any number of lines. If the reader's bytes are known: a line
     /// was taken off; or none is left; or a line that is too long was taken off, whole, and isn't returned.
-    pub fn next_in_session<R: Read>(&mut self, reader: &mut R) -> Result<NextLine, ReadFault>
-        ensures { IfOk result (TellsInSession self.new.line (pending self.old.unread (R.remaining reader.old))
+    pub fn next_in_session<R: Input>(&mut self, reader: &mut R) -> Result<NextLine, ReadFault>
+        ensures told { IfOk result (TellsInSession self.new.line (pending self.old.unread (R.remaining reader.old))
             (pending self.new.unread (R.remaining reader.new))) }
+        ensures called { R.calls reader.new + self.old.calls ≡ R.calls reader.old + self.new.calls }
+        ensures unread { IfErr result (IsReadFault (R.faults reader.old) (R.faults reader.new) self.new.calls) }
+        ensures working { OnOk result (R.faults reader.new ≡ R.faults reader.old) }
     {
         self.line.clear();
         match self.next_short(reader)? {
@@ -281,9 +305,12 @@ impl ScriptReader {
     /// Reads the line with a number, from 1 on. If the reader's bytes are known: a line was taken off; or none is left;
     /// or the first one left is too long, or its number is too great. It reads no byte after a line that isn't
     /// complete.
-    pub fn next<R: Read>(&mut self, reader: &mut R, number: u32) -> Result<NextLine, ReadFault>
-        ensures { IfOk result (Tells number self.new.line (pending self.old.unread (R.remaining reader.old))
+    pub fn next<R: Input>(&mut self, reader: &mut R, number: u32) -> Result<NextLine, ReadFault>
+        ensures told { IfOk result (Tells number self.new.line (pending self.old.unread (R.remaining reader.old))
             (pending self.new.unread (R.remaining reader.new))) }
+        ensures called { R.calls reader.new + self.old.calls ≡ R.calls reader.old + self.new.calls }
+        ensures unread { IfErr result (IsReadFault (R.faults reader.old) (R.faults reader.new) self.new.calls) }
+        ensures working { OnOk result (R.faults reader.new ≡ R.faults reader.old) }
     {
         self.line.clear();
         if number <= MOST_LINES {

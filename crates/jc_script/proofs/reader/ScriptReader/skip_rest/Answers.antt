@@ -1,13 +1,21 @@
+use Rattle.std.proofs.Common.{arith, ◌∙◌}
 use Rattle.jc_script.proofs.Skips.{goes_past, skipped_here}
 use Rattle.jc_script.proofs.reader.ScriptReader.skip_rest.Goals as goal
 
-pub returns-then-skip_part : goal.returns-then-skip_part
-returns-then-skip_part g c =
-    skipped_here _ (g.R.Read.remaining c.loop.reader) c.loop.self.unread _ c.loop.invariant
+pub returns-then-skip_part-clause-skipped : goal.returns-then-skip_part-clause-skipped
+returns-then-skip_part-clause-skipped g c =
+    skipped_here _ (g.R.Input.remaining c.loop-self.reader) c.loop-self.self.unread _ c.loop-self.invariant.0
     (rw c.if-skip_part.true at c.skip_part.ensures.skipped)
 
-pub loop-preserved : goal.loop-preserved
-loop-preserved g c =
+pub loop-self-preserved : goal.loop-self-preserved
+loop-self-preserved g c =
     let passed = rw c.if-skip_part.false at c.skip_part.ensures.skipped in
-    goes_past _ (g.R.Read.remaining c.loop.reader) (g.R.Read.remaining c.fill.new.reader) c.loop.self.unread _
-    c.loop.invariant passed.1 c.in_ok-fill.ensures.filled.came
+    let kept = c.skip_part.ensures.calls in
+    let before = c.loop-self.invariant.1 in
+    let called = c.in_ok-fill.ensures.called in
+    let left = g.R.Input.remaining in (
+      goes_past _ (left c.loop-self.reader) (left c.fill.new.reader) c.loop-self.self.unread _ c.loop-self.invariant.0
+          passed.1 c.in_ok-fill.ensures.filled.came,
+      omega (arith, kept, before, called),
+      c.in_ok-fill.ensures.working ∙ c.loop-self.invariant.2,
+    )

@@ -1,0 +1,12 @@
+//! Readers that count their calls, and those of them that failed.
+#![tactic(auto)]
+
+mod bytes;
+mod counts;
+mod input;
+mod outcome;
+
+pub use bytes::BytesInput;
+pub use counts::Counts;
+pub use input::{CountedInput, Input};
+pub use outcome::ReadOutcome;

@@ -1,0 +1,2 @@
+pub mod Thrown
+pub mod Explanation

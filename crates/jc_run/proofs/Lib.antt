@@ -10,3 +10,5 @@ mod Isolating
 mod NeverStuck
 pub mod Conversing
 pub mod Holding
+pub mod Laws
+pub mod Unread

@@ -10,32 +10,50 @@ use Rattle.jc_card.specs.Load.{IsLoad}
 use Rattle.jc_card.specs.Order.{Order, Resets, apdu_order, install_order}
 use Rattle.jc_card.specs.Parts.{Left}
 use Rattle.jc_machine.specs.Machine.{Touch}
-use Rattle.jc_source.specs.Source.{SourceEnd}
 use Rattle.jc_store.specs.Heap.{Heap}
 use Rattle.jc_words.specs.Values.{TaggedValue}
 use Rattle.jc_run.specs.Answer.{Answered}
 use Rattle.jc_run.specs.Performs.{PlaysOn}
 use Rattle.jc_run.specs.Play.{IsAnswered, IsGiven, ScriptEnd, answer_line}
-use Rattle.jc_run.specs.PrivatePlay.{EndsAt, IsLinePlayed, Plays, PlaysFrom}
+use Rattle.jc_run.specs.PrivatePlay.{EndsAt, IsCommandPlayed, IsLinePlayed, Plays, PlaysFrom}
 use Rattle.jc_run.specs.PrivatePlay.EndsAt.{bad, memory, source, unwritten}
 use Rattle.jc_run.specs.PrivatePlay.Plays.{ended, line, over, unread}
 use Rattle.jc_run.specs.CardRun.{IsCardRun, accesses_in, accesses_of, contexts_of}
-use Rattle.jc_run.specs.Runs.{AreGuarded, EndsWith, IsGuarded, IsKeptApart, IsPlayed, answer_lines, commands_of}
+use Rattle.jc_run.specs.Runs.{AreGuarded, EndsWith, IsGuarded, IsKeptApart, answer_lines, commands_of}
 use Rattle.jc_run.specs.Runs.EndsWith.{bad_line, memory as memory_left, over as over_left, source as source_left}
 use Rattle.jc_run.specs.Runs.EndsWith.{unread as unread_left, unwritten as unwritten_left}
 use Rattle.jc_run.specs.CardRun.IsCardRun.{command, nothing}
+use Rattle.jc_run.specs.ScriptReads.{ScriptReads}
+use Rattle.jc_run.specs.Reports.{AreReported, Report}
+use Rattle.jc_run.specs.Reports.AreReported.{more as one_reported, none}
 use Rattle.jc_script.specs.Script.{Apdu, Asks, Bad, Cells, Install, Load, Objects, Reset, ScriptCommand, ScriptLine}
 use Rattle.jc_script.specs.Script.{Skipped, Steps, line_at}
 use Rattle.jc_script.specs.Whole.{Numbered, Script, bad_fault, script_from, with_line}
 
-module _ (images certificates : List ℕ → List ℕ → Type 0) (reads : SourceEnd) where
-  abbrev Is : Script → CardState → List ℕ → ScriptEnd → Type 0
-  Is script c written end = IsPlayed images certificates reads script c written end
+-- commands that are done, up to an end, and what is told of them
+record IsDone (images certificates : List ℕ → List ℕ → Type 0) (reads : ScriptReads) (script : Script) (c : CardState)
+    (reports : List Report) (written : List ℕ) (end : ScriptEnd) : Type 0 where
+  done : List Numbered
+  left : List Numbered
+  in_order : script.commands ≡ done ++ left
+  answers : List Answered
+  touches : List Touch
+  ran : List ℕ
+  card : CardState
+  run : IsCardRun images certificates (commands_of done) c answers touches ran card
+  part : List ℕ
+  lines : written ≡ answer_lines answers ++ part
+  reported : AreReported done answers reports
+  ends : EndsWith images certificates reads card script.bad left part end
+
+module _ (images certificates : List ℕ → List ℕ → Type 0) (reads : ScriptReads) where
+  abbrev Is : Script → CardState → List Report → List ℕ → ScriptEnd → Type 0
+  Is script c reports written end = IsDone images certificates reads script c reports written end
 
   -- ---- no command is done
 
   none_done : (script : Script) (c : CardState) (part : List ℕ) (end : ScriptEnd)
-      → EndsWith images certificates reads c script.bad script.commands part end → Is script c part end
+      → EndsWith images certificates reads c script.bad script.commands part end → Is script c [] part end
   none_done script c part end ends = record {
     done = [];
     left = script.commands;
@@ -47,45 +65,54 @@ module _ (images certificates : List ℕ → List ℕ → Type 0) (reads : Sourc
     run = nothing c;
     part = part;
     lines = refl;
+    reported = none;
     ends = ends;
   }
 
   -- ---- a command more
 
-  one_more : (number : ℕ) (bytes : List ℕ) (first : ScriptCommand) (script : Script) (c between : CardState) (answer : Answered)
-      (behind : List ℕ) (end : ScriptEnd) → IsAnswered images certificates c first answer between
-      → Is script between behind end → Is (with_line number bytes (Asks first) script) c (answer_line answer ++ behind) end
-  one_more number bytes first script c between answer behind end answered d =
+  one_more : (number : ℕ) (bytes : List ℕ) (first : ScriptCommand) (script : Script) (c between : CardState)
+      (played : List Report) (written : List ℕ) (more : List Report) (behind : List ℕ) (end : ScriptEnd)
+      → IsCommandPlayed images certificates c number first played written between
+      → Is script between more behind end
+      → Is (with_line number bytes (Asks first) script) c (played ++ more) (written ++ behind) end
+  one_more number bytes first script c between played written more behind end p d =
       let asked : Numbered = record { number = number; command = first } in
       record {
         done = asked ∷ d.done;
         left = d.left;
         in_order = ap (λ (more : List Numbered). asked ∷ more) d.in_order;
-        answers = answer ∷ d.answers;
+        answers = p.answer ∷ d.answers;
         touches = accesses_of c first ++ d.touches;
         ran = contexts_of c first ++ d.ran;
         card = d.card;
-        run = command first (commands_of d.done) c between d.card answer d.answers d.touches d.ran answered d.run;
+        run = command first (commands_of d.done) c between d.card p.answer d.answers d.touches d.ran p.answered d.run;
         part = d.part;
         lines =
-            ap (λ (bytes : List ℕ). answer_line answer ++ bytes) d.lines
-            ∙ sym (append_assoc (answer_line answer) (answer_lines d.answers) d.part);
+            rw p.written_is
+            (ap (λ (bytes : List ℕ). answer_line p.answer ++ bytes) d.lines
+            ∙ sym (append_assoc (answer_line p.answer) (answer_lines d.answers) d.part));
+        reported =
+            rw p.reports_are (one_reported asked d.done p.answer d.answers p.denial p.stopped more d.reported);
         ends = d.ends;
       }
 
-  line_done : (number : ℕ) (bytes : List ℕ) (said : ScriptLine) (script : Script) (c after : CardState) (written behind : List ℕ)
-      (end : ScriptEnd) → IsLinePlayed images certificates c said written after → Is script after behind end
-      → Is (with_line number bytes said script) c (written ++ behind) end
-  line_done number bytes Skipped script c after written behind end played d = rw (played.0, ← played.1) d
-  line_done number bytes (Asks first) script c after written behind end played d =
-      rw played.written_is (one_more number bytes first script c after played.answer behind end played.answered d)
-  line_done number bytes Bad script c after written behind end played d = elim played [ ]
+  line_done : (number : ℕ) (bytes : List ℕ) (said : ScriptLine) (script : Script) (c after : CardState)
+      (reports more : List Report) (written behind : List ℕ) (end : ScriptEnd)
+      → IsLinePlayed images certificates c number said reports written after → Is script after more behind end
+      → Is (with_line number bytes said script) c (reports ++ more) (written ++ behind) end
+  line_done number bytes Skipped script c after reports more written behind end played d =
+      rw (played.0, played.1, ← played.2) d
+  line_done number bytes (Asks first) script c after reports more written behind end played d =
+      one_more number bytes first script c after reports written more behind end played d
+  line_done number bytes Bad script c after reports more written behind end played d = elim played [ ]
 
   -- ---- a line that ends it
 
   line_ends : {number : ℕ} (bytes : List ℕ) (script : Script) {c : CardState} {said : ScriptLine} {written : List ℕ}
-      {end : ScriptEnd} → EndsAt images certificates reads c number (bad_fault number bytes) said written end
-      → Is (with_line number bytes said script) c written end
+      {end : ScriptEnd}
+      → EndsAt images certificates reads.failed_at reads.short c number (bad_fault number bytes) said written end
+      → Is (with_line number bytes said script) c [] written end
   line_ends {number = number} bytes script {c = c} bad =
       none_done _ c [] _ (bad_line (record { number = number; fault = bad_fault number bytes }) refl)
   line_ends {number = number} bytes script {c = c} (source folder certificate failing) =
@@ -100,20 +127,43 @@ module _ (images certificates : List ℕ → List ℕ → Type 0) (reads : Sourc
 
   -- ---- all lines
 
-  run_of : {number : ℕ} {lines : List (List ℕ)} {c : CardState} {written : List ℕ} {end : ScriptEnd}
-      → Plays images certificates reads number lines c written end → Is (script_from number lines) c written end
+  run_of : {number : ℕ} {lines : List (List ℕ)} {c : CardState} {reports : List Report} {written : List ℕ}
+      {end : ScriptEnd} → Plays images certificates reads number lines c reports written end
+      → Is (script_from number lines) c reports written end
   unfolding script_from
   run_of (over number c) = none_done _ c [] _ (over_left refl)
-  run_of (line number first more c after part behind end played rest) =
-      line_done number first (line_at number first) (script_from (suc number) more) c after part behind end played
-      (run_of rest)
+  run_of (line number first lines c after reports more part behind end played rest) =
+      line_done number first (line_at number first) (script_from (suc number) lines) c after reports more part behind
+      end played (run_of rest)
   run_of (ended number first more c part end e) = line_ends first (script_from (suc number) more) e
-  run_of (unread number more c) = none_done _ c [] _ (unread_left _)
+  run_of (unread number more c why) = none_done _ c [] _ (unread_left _ why)
 
-  pub played_on : {script : List ℕ} {c : CardState} {before : List ℕ} {now : Option (List ℕ)} {end : ScriptEnd}
-      → PlaysFrom images certificates reads 1 script c before now end
-      → PlaysOn images certificates reads script c before now end
-  played_on p = record { written = p.written; played = run_of p.plays; now_is = p.now_is }
+  pub played_on : {told : List Report → Type 0} {script : List ℕ} {c : CardState} {before : List ℕ}
+      {now : Option (List ℕ)} {end : ScriptEnd}
+      → PlaysFrom images certificates reads told 1 script c before now end
+      → PlaysOn images certificates reads told script c before now end
+  played_on p =
+      let d = run_of p.plays in
+      record {
+        written = p.written;
+        played = record {
+          done = d.done;
+          left = d.left;
+          in_order = d.in_order;
+          answers = d.answers;
+          touches = d.touches;
+          ran = d.ran;
+          card = d.card;
+          run = d.run;
+          part = d.part;
+          lines = d.lines;
+          reports = p.reports;
+          reported = d.reported;
+          were_told = p.were_told;
+          ends = d.ends;
+        };
+        now_is = p.now_is;
+      }
 
 -- ---- what it accesses
 

@@ -2,6 +2,8 @@ pub mod Answer
 pub mod Play
 pub mod NeverStuck
 pub mod CardRun
+pub mod Reports
+pub mod ScriptReads
 pub mod Isolation
 pub mod Runs
 pub mod End

@@ -4,9 +4,11 @@ use Rattle.jc_api.specs.Bound.{Bound}
 use Rattle.jc_card.specs.Card.{CardState}
 use Rattle.jc_card.specs.Reads.{CardWords, Holds}
 use Rattle.jc_machine.specs.declared.limits.Limits.{Limits}
-use Rattle.jc_source.specs.Source.{Asked, Certificate, Image, SourceEnd}
+use Rattle.jc_source.specs.Source.{Asked, Certificate, Image}
 use Rattle.jc_run.specs.Answer.{Answered}
 use Rattle.jc_run.specs.Play.{IsAnswered, IsFailing, ScriptEnd}
+use Rattle.jc_run.specs.ScriptReads.{ScriptReads}
+use Rattle.jc_run.specs.Reports.{Report}
 use Rattle.jc_run.specs.Runs.{IsPlayed, IsSimulated}
 use Rattle.jc_script.specs.Script.{Apdu, Cells, Install, Load, Objects, Reset, ScriptCommand, Steps}
 use Rattle.jc_script.specs.Whole.{script_commands}
@@ -48,17 +50,18 @@ IsFailingOf failed_at Cells = ⊥
 IsFailingOf failed_at Objects = ⊥
 IsFailingOf failed_at (Steps steps) = ⊥
 
--- what was appended to the output, and the end, are those of a script on a card. Of the source it is known which read
--- failed last, and how many ran out of memory
-pub record PlaysOn (images certificates : List ℕ → List ℕ → Type 0) (reads : SourceEnd) (script : List ℕ)
-    (c : CardState) (before : List ℕ) (now : Option (List ℕ)) (end : ScriptEnd) : Type 0 where
+-- what was appended to the output, what the teller got, and the end, are those of a script on a card. Of the source it
+-- is known which read failed last, and how many ran out of memory
+pub record PlaysOn (images certificates : List ℕ → List ℕ → Type 0) (reads : ScriptReads) (told : List Report → Type 0)
+    (script : List ℕ) (c : CardState) (before : List ℕ) (now : Option (List ℕ)) (end : ScriptEnd) : Type 0 where
   pub written : List ℕ
-  pub played : IsPlayed images certificates reads (script_commands script) c written end
+  pub played : IsPlayed images certificates reads told (script_commands script) c written end
   pub now_is : now ≡ Some (before ++ written)
 
 -- they are those of a script on a new card: the simulation theorem holds for it
-pub record HasRun (images certificates : List ℕ → List ℕ → Type 0) (reads : SourceEnd) (limits : Limits)
-    (binding : Bound) (script before : List ℕ) (now : Option (List ℕ)) (end : ScriptEnd) : Type 0 where
+pub record HasRun (images certificates : List ℕ → List ℕ → Type 0) (reads : ScriptReads) (told : List Report → Type 0)
+    (limits : Limits) (binding : Bound) (script before : List ℕ) (now : Option (List ℕ)) (end : ScriptEnd)
+    : Type 0 where
   pub written : List ℕ
-  pub simulated : IsSimulated images certificates reads limits binding script written end
+  pub simulated : IsSimulated images certificates reads told limits binding script written end
   pub now_is : now ≡ Some (before ++ written)

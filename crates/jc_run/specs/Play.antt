@@ -69,8 +69,8 @@ answer_line answer = line_of answer ++ 10 ∷ []
 
 -- ---- how a script ends
 
--- all lines are done; a line is no command, for this fault; a file of a line can't be read; the script can't be read; an
--- answer can't be written; out of memory; bad limits of the card
+-- all lines are done; a line is no command, for this fault; a file of a line can't be read; the script can't be read;
+-- an answer can't be written; out of memory; bad limits of the card
 pub data ScriptEnd : Type 0 where
   Over : ScriptEnd
   BadLine : (number : ℕ) (fault : LineFault) → ScriptEnd

@@ -12,13 +12,14 @@ use Rattle.jc_machine.specs.Limits.{are_limits}
 use Rattle.jc_card.specs.Order.{Resets, apdu_order, install_order}
 use Rattle.jc_machine.specs.declared.limits.Limits.{Limits}
 use Rattle.jc_machine.specs.Machine.{Touch}
-use Rattle.jc_source.specs.Source.{SourceEnd}
 use Rattle.jc_run.specs.Answer.{Answered}
 use Rattle.jc_run.specs.CardRun.{IsCardRun}
 use Rattle.jc_run.specs.Isolation.{AreIsolated}
 use Rattle.jc_run.specs.NeverStuck.{IsNeverStuck}
 use Rattle.jc_run.specs.Play.{BadLimits, BadLine, IsAnswered, IsFailing, IsPart, NoMemory, NotRead, NotWritten, Over}
 use Rattle.jc_run.specs.Play.{ScriptEnd, SourceFailed, answer_line}
+use Rattle.jc_run.specs.ScriptReads.{ScriptReads}
+use Rattle.jc_run.specs.Reports.{AreReported, Report}
 use Rattle.jc_script.specs.Script.{Apdu, Cells, Install, Load, Objects, Reset, ScriptCommand, Steps}
 use Rattle.jc_script.specs.Whole.{FaultyLine, Numbered, Script, script_commands}
 
@@ -79,10 +80,10 @@ answer_lines [] = []
 answer_lines (answer ∷ answers) = answer_line answer ++ answer_lines answers
 
 -- the end of a script, on the card after the commands that were performed: which commands are left, what is written
--- after the answers, and the end. All are performed; or all up to a line that is none, for its fault; a file of the next
--- one, which is a load, can't be read, and the last read that failed was of it; memory runs out for one of its files, and
--- for no other read; the script can't be read; or a part of the next one's answer is written
-pub data EndsWith (images certificates : List ℕ → List ℕ → Type 0) (reads : SourceEnd) (c : CardState)
+-- after the answers, and the end. All are performed; or all up to a line that is none, for its fault; a file of the
+-- next one, which is a load, can't be read, and the last read that failed was of it; memory runs out for one of its
+-- files, and for no other read; the lines can't be read; or a part of the next one's answer is written
+pub data EndsWith (images certificates : List ℕ → List ℕ → Type 0) (reads : ScriptReads) (c : CardState)
     (bad : Option FaultyLine) : List Numbered → List ℕ → ScriptEnd → Type 0 where
   over : bad ≡ None → EndsWith images certificates reads c bad [] [] Over
   bad_line : (at : FaultyLine) → bad ≡ Some at
@@ -93,15 +94,15 @@ pub data EndsWith (images certificates : List ℕ → List ℕ → Type 0) (read
   memory : (next : Numbered) (left : List Numbered) (folder certificate : List ℕ)
       → next.command ≡ Load folder certificate → reads.short ≡ 1
       → EndsWith images certificates reads c bad (next ∷ left) [] NoMemory
-  unread : (left : List Numbered) → EndsWith images certificates reads c bad left [] NotRead
+  unread : (left : List Numbered) → reads.unread → EndsWith images certificates reads c bad left [] NotRead
   unwritten : (next : Numbered) (left : List Numbered) (part : List ℕ) (answer : Answered) (after : CardState)
       → IsAnswered images certificates c next.command answer after → IsPart part (answer_line answer)
       → EndsWith images certificates reads c bad (next ∷ left) part NotWritten
 
 -- a script on a card: its commands are performed in order, up to an end. Their answers are what is written, each answer
--- in a line of its own
-pub record IsPlayed (images certificates : List ℕ → List ℕ → Type 0) (reads : SourceEnd) (script : Script)
-    (c : CardState) (written : List ℕ) (end : ScriptEnd) : Type 0 where
+-- in a line of its own, and what the teller gets
+pub record IsPlayed (images certificates : List ℕ → List ℕ → Type 0) (reads : ScriptReads) (told : List Report → Type 0)
+    (script : Script) (c : CardState) (written : List ℕ) (end : ScriptEnd) : Type 0 where
   pub done : List Numbered
   pub left : List Numbered
   pub in_order : script.commands ≡ done ++ left
@@ -112,24 +113,31 @@ pub record IsPlayed (images certificates : List ℕ → List ℕ → Type 0) (re
   pub run : IsCardRun images certificates (commands_of done) c answers touches ran card
   pub part : List ℕ
   pub lines : written ≡ answer_lines answers ++ part
+  pub reports : List Report
+  pub reported : AreReported done answers reports
+  pub were_told : told reports
   pub ends : EndsWith images certificates reads card script.bad left part end
 
--- a script on a new card, which is made first: its limits are bad, or memory runs out for it, and no command is performed
-pub data RunsTo (images certificates : List ℕ → List ℕ → Type 0) (reads : SourceEnd) (limits : Limits)
-    (binding : Bound) (script : List ℕ) : List ℕ → ScriptEnd → Type 0 where
-  unfit : are_limits limits ≡ false → RunsTo images certificates reads limits binding script [] BadLimits
-  no_card : are_limits limits ≡ true → RunsTo images certificates reads limits binding script [] NoMemory
+-- a script on a new card, which is made first: its limits are bad, or memory runs out for it, and no command is
+-- performed, and nothing is told
+pub data RunsTo (images certificates : List ℕ → List ℕ → Type 0) (reads : ScriptReads) (told : List Report → Type 0)
+    (limits : Limits) (binding : Bound) (script : List ℕ) : List ℕ → ScriptEnd → Type 0 where
+  unfit : are_limits limits ≡ false → told []
+      → RunsTo images certificates reads told limits binding script [] BadLimits
+  no_card : are_limits limits ≡ true → told []
+      → RunsTo images certificates reads told limits binding script [] NoMemory
   played : (written : List ℕ) (end : ScriptEnd) → are_limits limits ≡ true
-      → IsPlayed images certificates reads (script_commands script) (new_card limits binding) written end
-      → RunsTo images certificates reads limits binding script written end
+      → IsPlayed images certificates reads told (script_commands script) (new_card limits binding) written end
+      → RunsTo images certificates reads told limits binding script written end
 
 -- the theorem: the responses are those of the defensive machine on a new card; each access is one that the firewall
 -- allows, or is denied, throws and changes nothing; contexts are isolated, on each card on which only the runtime runs
 -- as the runtime; the new card is such a card; and no list of commands is stuck there. Only the responses depend on the
 -- source's contents: the others hold for every list of commands, whatever is loaded
-pub record IsSimulated (images certificates : List ℕ → List ℕ → Type 0) (reads : SourceEnd) (limits : Limits)
-    (binding : Bound) (script written : List ℕ) (end : ScriptEnd) : Type 0 where
-  pub responses : RunsTo images certificates reads limits binding script written end
+pub record IsSimulated (images certificates : List ℕ → List ℕ → Type 0) (reads : ScriptReads)
+    (told : List Report → Type 0) (limits : Limits) (binding : Bound) (script written : List ℕ) (end : ScriptEnd)
+    : Type 0 where
+  pub responses : RunsTo images certificates reads told limits binding script written end
   pub accesses : AreGuarded anything anything
   pub isolated : AreIsolated anything anything
   pub apart : IsApartCard (new_card limits binding)

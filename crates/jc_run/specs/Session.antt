@@ -1,10 +1,13 @@
 -- A session: lines that are answered one by one on the card of the defensive machine; it goes on after a refused line.
 -- The contents of the source of packages are two relations, as for scripts.
-use Rattle.std.specs.Prelude.{◌≡◌, ◌+◌, ℕ, suc, false, true, List, [], ◌∷◌, ◌++◌, Option, Some}
+use Rattle.std.specs.Prelude.{◌≡◌, ◌+◌, ℕ, suc, false, true, List, [], ◌∷◌, ◌++◌, length, Option, Some, nat_lt}
+use Rattle.std.specs.Prelude.{if◌then◌else◌}
 use Rattle.jc_api.specs.Bound.{Bound}
 use Rattle.jc_card.specs.Accesses.{IsApartCard}
 use Rattle.jc_card.specs.Card.{CardState}
 use Rattle.jc_card.specs.New.{new_card}
+use Rattle.jc_firewall.specs.declared.access.Denial.{Denial}
+use Rattle.jc_interp.specs.declared.shown.ShownFrame.{ShownFrame}
 use Rattle.jc_machine.specs.Limits.{are_limits}
 use Rattle.jc_machine.specs.declared.limits.Limits.{Limits}
 use Rattle.jc_machine.specs.Machine.{Touch}
@@ -14,96 +17,139 @@ use Rattle.jc_run.specs.Play.{BadLimits, IsAnswered, IsPart, NoMemory, NotRead, 
 use Rattle.jc_run.specs.Play.{answer_line}
 use Rattle.jc_run.specs.CardRun.{IsCardRun}
 use Rattle.jc_run.specs.Isolation.{AreIsolated}
+use Rattle.jc_run.specs.Reports.{AnsweredLine, IsOfLoad, RefusedLine, Report, failures_told, shortages_told}
 use Rattle.jc_run.specs.Runs.{AreGuarded, answer_lines, anything}
-use Rattle.jc_script.specs.Script.{Asks, Bad, Load, ScriptCommand, Skipped, lines_of, session_line}
+use Rattle.jc_run.specs.declared.refusal.LineRefusal.{LineRefusal}
+use Rattle.jc_run.specs.declared.refusal.LineRefusal.TheVariants as refusals
+use Rattle.jc_script.specs.Faults.{fault_at, fault_in}
+use Rattle.jc_script.specs.Script.{Asks, Bad, Load, ScriptCommand, Skipped, lines_of, most_in_line, session_line}
+use Rattle.jc_script.specs.declared.fault.LineCause.TheVariants.{TooLong}
+use Rattle.jc_script.specs.declared.fault.LineFault.{LineFault}
+use Rattle.jc_script.specs.declared.finding.Dialect.TheVariants as dialects
 
--- these commands of lines were answered, in order, this many loads were refused, and these lines are left. The other
--- lines were skipped, or are none. A load is refused if a file can't be read, or memory runs out for it
-pub data AreAnswered : List (List ℕ) → List ScriptCommand → (refused : ℕ) → List (List ℕ) → Type 0 where
-  none : (lines : List (List ℕ)) → AreAnswered lines [] 0 lines
-  answered : (first : List ℕ) (lines left : List (List ℕ)) (command : ScriptCommand) (commands : List ScriptCommand)
-      (refused : ℕ) → session_line first ≡ Asks command → AreAnswered lines commands refused left
-      → AreAnswered (first ∷ lines) (command ∷ commands) refused left
-  skipped : (first : List ℕ) (lines left : List (List ℕ)) (commands : List ScriptCommand) (refused : ℕ)
-      → session_line first ≡ Skipped → AreAnswered lines commands refused left
-      → AreAnswered (first ∷ lines) commands refused left
-  bad : (first : List ℕ) (lines left : List (List ℕ)) (commands : List ScriptCommand) (refused : ℕ)
-      → session_line first ≡ Bad → AreAnswered lines commands refused left
-      → AreAnswered (first ∷ lines) commands refused left
-  unloaded : (first : List ℕ) (lines left : List (List ℕ)) (commands : List ScriptCommand) (refused : ℕ)
-      (folder certificate : List ℕ) → session_line first ≡ Asks (Load folder certificate)
-      → AreAnswered lines commands refused left → AreAnswered (first ∷ lines) commands (suc refused) left
+-- the fault of a session's line that is no command: it is too long, or has a first fault
+abbrev pub session_fault : List ℕ → LineFault
+session_fault line =
+    if nat_lt most_in_line (length line) then fault_at TooLong (most_in_line + 1) else fault_in dialects.Session line
 
--- the end of a session, on the card after the commands that were answered: which lines are left, what is written after
--- the answers, and the end. No line is left; or no line can be read; or a part of the next command's answer is written
-pub data SessionEndsWith (images certificates : List ℕ → List ℕ → Type 0) (c : CardState)
-    : List (List ℕ) → List ℕ → ScriptEnd → Type 0 where
-  over : SessionEndsWith images certificates c [] [] Over
-  unread : (left : List (List ℕ)) → SessionEndsWith images certificates c left [] NotRead
-  unwritten : (next : List ℕ) (left : List (List ℕ)) (command : ScriptCommand) (part : List ℕ) (answer : Answered)
-      (after : CardState) → session_line next ≡ Asks command
+-- these commands of lines, of which the first has a number, were answered, in order; these are their answers, and these
+-- reports were told: of each answered line, and of each refused one. The lines at the end are left; the first of them
+-- has the second number. A line is skipped, or refused if it is none, or if it is a load and a file can't be read, or
+-- memory runs out for it
+pub data AreAnswered
+    : ℕ → List (List ℕ) → List ScriptCommand → List Answered → List Report → ℕ → List (List ℕ) → Type 0 where
+  none : (number : ℕ) (lines : List (List ℕ)) → AreAnswered number lines [] [] [] number lines
+  answered : (number last : ℕ) (first : List ℕ) (lines left : List (List ℕ)) (command : ScriptCommand)
+      (commands : List ScriptCommand) (answer : Answered) (answers : List Answered) (denial : Option Denial)
+      (stopped : Option ShownFrame) (reports : List Report) → session_line first ≡ Asks command
+      → AreAnswered (suc number) lines commands answers reports last left
+      → AreAnswered number (first ∷ lines) (command ∷ commands) (answer ∷ answers)
+      (AnsweredLine number answer denial stopped ∷ reports) last left
+  skipped : (number last : ℕ) (first : List ℕ) (lines left : List (List ℕ)) (commands : List ScriptCommand)
+      (answers : List Answered) (reports : List Report) → session_line first ≡ Skipped
+      → AreAnswered (suc number) lines commands answers reports last left
+      → AreAnswered number (first ∷ lines) commands answers reports last left
+  bad : (number last : ℕ) (first : List ℕ) (lines left : List (List ℕ)) (commands : List ScriptCommand)
+      (answers : List Answered) (reports : List Report) → session_line first ≡ Bad
+      → AreAnswered (suc number) lines commands answers reports last left
+      → AreAnswered number (first ∷ lines) commands answers
+      (RefusedLine number (refusals.Bad (session_fault first)) ∷ reports) last left
+  unloaded : (number last : ℕ) (first : List ℕ) (lines left : List (List ℕ)) (commands : List ScriptCommand)
+      (answers : List Answered) (reports : List Report) (folder certificate : List ℕ) (refusal : LineRefusal)
+      → session_line first ≡ Asks (Load folder certificate) → IsOfLoad refusal
+      → AreAnswered (suc number) lines commands answers reports last left
+      → AreAnswered number (first ∷ lines) commands answers (RefusedLine number refusal ∷ reports) last left
+
+-- the end of a session, on the card after the commands that were answered: which lines are left, the first with a
+-- number; what is written after the answers, and the end. No line is left; or none can be read; or a part of the next
+-- command's answer is written
+pub data SessionEndsWith (images certificates : List ℕ → List ℕ → Type 0) (unreadable : ℕ → Type 0) (c : CardState)
+    : ℕ → List (List ℕ) → List ℕ → ScriptEnd → Type 0 where
+  over : (number : ℕ) → SessionEndsWith images certificates unreadable c number [] [] Over
+  unread : (number : ℕ) (left : List (List ℕ)) → unreadable number
+      → SessionEndsWith images certificates unreadable c number left [] NotRead
+  unwritten : (number : ℕ) (next : List ℕ) (left : List (List ℕ)) (command : ScriptCommand) (part : List ℕ)
+      (answer : Answered) (after : CardState) → session_line next ≡ Asks command
       → IsAnswered images certificates c command answer after → IsPart part (answer_line answer)
-      → SessionEndsWith images certificates c (next ∷ left) part NotWritten
+      → SessionEndsWith images certificates unreadable c number (next ∷ left) part NotWritten
 
--- how often a source failed or ran out of memory: from so often to so often
+-- how many reads of a source failed, and for how many memory ran out, before a session and after it
 pub record FaultCount : Type 0 where
-  pub before : ℕ
-  pub after : ℕ
+  pub failed : ℕ
+  pub short : ℕ
+  pub failed_after : ℕ
+  pub short_after : ℕ
 
--- from the numbers of failed reads, and of reads that ran out of memory
 abbrev pub fault_count : (failed short failed_after short_after : ℕ) → FaultCount
 fault_count failed short failed_after short_after =
-    record { before = failed + short; after = failed_after + short_after }
+    record { failed = failed; short = short; failed_after = failed_after; short_after = short_after }
+
+-- as many as the refusals among these reports name
+pub record AreCounted (faults : FaultCount) (reports : List Report) : Type 0 where
+  pub failures : faults.failed_after ≡ faults.failed + failures_told reports
+  pub shortages : faults.short_after ≡ faults.short + shortages_told reports
 
 -- lines on a card: the commands that were answered are a run of the card, up to an end. Their answers are what is
--- written, each answer in a line of its own. As many loads were refused as the source counted faults
-pub record IsHeld (images certificates : List ℕ → List ℕ → Type 0) (faults : FaultCount) (lines : List (List ℕ))
-    (c : CardState) (written : List ℕ) (end : ScriptEnd) : Type 0 where
+-- written, each answer in a line of its own, and what the teller gets, beside the refused lines. The source counted the
+-- faults for which loads were refused
+pub record IsHeld (images certificates : List ℕ → List ℕ → Type 0) (unreadable : ℕ → Type 0) (faults : FaultCount)
+    (told : List Report → Type 0) (lines : List (List ℕ)) (c : CardState) (written : List ℕ) (end : ScriptEnd)
+    : Type 0 where
   pub done : List ScriptCommand
-  pub refused : ℕ
-  pub counted : faults.after ≡ faults.before + refused
-  pub left : List (List ℕ)
-  pub in_order : AreAnswered lines done refused left
   pub answers : List Answered
+  pub reports : List Report
+  pub last : ℕ
+  pub left : List (List ℕ)
+  pub in_order : AreAnswered 1 lines done answers reports last left
+  pub counted : AreCounted faults reports
+  pub were_told : told reports
   pub touches : List Touch
   pub ran : List ℕ
   pub card : CardState
   pub run : IsCardRun images certificates done c answers touches ran card
   pub part : List ℕ
   pub written_is : written ≡ answer_lines answers ++ part
-  pub ends : SessionEndsWith images certificates card left part end
+  pub ends : SessionEndsWith images certificates unreadable card last left part end
 
--- a session on a new card, which is made first: its limits are bad, or memory runs out for it, and no line is answered
-pub data SessionRunsTo (images certificates : List ℕ → List ℕ → Type 0) (faults : FaultCount) (limits : Limits)
-    (binding : Bound) (input : List ℕ) : List ℕ → ScriptEnd → Type 0 where
-  unfit : are_limits limits ≡ false → SessionRunsTo images certificates faults limits binding input [] BadLimits
-  no_card : are_limits limits ≡ true → SessionRunsTo images certificates faults limits binding input [] NoMemory
-  held : (written : List ℕ) (end : ScriptEnd) → are_limits limits ≡ true
-      → IsHeld images certificates faults (lines_of input) (new_card limits binding) written end
-      → SessionRunsTo images certificates faults limits binding input written end
+-- a session on a new card, which is made first: its limits are bad, or memory runs out for it, and no line is answered,
+-- and nothing is told
+pub data SessionRunsTo (images certificates : List ℕ → List ℕ → Type 0) (unreadable : ℕ → Type 0) (faults : FaultCount)
+    (told : List Report → Type 0) (limits : Limits) (binding : Bound) (input : List ℕ) : List ℕ → ScriptEnd → Type 0
+  where
+    unfit : are_limits limits ≡ false → told []
+        → SessionRunsTo images certificates unreadable faults told limits binding input [] BadLimits
+    no_card : are_limits limits ≡ true → told []
+        → SessionRunsTo images certificates unreadable faults told limits binding input [] NoMemory
+    held : (written : List ℕ) (end : ScriptEnd) → are_limits limits ≡ true
+        → IsHeld images certificates unreadable faults told (lines_of input) (new_card limits binding) written end
+        → SessionRunsTo images certificates unreadable faults told limits binding input written end
 
 -- the theorem: the responses are those of the defensive machine on a new card, without the refused lines; each access
 -- is one that the firewall allows, or is denied, throws and changes nothing; contexts are isolated; on that card only
 -- the runtime runs as the runtime; and no list of commands is stuck there. Only the responses depend on the source's
 -- contents
-pub record IsSessionSimulated (images certificates : List ℕ → List ℕ → Type 0) (faults : FaultCount) (limits : Limits)
-    (binding : Bound) (input written : List ℕ) (end : ScriptEnd) : Type 0 where
-  pub responses : SessionRunsTo images certificates faults limits binding input written end
+pub record IsSessionSimulated (images certificates : List ℕ → List ℕ → Type 0) (unreadable : ℕ → Type 0)
+    (faults : FaultCount) (told : List Report → Type 0) (limits : Limits) (binding : Bound)
+    (input written : List ℕ) (end : ScriptEnd) : Type 0 where
+  pub responses : SessionRunsTo images certificates unreadable faults told limits binding input written end
   pub accesses : AreGuarded anything anything
   pub isolated : AreIsolated anything anything
   pub apart : IsApartCard (new_card limits binding)
   pub never_stuck : IsNeverStuck anything anything (new_card limits binding)
 
--- what was appended to the output, and the end, are those of the session on a new card: the theorem holds for it
-pub record HasHeld (images certificates : List ℕ → List ℕ → Type 0) (faults : FaultCount) (limits : Limits)
-    (binding : Bound) (input before : List ℕ) (now : Option (List ℕ)) (end : ScriptEnd) : Type 0 where
+-- what was appended to the output, what the teller got, and the end, are those of the session on a new card: the
+-- theorem holds for it
+pub record HasHeld (images certificates : List ℕ → List ℕ → Type 0) (unreadable : ℕ → Type 0) (faults : FaultCount)
+    (told : List Report → Type 0) (limits : Limits) (binding : Bound) (input before : List ℕ)
+    (now : Option (List ℕ)) (end : ScriptEnd) : Type 0 where
   pub written : List ℕ
-  pub simulated : IsSessionSimulated images certificates faults limits binding input written end
+  pub simulated : IsSessionSimulated images certificates unreadable faults told limits binding input written end
   pub now_is : now ≡ Some (before ++ written)
 
 -- the same for a session on an existing card
-pub record ConversesOn (images certificates : List ℕ → List ℕ → Type 0) (faults : FaultCount) (bytes : List ℕ)
-    (c : CardState) (before : List ℕ) (now : Option (List ℕ)) (end : ScriptEnd) : Type 0 where
+pub record ConversesOn (images certificates : List ℕ → List ℕ → Type 0) (unreadable : ℕ → Type 0) (faults : FaultCount)
+    (told : List Report → Type 0) (bytes : List ℕ) (c : CardState) (before : List ℕ) (now : Option (List ℕ))
+    (end : ScriptEnd) : Type 0 where
   pub written : List ℕ
-  pub held : IsHeld images certificates faults (lines_of bytes) c written end
+  pub held : IsHeld images certificates unreadable faults told (lines_of bytes) c written end
   pub now_is : now ≡ Some (before ++ written)

@@ -1,14 +1,18 @@
 //! Playing scripts line by line.
 
-ghost use Rattle.std.specs.Prelude.{false, ◌≡◌, ◌+◌, ◌<◌, ◌≤◌, ◌^◌, ℕ, List, Some, IfOk, IfErr, OnOk, length};
+ghost use Rattle.std.specs.Prelude.{false, ◌≡◌, ◌+◌, ◌-◌, ◌<◌, ◌≤◌, ◌^◌, ℕ, List, Some, IfOk, IfErr, IsErr, OnOk};
+ghost use Rattle.std.specs.Prelude.{length};
 ghost use Rattle.jc_machine.specs.Limits.{are_limits};
 ghost use Rattle.jc_card.specs.Card.{CardState};
 ghost use Rattle.jc_card.specs.Reads.{Holds};
-ghost use Rattle.jc_source.specs.Source.{HoldSame, source_end};
+ghost use Rattle.jc_source.specs.Source.{HoldSame};
 ghost use Rattle.jc_run.specs.End.{end_of, end_of_fault};
 ghost use Rattle.jc_run.specs.Performs.{HasRun, PlaysOn};
 ghost use Rattle.jc_run.specs.Play.{BadLimits, failures_at};
-ghost use Rattle.jc_run.specs.PrivatePlay.{IsLineDone, IsEnd, IsLineEnd, IsRead, IsUnread, PlaysFrom, Turns};
+ghost use Rattle.jc_run.specs.PrivatePlay.{IsLineDone, IsEnd, IsLineEnd, IsRead, IsUnread, IsUnreadSoFar, PlaysFrom};
+ghost use Rattle.jc_run.specs.PrivatePlay.{Turns};
+ghost use Rattle.jc_run.specs.ScriptReads.{IsUnreadable, script_reads};
+ghost use Rattle.jc_run.specs.Reports.{AreTold};
 ghost use Rattle.jc_script.specs.Faults.{fault_in};
 ghost use Rattle.jc_script.specs.Reading.{pending};
 ghost use Rattle.jc_script.specs.Script as script;
@@ -18,7 +22,7 @@ ghost use Rattle.jc_script.specs.declared.finding.Dialect.TheVariants as dialect
 
 use crate::command::perform;
 use crate::fault::ScriptFault;
-use crate::laws::commands_are_lawful;
+use crate::lawful::commands_are_lawful;
 use crate::telling::Teller;
 use crate::writing::write_answer;
 use jc_api::Binding;
@@ -29,8 +33,9 @@ use jc_script::{
     ScriptLine, ScriptReader, fault_in, said_by,
 };
 use jc_source::{PackageSource, SourceFault};
+use jc_streams::Input;
 use std::alloc::Global;
-use std::io::{Read, Write};
+use std::io::Write;
 
 /// Performs the command of the line with a number, and writes its answer.
 fn play_command<W: Write, S: PackageSource, T: Teller<S>>(
@@ -46,13 +51,15 @@ fn play_command<W: Write, S: PackageSource, T: Teller<S>>(
     requires few_short { S.short source.old < 2 ^ 31 }
     ensures done { OnOk result ((c : CardState) (before : List ℕ) → Holds card.old c
         → W.contents writer.old ≡ Some before
-        → IsLineDone (S.holds_image source.old) (S.holds_certificate source.old) c
-        (script.Asks (shown_command command.now)) card.new before (W.contents writer.new)) }
+        → IsLineDone (S.holds_image source.old) (S.holds_certificate source.old)
+        (AreTold T.tells teller.old teller.new) c number (script.Asks (shown_command command.now)) card.new before
+        (W.contents writer.new)) }
+    ensures none_told { IsErr result → teller.new ≡ teller.old }
     ensures none_short { OnOk result (S.short source.new ≡ S.short source.old) }
     ensures ended { IfErr result (λ fault. (c : CardState) (before : List ℕ) (told : LineFault) → Holds card.old c
         → W.contents writer.old ≡ Some before
         → IsLineEnd (S.holds_image source.old) (S.holds_certificate source.old)
-        (source_end (S.failed_at source.new) (S.short source.old) (S.short source.new)) c number told
+        (S.failed_at source.new) (S.short source.new - S.short source.old) c number told
         (script.Asks (shown_command command.now)) before (W.contents writer.new) (end_of_fault fault)) }
     ensures counted { S.failed source.new ≡ S.failed source.old + failures_at (end_of result) }
     ensures same_images { HoldSame (S.holds_image source.old) (S.holds_image source.new) }
@@ -87,13 +94,15 @@ fn play_line<W: Write, S: PackageSource, T: Teller<S>>(
     requires short { length line.now ≤ 1024 }
     ensures done { OnOk result ((c : CardState) (before : List ℕ) → Holds card.old c
         → W.contents writer.old ≡ Some before
-        → IsLineDone (S.holds_image source.old) (S.holds_certificate source.old) c
-        (script.said_by line.now) card.new before (W.contents writer.new)) }
+        → IsLineDone (S.holds_image source.old) (S.holds_certificate source.old)
+        (AreTold T.tells teller.old teller.new) c number (script.said_by line.now) card.new before
+        (W.contents writer.new)) }
+    ensures none_told { IsErr result → teller.new ≡ teller.old }
     ensures none_short { OnOk result (S.short source.new ≡ S.short source.old) }
     ensures ended { IfErr result (λ fault. (c : CardState) (before : List ℕ) → Holds card.old c
         → W.contents writer.old ≡ Some before
         → IsLineEnd (S.holds_image source.old) (S.holds_certificate source.old)
-        (source_end (S.failed_at source.new) (S.short source.old) (S.short source.new)) c number
+        (S.failed_at source.new) (S.short source.new - S.short source.old) c number
         (fault_in dialects.Script line.now) (script.said_by line.now) before (W.contents writer.new)
         (end_of_fault fault)) }
     ensures counted { S.failed source.new ≡ S.failed source.old + failures_at (end_of result) }
@@ -131,7 +140,7 @@ fn unread_fault(number: u32) -> LineFault
 }
 
 /// Reads the line with a number, and returns whether there is one.
-fn read_line<R: Read>(
+fn read_line<R: Input>(
     reader: &mut R,
     lines: &mut ScriptReader,
     number: u32,
@@ -141,7 +150,10 @@ fn read_line<R: Read>(
         → IsRead number lines.new.line bytes (pending lines.new.unread (R.remaining reader.new)) is_line) }
     ensures unread { IfErr result (λ fault. (bytes : List ℕ)
         → pending lines.old.unread (R.remaining reader.old) ≡ Some bytes
-        → IsUnread number bytes (end_of_fault fault)) }
+        → IsUnread (IsUnreadSoFar (R.faults reader.old) (R.faults reader.new) lines.new.calls) number bytes
+        (end_of_fault fault)) }
+    ensures called { R.calls reader.new + lines.old.calls ≡ R.calls reader.old + lines.new.calls }
+    ensures working { OnOk result (R.faults reader.new ≡ R.faults reader.old) }
     ensures counted { IfErr result (λ fault. failures_at (end_of_fault fault) ≡ 0) }
 {
     match lines.next(reader, number)? {
@@ -155,7 +167,7 @@ fn read_line<R: Read>(
 }
 
 /// Reads and plays the line with a number, and returns whether there is one.
-fn play_next<R: Read, W: Write, S: PackageSource, T: Teller<S>>(
+fn play_next<R: Input, W: Write, S: PackageSource, T: Teller<S>>(
     alloc: Global,
     reader: &mut R,
     writer: &mut W,
@@ -170,13 +182,19 @@ fn play_next<R: Read, W: Write, S: PackageSource, T: Teller<S>>(
     ensures done { IfOk result (λ is_line. (c : CardState) (bytes before : List ℕ) → Holds card.old c
         → pending lines.old.unread (R.remaining reader.old) ≡ Some bytes → W.contents writer.old ≡ Some before
         → Turns (S.holds_image source.old) (S.holds_certificate source.old)
-        (source_end (S.failed_at source.new) (S.short source.old) (S.short source.new)) number bytes c card.new
+        (script_reads (S.failed_at source.new) (S.short source.old) (S.short source.new)
+        (IsUnreadSoFar (R.faults reader.old) (R.faults reader.new) lines.new.calls))
+        (AreTold T.tells teller.old teller.new) number bytes c card.new
         (pending lines.new.unread (R.remaining reader.new)) before (W.contents writer.new) is_line) }
     ensures ended { IfErr result (λ fault. (c : CardState) (bytes before : List ℕ) → Holds card.old c
         → pending lines.old.unread (R.remaining reader.old) ≡ Some bytes → W.contents writer.old ≡ Some before
         → PlaysFrom (S.holds_image source.old) (S.holds_certificate source.old)
-        (source_end (S.failed_at source.new) (S.short source.old) (S.short source.new)) number bytes c before
-        (W.contents writer.new) (end_of_fault fault)) }
+        (script_reads (S.failed_at source.new) (S.short source.old) (S.short source.new)
+        (IsUnreadSoFar (R.faults reader.old) (R.faults reader.new) lines.new.calls))
+        (AreTold T.tells teller.old teller.new) number bytes c before (W.contents writer.new)
+        (end_of_fault fault)) }
+    ensures called { R.calls reader.new + lines.old.calls ≡ R.calls reader.old + lines.new.calls }
+    ensures working { OnOk result (R.faults reader.new ≡ R.faults reader.old) }
     ensures none_failed { IfOk result (λ is_line. S.failed source.new ≡ S.failed source.old) }
     ensures none_short { IfOk result (λ is_line. S.short source.new ≡ S.short source.old) }
     ensures counted { IfErr result (λ fault.
@@ -192,14 +210,16 @@ fn play_next<R: Read, W: Write, S: PackageSource, T: Teller<S>>(
 }
 
 /// Reads past the last line that a script may have: nothing follows, or a bad line.
-fn play_end<R: Read>(
+fn play_end<R: Input>(
     reader: &mut R,
     lines: &mut ScriptReader,
     number: u32,
 ) -> Result<(), ScriptFault>
     requires { 100000 < number }
     ensures ended { (bytes : List ℕ) → pending lines.old.unread (R.remaining reader.old) ≡ Some bytes
-        → IsEnd number bytes (end_of result) }
+        → IsEnd (IsUnreadSoFar (R.faults reader.old) (R.faults reader.new) lines.new.calls) number bytes
+        (end_of result) }
+    ensures called { R.calls reader.new + lines.old.calls ≡ R.calls reader.old + lines.new.calls }
     ensures counted { failures_at (end_of result) ≡ 0 }
 {
     if read_line(reader, lines, number)? {
@@ -215,7 +235,7 @@ fn play_end<R: Read>(
 /// Plays a script on a card. It reads a line after the answer to the one before it is written and flushed. Each answer
 /// has a line of its own. If it fails, the lines before are written, and if the writer fails, a part of the line that
 /// couldn't be written. After each answer it informs the teller.
-pub fn play<R: Read, W: Write, S: PackageSource, T: Teller<S>>(
+pub fn play<R: Input, W: Write, S: PackageSource, T: Teller<S>>(
     alloc: Global,
     reader: &mut R,
     writer: &mut W,
@@ -228,8 +248,9 @@ pub fn play<R: Read, W: Write, S: PackageSource, T: Teller<S>>(
     ensures played { (c : CardState) (bytes before : List ℕ) → Holds card.old c
         → R.remaining reader.old ≡ Some bytes → W.contents writer.old ≡ Some before
         → PlaysOn (S.holds_image source.old) (S.holds_certificate source.old)
-        (source_end (S.failed_at source.new) (S.short source.old) (S.short source.new)) bytes c before
-        (W.contents writer.new) (end_of result) }
+        (script_reads (S.failed_at source.new) (S.short source.old) (S.short source.new)
+        (IsUnreadable (R.calls reader.old) (R.calls reader.new) (R.faults reader.old) (R.faults reader.new)))
+        (AreTold T.tells teller.old teller.new) bytes c before (W.contents writer.new) (end_of result) }
     ensures counted { S.failed source.new ≡ S.failed source.old + failures_at (end_of result) }
     ensures same_images { HoldSame (S.holds_image source.old) (S.holds_image source.new) }
     ensures same_certificates { HoldSame (S.holds_certificate source.old) (S.holds_certificate source.new) }
@@ -249,7 +270,7 @@ pub fn play<R: Read, W: Write, S: PackageSource, T: Teller<S>>(
 
 /// Plays a script on a new card with only the API's packages, with the AIDs and tokens of a binding, and within limits.
 /// It reads nothing if the limits are too small or too large.
-pub fn run_script<R: Read, W: Write, S: PackageSource, T: Teller<S>>(
+pub fn run_script<R: Input, W: Write, S: PackageSource, T: Teller<S>>(
     alloc: Global,
     reader: &mut R,
     writer: &mut W,
@@ -262,10 +283,13 @@ pub fn run_script<R: Read, W: Write, S: PackageSource, T: Teller<S>>(
     requires few_short { S.short source.old < 2 ^ 31 }
     ensures run { (bytes before : List ℕ) → R.remaining reader.old ≡ Some bytes → W.contents writer.old ≡ Some before
         → HasRun (S.holds_image source.old) (S.holds_certificate source.old)
-        (source_end (S.failed_at source.new) (S.short source.old) (S.short source.new)) limits binding.now bytes before
-        (W.contents writer.new) (end_of result) }
+        (script_reads (S.failed_at source.new) (S.short source.old) (S.short source.new)
+        (IsUnreadable (R.calls reader.old) (R.calls reader.new) (R.faults reader.old) (R.faults reader.new)))
+        (AreTold T.tells teller.old teller.new) limits binding.now bytes before (W.contents writer.new)
+        (end_of result) }
     ensures limits { are_limits limits ≡ false → (end_of result ≡ BadLimits)
-        × (R.remaining reader.new ≡ R.remaining reader.old) × (W.contents writer.new ≡ W.contents writer.old) }
+        × (R.remaining reader.new ≡ R.remaining reader.old) × (W.contents writer.new ≡ W.contents writer.old)
+        × (teller.new ≡ teller.old) }
     ensures counted { S.failed source.new ≡ S.failed source.old + failures_at (end_of result) }
     ensures same_images { HoldSame (S.holds_image source.old) (S.holds_image source.new) }
     ensures same_certificates { HoldSame (S.holds_certificate source.old) (S.holds_certificate source.new) }

@@ -1,22 +1,29 @@
 //! Sessions: lines that are answered one by one, on a card that stays after a refused line.
 
-ghost use Rattle.std.specs.Prelude.{false, ◌≡◌, ◌<◌, ◌≤◌, ◌^◌, ℕ, List, Some, IfOk, IfErr, OnOk, length};
+ghost use Rattle.std.specs.Prelude.{false, true, ◌≡◌, ◌⊎◌, ◌+◌, ◌<◌, ◌≤◌, ◌^◌, ℕ, List, Some, IfOk, IfErr, IsErr, OnOk};
+ghost use Rattle.std.specs.Prelude.{length};
 ghost use Rattle.jc_machine.specs.Limits.{are_limits};
 ghost use Rattle.jc_card.specs.Card.{CardState};
 ghost use Rattle.jc_card.specs.Reads.{Holds};
-ghost use Rattle.jc_source.specs.Source.{HoldSame};
+ghost use Rattle.jc_source.specs.Source.{HoldSame, failures_of, shortages_of};
 ghost use Rattle.jc_run.specs.End.{end_of, end_of_fault};
 ghost use Rattle.jc_run.specs.Play.{BadLimits};
+ghost use Rattle.jc_run.specs.PrivatePlay.{IsUnreadSoFar};
 ghost use Rattle.jc_run.specs.PrivateSession.{ConversesFrom, EndsLine, IsLineHeld, SessionTurns};
+ghost use Rattle.jc_run.specs.ScriptReads.{IsUnreadAt, IsUnreadable};
+ghost use Rattle.jc_run.specs.Reports.{AreTold, IsOfLoad, failures_for, shortages_for};
 ghost use Rattle.jc_run.specs.Session.{ConversesOn, HasHeld, fault_count};
+ghost use Rattle.jc_script.specs.Faults.{fault_in};
 ghost use Rattle.jc_script.specs.Reading.{pending};
 ghost use Rattle.jc_script.specs.Script as script;
 ghost use Rattle.jc_script.specs.Shown.{shown_command};
+ghost use Rattle.jc_script.specs.declared.finding.Dialect.TheVariants as dialects;
 
 use crate::command::perform;
 use crate::fault::ScriptFault;
-use crate::laws::commands_are_lawful;
-use crate::telling::{LineRefusal, Teller};
+use crate::lawful::commands_are_lawful;
+use crate::refusal::LineRefusal;
+use crate::telling::Teller;
 use crate::writing::write_answer;
 use jc_api::Binding;
 use jc_card::Card;
@@ -26,8 +33,9 @@ use jc_script::{
     ScriptLine, ScriptReader, fault_in, said_in_session,
 };
 use jc_source::{PackageSource, SourceFault};
+use jc_streams::Input;
 use std::alloc::Global;
-use std::io::{Read, Write};
+use std::io::Write;
 
 /// The most reads of a source that may fail, or run out of memory.
 const MOST_FAULTS: u32 = 2_147_483_647;
@@ -42,12 +50,17 @@ const TOO_LONG: LineRefusal = LineRefusal::Bad(LineFault {
 fn has_most_faults<S: PackageSource>(source: &S) -> bool
     ensures few { result ≡ false → S.failed source.now < 2 ^ 31 }
     ensures few_short { result ≡ false → S.short source.now < 2 ^ 31 }
+    ensures most { result ≡ true → (2 ^ 31 ≤ S.failed source.now) ⊎ (2 ^ 31 ≤ S.short source.now) }
 {
     source.failures() > MOST_FAULTS || source.shortages() > MOST_FAULTS
 }
 
 /// The refusal of a load for a fault of the source.
-fn refusal_of(fault: SourceFault) -> LineRefusal {
+fn refusal_of(fault: SourceFault) -> LineRefusal
+    ensures of_load { IsOfLoad result }
+    ensures failures { failures_for result ≡ failures_of fault }
+    ensures shortages { shortages_for result ≡ shortages_of fault }
+{
     match fault {
         SourceFault::Failed => LineRefusal::Source,
         SourceFault::Memory => LineRefusal::Memory,
@@ -66,15 +79,17 @@ fn converse_command<W: Write, S: PackageSource, T: Teller<S>>(
 ) -> Result<(), ScriptFault>
     requires few { S.failed source.old < 2 ^ 31 }
     requires few_short { S.short source.old < 2 ^ 31 }
-    ensures done { OnOk result ((c : CardState) (before : List ℕ) → Holds card.old c
+    ensures done { (fault : LineFault) → OnOk result ((c : CardState) (before : List ℕ) → Holds card.old c
         → W.contents writer.old ≡ Some before
         → IsLineHeld (S.holds_image source.old) (S.holds_certificate source.old)
-        (fault_count (S.failed source.old) (S.short source.old) (S.failed source.new) (S.short source.new)) c
-        (script.Asks (shown_command command.now)) card.new before (W.contents writer.new)) }
+        (fault_count (S.failed source.old) (S.short source.old) (S.failed source.new) (S.short source.new))
+        (AreTold T.tells teller.old teller.new) c number fault (script.Asks (shown_command command.now)) card.new before
+        (W.contents writer.new)) }
     ensures ended { IfErr result (λ fault. (c : CardState) (before : List ℕ) → Holds card.old c
         → W.contents writer.old ≡ Some before
         → EndsLine (S.holds_image source.old) (S.holds_certificate source.old) c
         (script.Asks (shown_command command.now)) before (W.contents writer.new) (end_of_fault fault)) }
+    ensures none_told { IsErr result → teller.new ≡ teller.old }
     ensures none_counted { IfErr result (λ fault. S.failed source.new ≡ S.failed source.old) }
     ensures none_short { IfErr result (λ fault. S.short source.new ≡ S.short source.old) }
     ensures same_images { HoldSame (S.holds_image source.old) (S.holds_image source.new) }
@@ -112,12 +127,14 @@ fn converse_line<W: Write, S: PackageSource, T: Teller<S>>(
     ensures done { OnOk result ((c : CardState) (before : List ℕ) → Holds card.old c
         → W.contents writer.old ≡ Some before
         → IsLineHeld (S.holds_image source.old) (S.holds_certificate source.old)
-        (fault_count (S.failed source.old) (S.short source.old) (S.failed source.new) (S.short source.new)) c
+        (fault_count (S.failed source.old) (S.short source.old) (S.failed source.new) (S.short source.new))
+        (AreTold T.tells teller.old teller.new) c number (fault_in dialects.Session line.now)
         (script.said_in_session line.now) card.new before (W.contents writer.new)) }
     ensures ended { IfErr result (λ fault. (c : CardState) (before : List ℕ) → Holds card.old c
         → W.contents writer.old ≡ Some before
         → EndsLine (S.holds_image source.old) (S.holds_certificate source.old) c
         (script.said_in_session line.now) before (W.contents writer.new) (end_of_fault fault)) }
+    ensures none_told { IsErr result → teller.new ≡ teller.old }
     ensures none_counted { IfErr result (λ fault. S.failed source.new ≡ S.failed source.old) }
     ensures none_short { IfErr result (λ fault. S.short source.new ≡ S.short source.old) }
     ensures same_images { HoldSame (S.holds_image source.old) (S.holds_image source.new) }
@@ -138,7 +155,7 @@ fn converse_line<W: Write, S: PackageSource, T: Teller<S>>(
 }
 
 /// Reads and plays a line, and returns whether there is one.
-fn converse_next<R: Read, W: Write, S: PackageSource, T: Teller<S>>(
+fn converse_next<R: Input, W: Write, S: PackageSource, T: Teller<S>>(
     alloc: Global,
     reader: &mut R,
     writer: &mut W,
@@ -153,13 +170,19 @@ fn converse_next<R: Read, W: Write, S: PackageSource, T: Teller<S>>(
     ensures done { IfOk result (λ is_line. (c : CardState) (bytes before : List ℕ) → Holds card.old c
         → pending lines.old.unread (R.remaining reader.old) ≡ Some bytes → W.contents writer.old ≡ Some before
         → SessionTurns (S.holds_image source.old) (S.holds_certificate source.old)
-        (fault_count (S.failed source.old) (S.short source.old) (S.failed source.new) (S.short source.new)) bytes c card.new
+        (λ number. IsUnreadSoFar (R.faults reader.old) (R.faults reader.new) lines.new.calls)
+        (fault_count (S.failed source.old) (S.short source.old) (S.failed source.new) (S.short source.new))
+        (AreTold T.tells teller.old teller.new) number bytes c card.new
         (pending lines.new.unread (R.remaining reader.new)) before (W.contents writer.new) is_line) }
     ensures ended { IfErr result (λ fault. (c : CardState) (bytes before : List ℕ) → Holds card.old c
         → pending lines.old.unread (R.remaining reader.old) ≡ Some bytes → W.contents writer.old ≡ Some before
         → ConversesFrom (S.holds_image source.old) (S.holds_certificate source.old)
-        (fault_count (S.failed source.old) (S.short source.old) (S.failed source.new) (S.short source.new)) bytes c before
-        (W.contents writer.new) (end_of_fault fault)) }
+        (λ number. IsUnreadSoFar (R.faults reader.old) (R.faults reader.new) lines.new.calls)
+        (fault_count (S.failed source.old) (S.short source.old) (S.failed source.new) (S.short source.new))
+        (AreTold T.tells teller.old teller.new) number bytes c before (W.contents writer.new)
+        (end_of_fault fault)) }
+    ensures called { R.calls reader.new + lines.old.calls ≡ R.calls reader.old + lines.new.calls }
+    ensures working { OnOk result (R.faults reader.new ≡ R.faults reader.old) }
     ensures same_images { HoldSame (S.holds_image source.old) (S.holds_image source.new) }
     ensures same_certificates { HoldSame (S.holds_certificate source.old) (S.holds_certificate source.new) }
 {
@@ -179,7 +202,7 @@ fn converse_next<R: Read, W: Write, S: PackageSource, T: Teller<S>>(
 /// Answers lines on a card, one by one, to their end. It reads a line after the answer to the one before it is written
 /// and flushed. It reports a line that is no command, or whose files can't be read, to the teller, and then reads the
 /// next line.
-pub fn converse<R: Read, W: Write, S: PackageSource, T: Teller<S>>(
+pub fn converse<R: Input, W: Write, S: PackageSource, T: Teller<S>>(
     alloc: Global,
     reader: &mut R,
     writer: &mut W,
@@ -190,13 +213,16 @@ pub fn converse<R: Read, W: Write, S: PackageSource, T: Teller<S>>(
     ensures held { (c : CardState) (bytes before : List ℕ) → Holds card.old c
         → R.remaining reader.old ≡ Some bytes → W.contents writer.old ≡ Some before
         → ConversesOn (S.holds_image source.old) (S.holds_certificate source.old)
-        (fault_count (S.failed source.old) (S.short source.old) (S.failed source.new) (S.short source.new)) bytes c before
-        (W.contents writer.new) (end_of result) }
+        (IsUnreadAt (IsUnreadable (R.calls reader.old) (R.calls reader.new) (R.faults reader.old)
+        (R.faults reader.new)) (S.failed source.new) (S.short source.new))
+        (fault_count (S.failed source.old) (S.short source.old) (S.failed source.new) (S.short source.new))
+        (AreTold T.tells teller.old teller.new) bytes c before (W.contents writer.new) (end_of result) }
     ensures same_images { HoldSame (S.holds_image source.old) (S.holds_image source.new) }
     ensures same_certificates { HoldSame (S.holds_certificate source.old) (S.holds_certificate source.new) }
 {
     let mut lines = ScriptReader::new();
-    for number in 1..u64::MAX {
+    let mut number = 1;
+    while number < u64::MAX {
         if has_most_faults(source) {
             return Err(ScriptFault::Read(ReadFault::TooManyReads));
         }
@@ -205,13 +231,14 @@ pub fn converse<R: Read, W: Write, S: PackageSource, T: Teller<S>>(
         )? {
             return Ok(());
         }
+        number += 1;
     }
     Err(ScriptFault::Read(ReadFault::TooManyReads))
 }
 
 /// Answers lines on a new card with only the API's packages, with the AIDs and tokens of a binding, and within limits.
 /// It reads nothing if the limits are too small or too large.
-pub fn run_session<R: Read, W: Write, S: PackageSource, T: Teller<S>>(
+pub fn run_session<R: Input, W: Write, S: PackageSource, T: Teller<S>>(
     alloc: Global,
     reader: &mut R,
     writer: &mut W,
@@ -223,10 +250,14 @@ pub fn run_session<R: Read, W: Write, S: PackageSource, T: Teller<S>>(
     ensures held { (bytes before : List ℕ) → R.remaining reader.old ≡ Some bytes
         → W.contents writer.old ≡ Some before
         → HasHeld (S.holds_image source.old) (S.holds_certificate source.old)
-        (fault_count (S.failed source.old) (S.short source.old) (S.failed source.new) (S.short source.new)) limits binding.now bytes
-        before (W.contents writer.new) (end_of result) }
+        (IsUnreadAt (IsUnreadable (R.calls reader.old) (R.calls reader.new) (R.faults reader.old)
+        (R.faults reader.new)) (S.failed source.new) (S.short source.new))
+        (fault_count (S.failed source.old) (S.short source.old) (S.failed source.new) (S.short source.new))
+        (AreTold T.tells teller.old teller.new) limits binding.now bytes before (W.contents writer.new)
+        (end_of result) }
     ensures limits { are_limits limits ≡ false → (end_of result ≡ BadLimits)
-        × (R.remaining reader.new ≡ R.remaining reader.old) × (W.contents writer.new ≡ W.contents writer.old) }
+        × (R.remaining reader.new ≡ R.remaining reader.old) × (W.contents writer.new ≡ W.contents writer.old)
+        × (teller.new ≡ teller.old) }
     ensures same_images { HoldSame (S.holds_image source.old) (S.holds_image source.new) }
     ensures same_certificates { HoldSame (S.holds_certificate source.old) (S.holds_certificate source.new) }
 {

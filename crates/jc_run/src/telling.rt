@@ -1,23 +1,19 @@
 //! Reports besides the answers of lines.
 
+ghost use Rattle.std.specs.Prelude.{option_map};
+ghost use Rattle.jc_run.specs.Answer.{shown};
+ghost use Rattle.jc_run.specs.Reports.{AnsweredLine, RefusedLine, Report};
+
 use crate::answer::CommandAnswer;
+use crate::refusal::LineRefusal;
 use jc_firewall::Denial;
 use jc_interp::ShownFrame;
-use jc_script::LineFault;
-
-/// Why a line of a session isn't answered.
-#[derive(Clone, Copy, Debug, PartialEq, Eq)]
-pub enum LineRefusal {
-    /// It is no command.
-    Bad(LineFault),
-    /// The package or the certificate that it names can't be read, as the source reports.
-    Source,
-    /// Memory ran out for what it names.
-    Memory,
-}
 
 /// The receiver of reports besides the answers that are written. No result of a line depends on it.
 pub trait Teller<S> {
+    // What a report does to it.
+    ghost tells: { Self → Report → Self → Type 0 };
+
     /// The line with a number, from 1 on, was answered. `stopped` is the frame in which the last call of an applet
     /// stopped, if it did. If it stopped with a SecurityException, `denial` is the firewall's denial, if that is known.
     fn answered(
@@ -26,8 +22,11 @@ pub trait Teller<S> {
         answer: &CommandAnswer,
         denial: Option<Denial>,
         stopped: Option<&ShownFrame>,
-    );
+    )
+        ensures { tells self.old (AnsweredLine number (shown answer.now) denial
+            (option_map (λ frame. frame.now) stopped.entry)) self.new };
 
     /// A line of a session wasn't answered, and the session goes on.
-    fn refused(&mut self, number: u64, refusal: &LineRefusal, source: &S);
+    fn refused(&mut self, number: u64, refusal: &LineRefusal, source: &S)
+        ensures { tells self.old (RefusedLine number refusal.now) self.new };
 }

@@ -1,6 +1,6 @@
 -- Sources of packages and certificates: their contents, how many reads failed or ran out of memory, and the names that
 -- were read.
-use Rattle.std.specs.Prelude.{⊤, ◌≡◌, ℕ, ◌-◌, List, ◌++◌, Option, Some, None, Result, Ok, Err}
+use Rattle.std.specs.Prelude.{⊤, ◌≡◌, ℕ, List, ◌++◌, Option, Some, None, Result, Ok, Err}
 use Rattle.jc_source.specs.declared.source.SourceFault.{SourceFault}
 use Rattle.jc_source.specs.declared.source.SourceFault.TheVariants.{Failed, Memory}
 
@@ -41,15 +41,6 @@ pub record HoldSame (before after : List ℕ → List ℕ → Type 0) : Type 0 w
 pub data Asked : Type 0 where
   Image : (name : List ℕ) → Asked
   Certificate : (name : List ℕ) → Asked
-
--- a source after some reads: of which name the last read that failed was, and how many of them ran out of memory
-pub record SourceEnd : Type 1 where
-  pub failed_at : Asked → Type 0
-  pub short : ℕ
-
--- from how many ran out of memory before these reads, and after them
-abbrev pub source_end : (failed_at : Asked → Type 0) → (before after : ℕ) → SourceEnd
-source_end failed_at before after = record { failed_at = failed_at; short = after - before }
 
 -- these reads were recorded, in order, after the earlier ones, if those are known
 abbrev pub Asks : Option (List Asked) → Option (List Asked) → List Asked → Type 0

@@ -1,5 +1,6 @@
-use Rattle.std.proofs.Common.{rules}
+use Rattle.std.proofs.Common.{refl, rules}
 use Rattle.jc_card.specs.New.{new_card}
+use Rattle.jc_run.proofs.Ending.{none_told}
 use Rattle.jc_run.proofs.Playing.{handed_end}
 use Rattle.jc_run.proofs.Starting.{made_runs, not_made}
 use Rattle.jc_run.specs.Performs.{HasRun}
@@ -8,7 +9,7 @@ use Rattle.jc_run.proofs.run.run_script.Goals as goal
 pub returns-clause-run : goal.returns-clause-run
 returns-clause-run g c = λ bytes before is known.
     let card = new_card c.args.limits c.args.binding.now in
-    made_runs _ _ _ c.args.limits c.args.binding.now (record {
+    made_runs _ _ _ _ c.args.limits c.args.binding.now (record {
       accesses = c.commands_are_lawful.ensures.guarded;
       isolated = c.commands_are_lawful.ensures.isolated;
       apart = c.commands_are_lawful.ensures.apart c.args.limits c.args.binding.now c.has_no_clash.ensures;
@@ -19,12 +20,12 @@ returns-clause-run g c = λ bytes before is known.
 
 pub returns-in_err-card-clause-run : goal.returns-in_err-card-clause-run
 returns-in_err-card-clause-run g c = λ bytes before is known.
-    handed_end _ _ (HasRun _ _ _ c.args.limits c.args.binding.now bytes before _) c.from_residual.ensures.1
-    (not_made _ _ _ c.args.limits c.args.binding.now (record {
+    handed_end _ _ (HasRun _ _ _ _ c.args.limits c.args.binding.now bytes before _) c.from_residual.ensures.1
+    (not_made _ _ _ _ c.args.limits c.args.binding.now (record {
       accesses = c.commands_are_lawful.ensures.guarded;
       isolated = c.commands_are_lawful.ensures.isolated;
       apart = c.commands_are_lawful.ensures.apart c.args.limits c.args.binding.now c.has_no_clash.ensures;
       never_stuck = c.commands_are_lawful.ensures.never_stuck c.args.limits c.args.binding.now (search rules)
           c.has_no_clash.ensures;
     }) bytes before _ c.new.result c.new.ensures.limits
-    c.in_err-card.field-0.0 c.in_err-card.was known)
+    c.in_err-card.field-0.0 c.in_err-card.was (none_told refl) known)

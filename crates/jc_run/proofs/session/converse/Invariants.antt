@@ -1,18 +1,28 @@
-use Rattle.std.proofs.Common.{◌≡◌, ℕ, List, Some}
+use Rattle.std.proofs.Common.{◌≡◌, ◌≤◌, ◌+◌, ◌-◌, ℕ, List, Some}
 use Rattle.jc_card.specs.Card.{CardState}
 use Rattle.jc_card.specs.Reads.{Holds}
 use Rattle.jc_source.specs.Source.{HoldSame}
 use Rattle.jc_run.specs.PrivateSession.{HasConversed}
+use Rattle.jc_run.specs.ScriptReads.{IsUnreadAt, IsUnreadable}
 use Rattle.jc_run.specs.Session.{fault_count}
 use Rattle.jc_script.specs.Reading.{pending}
 use Rattle.jc_run.proofs.session.converse.Given as goal
 
 abbrev pub invariant-loop-number : goal.invariant-loop-number
 invariant-loop-number g l =
-    HoldSame (g.S.PackageSource.holds_image l.fn.source) (g.S.PackageSource.holds_image l.source)
+    (l.number ≤ 18446744073709551615)
+    × HoldSame (g.S.PackageSource.holds_image l.fn.source) (g.S.PackageSource.holds_image l.source)
     × HoldSame (g.S.PackageSource.holds_certificate l.fn.source) (g.S.PackageSource.holds_certificate l.source)
-    × ((c : CardState) (bytes before : List ℕ) → Holds l.fn.card c → g.R.Read.remaining l.fn.reader ≡ Some bytes
+    × (g.R.Input.faults l.reader ≡ g.R.Input.faults l.fn.reader)
+    × (g.R.Input.calls l.reader ≡ g.R.Input.calls l.fn.reader + l.lines.calls)
+    × ((c : CardState) (bytes before : List ℕ) → Holds l.fn.card c → g.R.Input.remaining l.fn.reader ≡ Some bytes
     → g.W.Write.contents l.fn.writer ≡ Some before
     → HasConversed (g.S.PackageSource.holds_image l.fn.source) (g.S.PackageSource.holds_certificate l.fn.source)
+    (λ s r. IsUnreadAt (IsUnreadable (g.R.Input.calls l.fn.reader) (g.R.Input.calls r) (g.R.Input.faults l.fn.reader)
+    (g.R.Input.faults r)) (g.S.PackageSource.failed s) (g.S.PackageSource.short s))
     (fault_count (g.S.PackageSource.failed l.fn.source) (g.S.PackageSource.short l.fn.source)
-    (g.S.PackageSource.failed l.source) (g.S.PackageSource.short l.source)) c bytes before l.card (pending l.lines.unread (g.R.Read.remaining l.reader)) (g.W.Write.contents l.writer))
+    (g.S.PackageSource.failed l.source) (g.S.PackageSource.short l.source)) g.T.Teller.tells l.fn.teller c bytes before
+    l.number l.card l.teller (pending l.lines.unread (g.R.Input.remaining l.reader)) (g.W.Write.contents l.writer))
+
+abbrev pub decreases-loop-number : goal.decreases-loop-number
+decreases-loop-number g l = 18446744073709551615 - l.number

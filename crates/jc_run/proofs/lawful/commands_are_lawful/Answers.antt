@@ -2,7 +2,7 @@ use Rattle.jc_card.specs.New.{new_card}
 use Rattle.jc_run.proofs.Isolating.{all_isolated}
 use Rattle.jc_run.proofs.NeverStuck.{never_stuck}
 use Rattle.jc_run.proofs.Running.{all_guarded}
-use Rattle.jc_run.proofs.laws.commands_are_lawful.Goals as goal
+use Rattle.jc_run.proofs.lawful.commands_are_lawful.Goals as goal
 
 pub returns-clause-guarded : goal.returns-clause-guarded
 returns-clause-guarded c = all_guarded (record {

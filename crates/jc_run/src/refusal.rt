@@ -1,0 +1,16 @@
+//! Why a line of a session isn't answered.
+
+ghost use Rattle.std.specs.Prelude.{◌≡◌};
+
+use jc_script::LineFault;
+
+/// Why a line of a session isn't answered.
+#[derive(Clone, Copy, Debug, PartialEq, Eq)]
+pub enum LineRefusal {
+    /// It is no command.
+    Bad(LineFault),
+    /// The package or the certificate that it names can't be read, as the source reports.
+    Source,
+    /// Memory ran out for what it names.
+    Memory,
+}

@@ -14,13 +14,14 @@ use Rattle.jc_natives.specs.Cells.{put_all}
 use Rattle.jc_natives.specs.Kept.{instance_of, instance_with}
 use Rattle.jc_natives.specs.declared.kept.Instance.{Instance}
 use Rattle.jc_names.specs.declared.owner.Owner.{Owner}
-use Rattle.jc_source.specs.Source.{SourceEnd}
 use Rattle.jc_words.specs.Values.{Word}
 use Rattle.jc_run.specs.Answer.{Answered, Responds, WasReset}
 use Rattle.jc_run.specs.CardRun.{IsCardRun}
 use Rattle.jc_run.specs.CardRun.IsCardRun.{command as performed, nothing}
 use Rattle.jc_run.specs.Play.{BadLimits, BadLine, IsAnswered, IsGiven, IsPart, NoMemory, NotRead, NotWritten, Over}
 use Rattle.jc_run.specs.Play.{ScriptEnd, SourceFailed, answer_line}
+use Rattle.jc_run.specs.ScriptReads.{ScriptReads}
+use Rattle.jc_run.specs.Reports.{Report}
 use Rattle.jc_run.specs.Runs.{EndsWith, IsPlayed, answer_lines, commands_of}
 use Rattle.jc_run.specs.Runs.EndsWith.{bad_line, memory, over, source, unread, unwritten}
 use Rattle.jc_script.specs.Script.{Apdu, Cells, Install, Load, Objects, Reset, ScriptCommand, Steps}
@@ -198,7 +199,7 @@ module _ (images certificates : List ℕ → List ℕ → Type 0) where
 
   -- ---- a script
 
-  module _ (reads : SourceEnd) where
+  module _ (reads : ScriptReads) where
     ends_so : {c : CardState} {bad : Option FaultyLine} {left : List Numbered} {part : List ℕ} {end : ScriptEnd}
         (done : List Numbered) → IsBare c → ArePlain (commands_of left)
         → EndsWith images certificates reads c bad left part end
@@ -207,7 +208,7 @@ module _ (images certificates : List ℕ → List ℕ → Type 0) where
     ends_so done bare plain (bad_line at is) = (is, refl)
     ends_so done bare plain (source next left folder certificate is failing) = elim ((rw is at plain.0)) [ ]
     ends_so done bare plain (memory next left folder certificate is short) = elim ((rw is at plain.0)) [ ]
-    ends_so done bare plain (unread left) =
+    ends_so done bare plain (unread left why) =
         record { rest = lines_to left; whole_is = ap (λ (bs : List ℕ). bs ++ lines_to left) (sym (append-nil _)) }
     ends_so {c = c} done bare plain (unwritten next left part answer after answered is) =
         let d : IsDone next.command answer after =
@@ -218,11 +219,11 @@ module _ (images certificates : List ℕ → List ℕ → Type 0) where
               (ap answer_line (sym d.answered) ∙ is.whole_is);
         }
 
-    pub script_ends : (script : Script) (c : CardState) (written : List ℕ) (end : ScriptEnd)
+    pub script_ends : (told : List Report → Type 0) (script : Script) (c : CardState) (written : List ℕ) (end : ScriptEnd)
         → ArePlain (commands_of script.commands) → IsBare c
-        → IsPlayed images certificates reads script c written end
+        → IsPlayed images certificates reads told script c written end
         → EndsSo script.bad (lines_to script.commands) end written
-    script_ends script c written end plain bare p =
+    script_ends told script c written end plain bare p =
         let plains = plain_parts p.done p.left (rw p.in_order at plain) in
         let d : AreDone (commands_of p.done) p.answers p.card = run_done plains.0 bare p.run in
         rw (p.lines, d.answered, p.in_order, lines_apart p.done p.left)

@@ -1,17 +1,15 @@
 -- How a script ended, by the contents of its source before it.
 use Rattle.std.proofs.Common.{◌≡◌, ℕ, List, [], Option, Some, None, refl}
 use Rattle.jc_api.specs.Bound.{Bound}
-use Rattle.jc_card.specs.Card.{CardState}
 use Rattle.jc_machine.specs.declared.limits.Limits.{Limits}
-use Rattle.jc_source.specs.Source.{Asked, Certificate, HoldSame, Image, SourceEnd, source_end}
+use Rattle.jc_source.specs.Source.{Asked, Certificate, HoldSame, Image}
+use Rattle.jc_run.proofs.Laws.{simulated_as}
 use Rattle.jc_run.specs.Performs.{HasRun}
-use Rattle.jc_run.specs.Play.{IsFailing, ScriptEnd}
-use Rattle.jc_run.specs.Play.IsFailing.{certificate as of_certificate, image as of_image}
-use Rattle.jc_run.specs.Runs.{EndsWith, IsPlayed, IsSimulated, RunsTo}
-use Rattle.jc_run.specs.Runs.EndsWith.{bad_line, memory, over, source, unread, unwritten}
-use Rattle.jc_run.specs.Runs.RunsTo.{no_card, played, unfit}
-use Rattle.jc_script.specs.Whole.{FaultyLine, Numbered, Script}
-use Rattle.jc_memory.specs.Memory.{Holds, IsMissing, Stored, missing_reads, stored_under}
+use Rattle.jc_run.specs.Play.{ScriptEnd}
+use Rattle.jc_run.specs.Reports.{Report}
+use Rattle.jc_run.specs.Runs.{IsSimulated}
+use Rattle.jc_run.specs.ScriptReads.{script_reads}
+use Rattle.jc_memory.specs.Memory.{Holds, IsMissing, Stored, missing_reads, stored_under, unheard}
 
 -- ---- what is missing
 
@@ -33,69 +31,24 @@ missing_before images certificates images_after certificates_after same same_cer
 
 -- ---- the end of a script
 
-module _ (images certificates : List ℕ → List ℕ → Type 0) (reads told : SourceEnd)
-    (failing : (asked : Asked) → reads.failed_at asked → told.failed_at asked) (may_be : told.short ≡ 1) where
-  failing_as : {folder name : List ℕ} → IsFailing reads.failed_at folder name → IsFailing told.failed_at folder name
-  failing_as (of_image h) = of_image (failing _ h)
-  failing_as (of_certificate h) = of_certificate (failing _ h)
-
-  ends_as : {c : CardState} {bad : Option FaultyLine} {left : List Numbered} {part : List ℕ} {end : ScriptEnd}
-      → EndsWith images certificates reads c bad left part end
-      → EndsWith images certificates told c bad left part end
-  ends_as (over none) = over none
-  ends_as (bad_line at is) = bad_line at is
-  ends_as (source next left folder name is fails) = source next left folder name is (failing_as fails)
-  ends_as (memory next left folder name is short) = memory next left folder name is may_be
-  ends_as (unread left) = unread left
-  ends_as (unwritten next left part answer after answered is) =
-      unwritten next left part answer after answered is
-
-  played_as : {script : Script} {c : CardState} {written : List ℕ} {end : ScriptEnd}
-      → IsPlayed images certificates reads script c written end
-      → IsPlayed images certificates told script c written end
-  played_as p = record {
-    done = p.done;
-    left = p.left;
-    in_order = p.in_order;
-    answers = p.answers;
-    touches = p.touches;
-    ran = p.ran;
-    card = p.card;
-    run = p.run;
-    part = p.part;
-    lines = p.lines;
-    ends = ends_as p.ends;
-  }
-
-  runs_as : {limits : Limits} {binding : Bound} {script written : List ℕ} {end : ScriptEnd}
-      → RunsTo images certificates reads limits binding script written end
-      → RunsTo images certificates told limits binding script written end
-  runs_as (unfit too_far) = unfit too_far
-  runs_as (no_card fit) = no_card fit
-  runs_as (played written end fit p) = played written end fit (played_as p)
-
-  simulated_as : {limits : Limits} {binding : Bound} {script written : List ℕ} {end : ScriptEnd}
-      → IsSimulated images certificates reads limits binding script written end
-      → IsSimulated images certificates told limits binding script written end
-  simulated_as s = record {
-    responses = runs_as s.responses;
-    accesses = s.accesses;
-    isolated = s.isolated;
-    apart = s.apart;
-    never_stuck = s.never_stuck;
-  }
-
 -- what was written to an empty writer is all that it holds
-pub run_in_memory : (images certificates images_after certificates_after : List Stored) (limits : Limits)
-    (binding : Bound) (script written : List ℕ) (end : ScriptEnd) (before after : ℕ)
+pub run_in_memory : (images certificates images_after certificates_after : List Stored) (unread : Type 0)
+    (told : List Report → Type 0) (limits : Limits) (binding : Bound) (script written : List ℕ)
+    (end : ScriptEnd) (before after : ℕ)
     → HoldSame (Holds images) (Holds images_after) → HoldSame (Holds certificates) (Holds certificates_after)
     → HasRun (Holds images) (Holds certificates)
-    (source_end (IsMissing images_after certificates_after) before after) limits binding script [] (Some written) end
-    → IsSimulated (Holds images) (Holds certificates) (missing_reads images certificates) limits binding script written
-    end
-run_in_memory images certificates images_after certificates_after limits binding script written end before after same
-    also r =
+    (script_reads (IsMissing images_after certificates_after) before after unread) told limits binding script []
+    (Some written) end
+    → IsSimulated (Holds images) (Holds certificates) (missing_reads images certificates) unheard limits binding script
+    written end
+run_in_memory images certificates images_after certificates_after unread told limits binding script written end before
+    after same also r =
     let is : written ≡ r.written = cc in
     rw is (simulated_as (Holds images) (Holds certificates)
-    (source_end (IsMissing images_after certificates_after) before after) (missing_reads images certificates)
-    (missing_before images certificates images_after certificates_after same also) refl r.simulated)
+    (script_reads (IsMissing images_after certificates_after) before after unread) (missing_reads images certificates)
+    told unheard (record {
+      failing = λ number ends. missing_before images certificates images_after certificates_after same also;
+      short = λ short. refl;
+      unread = λ why. tt;
+      telling = λ reports t. tt;
+    }) r.simulated)

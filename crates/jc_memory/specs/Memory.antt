@@ -1,7 +1,9 @@
 -- Packages and certificates in memory, by their names.
-use Rattle.std.specs.Prelude.{◌≡◌, ℕ, List, [], Option, Some, None, bytes_eq, find}
+use Rattle.std.specs.Prelude.{⊤, ◌≡◌, ℕ, List, [], Option, Some, None, bytes_eq, find}
 use Rattle.std.specs.Option.{option_map}
-use Rattle.jc_source.specs.Source.{Asked, Certificate, Image, SourceEnd}
+use Rattle.jc_source.specs.Source.{Asked, Certificate, Image}
+use Rattle.jc_run.specs.Reports.{Report}
+use Rattle.jc_run.specs.ScriptReads.{ScriptReads}
 use Rattle.jc_source.specs.declared.source.SourceFault.{SourceFault}
 use Rattle.jc_source.specs.declared.source.SourceFault.TheVariants.{Failed, Memory}
 
@@ -37,10 +39,14 @@ abbrev pub IsMissing : (images certificates : List Stored) → Asked → Type 0
 IsMissing images certificates (Image name) = stored_under images name ≡ None
 IsMissing images certificates (Certificate name) = stored_under certificates name ≡ None
 
--- such a source after a script: its last failed read was of a name under which nothing is, and memory may have run out
--- for one read
-abbrev pub missing_reads : (images certificates : List Stored) → SourceEnd
-missing_reads images certificates = record { failed_at = IsMissing images certificates; short = 1 }
+-- the reads of a script in memory: the last read of the source that failed was of a name under which nothing is, and
+-- memory may have run out for one. No read of its lines fails, but there may be too many
+abbrev pub missing_reads : (images certificates : List Stored) → ScriptReads
+missing_reads images certificates = record { failed_at = IsMissing images certificates; short = 1; unread = ⊤ }
+
+-- nobody gets the reports of such a script: nothing is said of them
+abbrev pub unheard : List Report → Type 0
+unheard reports = ⊤
 
 -- why nothing is read under a name: nothing is there, or something is, and memory ran out for it
 pub record IsThere (stored : List Stored) (name : List ℕ) : Type 0 where

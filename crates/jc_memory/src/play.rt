@@ -1,7 +1,7 @@
 //! Scripts in memory on a new card.
 
 ghost use Rattle.std.specs.Prelude.{◌≡◌, ◌<◌, ◌++◌, ◌^◌, OnOk};
-ghost use Rattle.jc_memory.specs.Memory.{Holds, missing_reads};
+ghost use Rattle.jc_memory.specs.Memory.{Holds, missing_reads, unheard};
 ghost use Rattle.jc_run.specs.End.{end_of};
 ghost use Rattle.jc_run.specs.Performs.{asked_by};
 ghost use Rattle.jc_run.specs.Runs.{IsSimulated};
@@ -16,6 +16,7 @@ use jc_machine::Limits;
 use jc_run::{CommandAnswer, LineRefusal, ScriptFault, Teller, perform, run_script};
 use jc_script::ScriptCommand;
 use jc_source::SourceFault;
+use jc_streams::BytesInput;
 use std::alloc::Global;
 
 /// The result of a script: the bytes that it wrote, and how it ended.
@@ -30,6 +31,10 @@ pub struct Played {
 struct Silence;
 
 impl<S> Teller<S> for Silence {
+    ghost use Rattle.std.specs.Prelude.{⊤};
+
+    ghost tells = { λ before report after. ⊤ };
+
     fn answered(
         &mut self,
         _number: u64,
@@ -51,11 +56,11 @@ pub fn play_in_memory(
     limits: Limits,
     binding: &Binding,
 ) -> Played
-    ensures { IsSimulated (Holds images.now) (Holds certificates.now) (missing_reads images.now certificates.now) limits
-        binding.now script.now result.written.items (end_of result.outcome) }
+    ensures { IsSimulated (Holds images.now) (Holds certificates.now) (missing_reads images.now certificates.now)
+        unheard limits binding.now script.now result.written.items (end_of result.outcome) }
 {
     let mut source = MemorySource::new(images, certificates);
-    let mut reader = script;
+    let mut reader = BytesInput::new(script);
     let mut written = Vec::new(alloc);
     let mut teller = Silence;
     let outcome = run_script(

@@ -5,6 +5,7 @@ use Rattle.std.proofs.lemmas.List.{append-nil}
 use Rattle.jc_api.specs.Bound.{Bound}
 use Rattle.jc_host.specs.Binding.{IsBindingFault, IsBindingFor}
 use Rattle.jc_host.specs.Files.{Entry, IsFaultAt, OfFile}
+use Rattle.jc_run.specs.Reports.{Report}
 use Rattle.jcard.specs.Play.{told_of}
 use Rattle.jcard.specs.Ran.{ComesOfRun, ComesOfSession}
 use Rattle.jcard.specs.Ran.ComesOfRun.{memory, unbound, unopened}
@@ -21,26 +22,31 @@ none_asked has before h = subst has (sym (append-nil before)) h
 
 -- the binding of a script isn't read
 pub run_unbound : {W : Type 0} (holds : List ℕ → Entry → Type 0) (tells : List ℕ → Opening → Type 0)
-    (has : List (List ℕ) → Type 0) (contents : W → Option (List ℕ)) (old : W) (job : RunJob) (fault : ReadFault)
-    → OfFile (IsBindingFault holds job.card.binding) fault
-    → ComesOfRun holds tells (AreAsked has has) contents old old job (Err (told_of fault))
-run_unbound holds tells has contents old job (File f) told = unbound f told (none_asked has) refl
-run_unbound holds tells has contents old job Memory told = memory (inl (none_asked has)) refl
+    (has : List (List ℕ) → Type 0) (told_lines : List Report → Type 0) (contents : W → Option (List ℕ)) (old : W)
+    (job : RunJob) (fault : ReadFault) → told_lines [] → OfFile (IsBindingFault holds job.card.binding) fault
+    → ComesOfRun holds tells (AreAsked has has) told_lines contents old old job (Err (told_of fault))
+run_unbound holds tells has told_lines contents old job (File f) silent told =
+    unbound f told (none_asked has) silent refl
+run_unbound holds tells has told_lines contents old job Memory silent told =
+    memory (inl (none_asked has)) silent refl
 
 -- a script isn't opened
 pub run_unopened : {W : Type 0} (holds : List ℕ → Entry → Type 0) (tells : List ℕ → Opening → Type 0)
-    (asked : List (List ℕ) → Type 0) (contents : W → Option (List ℕ)) (old : W) (job : RunJob) (bound : Bound)
-    (fault : ReadFault) → IsBindingFor holds job.card.binding bound
+    (asked : List (List ℕ) → Type 0) (told_lines : List Report → Type 0) (contents : W → Option (List ℕ)) (old : W)
+    (job : RunJob) (bound : Bound) (fault : ReadFault) → told_lines [] → IsBindingFor holds job.card.binding bound
     → OfFile (IsFaultAt job.script.now (IsUnopened (tells job.script.now))) fault → asked (job.script.now ∷ [])
-    → ComesOfRun holds tells asked contents old old job (Err (told_of fault))
-run_unopened holds tells asked contents old job bound (File f) is told asks =
-    unopened f (record { binding = bound; bound = is; faulty = told }) asks refl
-run_unopened holds tells asked contents old job bound Memory is told asks = memory (inr asks) refl
+    → ComesOfRun holds tells asked told_lines contents old old job (Err (told_of fault))
+run_unopened holds tells asked told_lines contents old job bound (File f) silent is told asks =
+    unopened f (record { binding = bound; bound = is; faulty = told }) asks silent refl
+run_unopened holds tells asked told_lines contents old job bound Memory silent is told asks =
+    memory (inr asks) silent refl
 
 -- the binding of a session isn't read
-pub session_unbound : {R W : Type 0} (holds : List ℕ → Entry → Type 0) (remaining : R → Option (List ℕ)) (from : R)
-    (contents : W → Option (List ℕ)) (old : W) (job : CardJob) (fault : ReadFault)
-    → OfFile (IsBindingFault holds job.binding) fault
-    → ComesOfSession holds remaining from from contents old old job (Err (told_of fault))
-session_unbound holds remaining from contents old job (File f) told = session_unread f told refl refl
-session_unbound holds remaining from contents old job Memory told = session_memory refl refl
+pub session_unbound : {R W : Type 0} (holds : List ℕ → Entry → Type 0) (remaining : R → Option (List ℕ))
+    (unreadable : Type 0) (from : R) (told_lines : List Report → Type 0) (contents : W → Option (List ℕ)) (old : W)
+    (job : CardJob) (fault : ReadFault) → told_lines [] → OfFile (IsBindingFault holds job.binding) fault
+    → ComesOfSession holds remaining unreadable from from told_lines contents old old job (Err (told_of fault))
+session_unbound holds remaining unreadable from told_lines contents old job (File f) silent told =
+    session_unread f told refl silent refl
+session_unbound holds remaining unreadable from told_lines contents old job Memory silent told =
+    session_memory refl silent refl

@@ -2,3 +2,4 @@ pub mod Play
 pub mod PrivatePlay
 pub mod Ran
 pub mod Ending
+pub mod Telling

@@ -3,10 +3,12 @@
 use Rattle.std.specs.Prelude.{⊤, ℕ, List, Option, Result, Ok, Err}
 use Rattle.jc_api.specs.Bound.{Bound}
 use Rattle.jc_machine.specs.declared.limits.Limits.{Limits}
-use Rattle.jc_source.specs.Source.{Asked, SourceEnd}
+use Rattle.jc_source.specs.Source.{Asked}
 use Rattle.jc_run.specs.End.{end_of_fault}
 use Rattle.jc_run.specs.Play.{NoMemory, NotRead, Over, ScriptEnd, SourceFailed}
-use Rattle.jc_run.specs.Session.{HasHeld}
+use Rattle.jc_run.specs.Reports.{Report}
+use Rattle.jc_run.specs.ScriptReads.{IsUnreadAt, ScriptReads}
+use Rattle.jc_run.specs.Session.{HasHeld, fault_count}
 use Rattle.jc_run.specs.declared.fault.ScriptFault.{ScriptFault}
 use Rattle.jc_run.specs.declared.fault.ScriptFault.TheVariants as scripts
 use Rattle.jc_host.specs.declared.files.FileFault.{FileFault}
@@ -43,15 +45,19 @@ abbrev pub fault_of_end : (Asked → FileFault → Type 0) → Result (Unit {0})
 fault_of_end IsFault (Ok u) asked = ⊥
 fault_of_end IsFault (Err fault) asked = fault_of_told IsFault fault asked
 
--- a source after a script: its last failed read may have been one of these, and memory may have run out for one read
-abbrev pub told_reads : (Asked → Type 0) → SourceEnd
-told_reads failed_at = record { failed_at = failed_at; short = 1 }
+-- the reads of a script: the last failed read of its source may have been one of these, memory may have run out for one
+-- read, and its lines may not be readable
+abbrev pub told_reads : (Asked → Type 0) → ScriptReads
+told_reads failed_at = record { failed_at = failed_at; short = 1; unread = ⊤ }
 
--- the result of a session's lines; so many of its loads were refused
-pub record HoldsLines (images certificates : List ℕ → List ℕ → Type 0) (limits : Limits) (binding : Bound)
-    (bytes before : List ℕ) (now : Option (List ℕ)) (end : ScriptEnd) : Type 0 where
-  pub refused : ℕ
-  pub held : HasHeld images certificates (record { before = 0; after = refused }) limits binding bytes before now end
+-- the result of a session's lines; so many reads of its source failed, and memory ran out for so many
+pub record HoldsLines (images certificates : List ℕ → List ℕ → Type 0) (unreadable : Type 0)
+    (told : List Report → Type 0) (limits : Limits) (binding : Bound) (bytes before : List ℕ) (now : Option (List ℕ))
+    (end : ScriptEnd) : Type 0 where
+  pub failed : ℕ
+  pub short : ℕ
+  pub held : HasHeld images certificates (IsUnreadAt unreadable failed short) (fault_count 0 0 failed short) told limits
+      binding bytes before now end
 
 -- a script's fault that isn't a file's, and isn't out of memory
 abbrev pub IsOfScript : ScriptFault → Type 0

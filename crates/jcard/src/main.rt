@@ -11,11 +11,13 @@ use jc_host::{
     CardJob, HostFiles, HostScripts, Patient, Reply, RunJob, Said, ShownName, VerifyJob,
     WholeLines, end_with, older_stays, refused_folder, said_of_job, said_to, said_without_words,
 };
+use jc_streams::CountedInput;
 use play::PlayFault;
 use ran::{run, session};
-use std::io::Write;
+use std::io::{Stderr, Write};
 use std::process::ExitCode;
 use std::{env, io};
+use telling::LineTeller;
 
 fn main(rt: HostRuntime) -> ExitCode {
     match words_given(&rt) {
@@ -65,9 +67,14 @@ fn run_job(rt: &HostRuntime, job: &RunJob) -> Result<(), PlayFault> {
         &mut HostScripts::new(rt),
         rt.alloc(),
         &mut Patient::new(io::writer(rt), rt),
-        WholeLines::new(rt.stderr()),
+        &mut teller_for(rt, &job.card),
         job,
     )
+}
+
+// The teller of a job, which writes to standard error.
+fn teller_for(rt: &HostRuntime, job: &CardJob) -> LineTeller<WholeLines<Stderr>> {
+    LineTeller::new(WholeLines::new(rt.stderr()), job.limits, job.explains)
 }
 
 // The same for a session, whose lines are those of standard input.
@@ -75,9 +82,9 @@ fn session_job(rt: &HostRuntime, job: &CardJob) -> Result<(), PlayFault> {
     session(
         &HostFiles::new(rt),
         rt.alloc(),
-        &mut rt.stdin(),
+        &mut CountedInput::new(rt.stdin()),
         &mut Patient::new(io::writer(rt), rt),
-        WholeLines::new(rt.stderr()),
+        &mut teller_for(rt, job),
         job,
     )
 }

@@ -1,56 +1,59 @@
 //! The jobs `run` and `session`.
 
 ghost use Rattle.jc_host.specs.Scripts.{AreAsked};
+ghost use Rattle.jc_run.specs.Reports.{AreTold};
+ghost use Rattle.jc_run.specs.ScriptReads.{IsUnreadable};
 ghost use Rattle.jcard.specs.Ran.{ComesOfRun, ComesOfSession};
+ghost use Rattle.jcard.specs.Telling.{Tells};
 
 use crate::play::{PlayFault, hold_session, play_script};
 use crate::telling::LineTeller;
 use jc_host::{CardJob, Files, RunJob, Scripts, binding_for, open_script};
+use jc_streams::{CountedInput, Input};
 use std::alloc::Global;
-use std::io::{Read, Write};
+use std::io::Write;
 
 /// Plays a script on a new card. It reads the binding first, and then opens the script.
-pub fn run<F: Files, S: Scripts, W: Write, E: Write + Drop>(
+pub fn run<F: Files, S: Scripts, W: Write, E: Write>(
     files: &F,
     scripts: &mut S,
     alloc: Global,
     writer: &mut W,
-    errors: E,
+    teller: &mut LineTeller<E>,
     job: &RunJob,
 ) -> Result<(), PlayFault>
     ensures { ComesOfRun (F.holds files.now) (S.tells scripts.old)
-        (AreAsked (S.has_asked scripts.old) (S.has_asked scripts.new)) W.contents writer.old writer.new job.now
-        result }
+        (AreAsked (S.has_asked scripts.old) (S.has_asked scripts.new))
+        (AreTold (Tells E.contents) teller.old teller.new) W.contents writer.old writer.new job.now result }
 {
     let binding = binding_for(files, alloc, job.card.binding)?;
-    let mut script = open_script(scripts, alloc, job.script)?;
-    let limits = job.card.limits;
-    let mut teller = LineTeller::new(errors, limits, job.card.explains);
+    let script = open_script(scripts, alloc, job.script)?;
+    let mut lines = CountedInput::new(script);
     play_script(
         files,
         alloc,
-        &mut script,
+        &mut lines,
         writer,
-        &mut teller,
-        limits,
+        teller,
+        job.card.limits,
         &binding,
     )
 }
 
 /// Answers the lines of a reader on a new card. It reads the binding first.
-pub fn session<F: Files, R: Read, W: Write, E: Write + Drop>(
+pub fn session<F: Files, R: Input, W: Write, E: Write>(
     files: &F,
     alloc: Global,
     reader: &mut R,
     writer: &mut W,
-    errors: E,
+    teller: &mut LineTeller<E>,
     job: &CardJob,
 ) -> Result<(), PlayFault>
-    ensures { ComesOfSession (F.holds files.now) R.remaining reader.old reader.new W.contents writer.old writer.new
+    ensures { ComesOfSession (F.holds files.now) R.remaining
+        (IsUnreadable (R.calls reader.old) (R.calls reader.new) (R.faults reader.old) (R.faults reader.new))
+        reader.old reader.new (AreTold (Tells E.contents) teller.old teller.new) W.contents writer.old writer.new
         job.now result }
 {
     let binding = binding_for(files, alloc, job.binding)?;
-    let limits = job.limits;
-    let mut teller = LineTeller::new(errors, limits, job.explains);
-    hold_session(files, alloc, reader, writer, &mut teller, limits, &binding)
+    hold_session(files, alloc, reader, writer, teller, job.limits, &binding)
 }

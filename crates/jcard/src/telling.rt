@@ -1,55 +1,106 @@
 //! Reports on standard error about the lines of a script or a session.
 
-use jc_api::ApiClass;
+ghost use Rattle.std.specs.Prelude.{◌≡◌, ◌++◌, None, Some, IsErr, IsOk, codes, false, option_map, true};
+ghost use Rattle.std.specs.Fmt.{decimal};
+ghost use Rattle.jc_run.specs.Answer.{shown};
+ghost use Rattle.jc_telling.specs.Explanation.{cause_text};
+ghost use Rattle.jcard.specs.Telling.{IsLineSaid, IsSaid, answer_cause, bad_line, cause_line, install_cause};
+ghost use Rattle.jcard.specs.Telling.{short_line};
+
 use jc_card::{Cause, InstallFault};
-use jc_firewall::{Access, Denial, Rule};
+use jc_firewall::Denial;
 use jc_host::{Faults, FileSource, Files};
-use jc_interp::{IndexFault, ShownFrame};
-use jc_machine::{Budget, CodePoint, Limits};
-use jc_names::{ClassName, Owner};
+use jc_interp::ShownFrame;
+use jc_machine::Limits;
 use jc_run::{CommandAnswer, LineRefusal, Teller};
 use jc_script::LineFault;
-use jc_store::ObjectType;
+use jc_telling::Explanation;
+use std::fmt;
 use std::io::{self, Write};
+use std::marker::Model;
 
 /// Reports which lines of a session were refused, and why; and, if `explains` holds, why a call of an applet didn't end
-/// normally, and in which frame. What can't be written is left out.
+/// normally, and in which frame. It keeps whether it couldn't write a line.
 #[derive(Drop)]
 pub struct LineTeller<E: Write> {
     errors: E,
     limits: Limits,
     explains: bool,
+    failed: bool,
+}
+
+impl<E: Write> Model for LineTeller<E> {
+    ghost use Rattle.jcard.specs.Telling.{TellerState};
+
+    ghost Value = { TellerState E };
+
+    ghost view = { λ t. record {
+      errors = t.errors;
+      limits = t.limits;
+      explains = t.explains;
+      failed = t.failed;
+    } };
 }
 
 impl<E: Write> LineTeller<E> {
     /// A teller for a card with these limits.
-    pub fn new(errors: E, limits: Limits, explains: bool) -> LineTeller<E> {
+    pub fn new(errors: E, limits: Limits, explains: bool) -> LineTeller<E>
+        ensures { result ≡ record { errors = errors; limits = limits; explains = explains; failed = false } }
+    {
         LineTeller {
             errors,
             limits,
             explains,
+            failed: false,
+        }
+    }
+
+    // Keeps whether a line couldn't be written.
+    fn keep(&mut self, written: &io::Result<()>)
+        ensures errors { self.new.errors ≡ self.old.errors }
+        ensures limits { self.new.limits ≡ self.old.limits }
+        ensures explains { self.new.explains ≡ self.old.explains }
+        ensures failed { IsErr written.now → self.new.failed ≡ true }
+        ensures same { IsOk written.now → self.new.failed ≡ self.old.failed }
+    {
+        if written.is_err() {
+            self.failed = true;
         }
     }
 
     // Reports why a line is refused.
-    fn tell_fault(&mut self, number: u64, fault: LineFault) -> io::Result<()> {
-        writeln!(self.errors, "error: line {number}, {fault}")
+    fn tell_fault(&mut self, number: u64, fault: LineFault)
+        ensures limits { self.new.limits ≡ self.old.limits }
+        ensures explains { self.new.explains ≡ self.old.explains }
+        ensures said { IsSaid E.contents self.old self.new (Some (bad_line number fault)) }
+    {
+        let line = BadLine { number, fault };
+        let written = writeln!(self.errors, "{line}");
+        self.keep(&written);
     }
 
     // Reports which file of a line can't be read, and why.
-    fn tell_source<F: Files, T: Faults>(
-        &mut self,
-        number: u64,
-        source: &FileSource<'_, F, T>,
-    ) -> io::Result<()> {
-        match source.fault() {
+    fn tell_source<F: Files, T: Faults>(&mut self, number: u64, source: &FileSource<'_, F, T>)
+        ensures limits { self.new.limits ≡ self.old.limits }
+        ensures explains { self.new.explains ≡ self.old.explains }
+        ensures said { IsSaid E.contents self.old self.new None }
+    {
+        let written = match source.fault() {
             Some(fault) => writeln!(self.errors, "error: line {number}: {fault}"),
             None => writeln!(self.errors, "error: line {number}: a file can't be read"),
-        }
+        };
+        self.keep(&written);
     }
 
-    fn tell_memory(&mut self, number: u64) -> io::Result<()> {
-        writeln!(self.errors, "error: line {number}: out of memory")
+    // Reports that memory ran out for a line.
+    fn tell_memory(&mut self, number: u64)
+        ensures limits { self.new.limits ≡ self.old.limits }
+        ensures explains { self.new.explains ≡ self.old.explains }
+        ensures said { IsSaid E.contents self.old self.new (Some (short_line number)) }
+    {
+        let line = ShortLine { number };
+        let written = writeln!(self.errors, "{line}");
+        self.keep(&written);
     }
 
     // Reports why a call of a line didn't end normally, and the frame in which it stopped.
@@ -59,151 +110,97 @@ impl<E: Write> LineTeller<E> {
         cause: Cause,
         denial: Option<Denial>,
         stopped: Option<&ShownFrame>,
-    ) -> io::Result<()> {
-        write!(self.errors, "line {number}: ")?;
-        match cause {
-            Cause::Threw { object, reason, at } => {
-                self.write_object(object, reason)?;
-                self.write_index(stopped)?;
-                self.write_throw(denied(object, denial), at)?;
-                self.write_frame(stopped)?;
-            }
-            Cause::RanOut { spent, at } => {
-                self.write_budget(spent)?;
-                self.write_point(", ", at)?;
-                self.write_frame(stopped)?;
-            }
-            Cause::NotRegistered => write!(self.errors, "install: no register")?,
-        }
-        writeln!(self.errors)
-    }
-
-    // Writes the index that is outside of an array.
-    fn write_index(&mut self, stopped: Option<&ShownFrame>) -> io::Result<()> {
-        let Some(fault) = index_of(stopped) else {
-            return Ok(());
+    )
+        ensures limits { self.new.limits ≡ self.old.limits }
+        ensures explains { self.new.explains ≡ self.old.explains }
+        ensures said { IsSaid E.contents self.old self.new (Some (((codes "line " ++ decimal number) ++ codes ": ")
+            ++ cause_text cause denial (option_map (λ frame. frame.now) stopped.entry) self.old.limits)) }
+    {
+        let explanation = Explanation {
+            cause,
+            denial,
+            stopped,
+            limits: self.limits,
         };
-        let index = as_short(fault.index);
-        write!(
-            self.errors,
-            ", index {index} of an array of {}",
-            fault.length
-        )
+        let written = writeln!(self.errors, "line {number}: {explanation}");
+        self.keep(&written);
     }
 
-    // Writes the context of a frame, its locals and its operands, as shorts.
-    fn write_frame(&mut self, stopped: Option<&ShownFrame>) -> io::Result<()> {
-        let Some(frame) = stopped else {
-            return Ok(());
-        };
-        write!(self.errors, ", context {}", frame.active.context)?;
-        self.write_words("locals", frame.locals.as_slice())?;
-        self.write_words("operands", frame.operands.as_slice())
-    }
-
-    // Writes words as shorts.
-    fn write_words(&mut self, name: &str, words: &[u16]) -> io::Result<()> {
-        if words.is_empty() {
-            return write!(self.errors, ", no {name}");
-        }
-        write!(self.errors, ", {name}")?;
-        for word in words {
-            write!(self.errors, " {}", as_short(*word))?;
-        }
-        Ok(())
-    }
-
-    // Writes the object that nothing caught.
-    fn write_object(&mut self, object: ObjectType, reason: u16) -> io::Result<()> {
-        match object {
-            ObjectType::Instance(class) => self.write_class(class, reason),
-            ObjectType::BooleanArray
-            | ObjectType::ByteArray
-            | ObjectType::ShortArray
-            | ObjectType::ReferenceArray(_) => write!(self.errors, "an array"),
-        }
-    }
-
-    // Writes its class, and its reason if the class has one.
-    fn write_class(&mut self, class: ClassName, reason: u16) -> io::Result<()> {
-        match class {
-            ClassName::Api(class) => self.write_api_class(class, reason),
-            ClassName::Loaded { package, offset } => write!(
-                self.errors,
-                "exception of class {offset} of package {package}, reason {reason}"
-            ),
-        }
-    }
-
-    // Writes a reason as users of its class write it: a status in hexadecimal, or a constant by its name.
-    fn write_api_class(&mut self, class: ApiClass, reason: u16) -> io::Result<()> {
-        let name = name_of(class);
-        if class == ApiClass::IsoException {
-            return write!(self.errors, "{name} reason {reason:04X}");
-        }
-        match constant_of(class, reason) {
-            Some(constant) => write!(self.errors, "{name} reason {constant} ({reason})"),
-            None if has_reason(class) => write!(self.errors, "{name} reason {reason}"),
-            None => write!(self.errors, "{name}"),
-        }
-    }
-
-    // Writes where it was thrown, and the firewall's denial there, if there was one.
-    fn write_throw(&mut self, denial: Option<Denial>, at: Option<CodePoint>) -> io::Result<()> {
-        match denial {
-            Some(denial) => {
-                self.write_denial(denial)?;
-                self.write_point(", in ", at)
-            }
-            None => self.write_point(", ", at),
-        }
-    }
-
-    // Writes the rule, the access, and the object's owner.
-    fn write_denial(&mut self, denial: Denial) -> io::Result<()> {
-        let rule = number_of(denial.rule);
-        let access = access_name(denial.access);
-        write!(self.errors, ", rule {rule}: {access} an object of ")?;
-        if denial.owner.context == Owner::RUNTIME.context {
-            write!(self.errors, "the runtime")
-        } else {
-            write!(self.errors, "package {}", denial.owner.context)
-        }
-    }
-
-    // Writes what was spent, and its limit.
-    fn write_budget(&mut self, spent: Budget) -> io::Result<()> {
-        match spent {
-            Budget::Steps => write!(self.errors, "steps used up ({})", self.limits.steps),
-            Budget::Frames => write!(self.errors, "frames used up ({})", self.limits.frames),
-            Budget::FrameWords => write!(
-                self.errors,
-                "words of frames used up ({})",
-                self.limits.frame_words
-            ),
-        }
-    }
-
-    // Writes where a frame stood, if one did.
-    fn write_point(&mut self, before: &str, at: Option<CodePoint>) -> io::Result<()> {
-        match at {
-            Some(point) => write!(
-                self.errors,
-                "{}package {}, method {}, pc {}",
-                before, point.package, point.method, point.pc
-            ),
-            None => Ok(()),
+    // Reports why a call of a line didn't end normally, if it didn't.
+    fn explain_any(
+        &mut self,
+        number: u64,
+        cause: Option<Cause>,
+        denial: Option<Denial>,
+        stopped: Option<&ShownFrame>,
+    )
+        ensures limits { self.new.limits ≡ self.old.limits }
+        ensures explains { self.new.explains ≡ self.old.explains }
+        ensures said { IsLineSaid E.contents self.old self.new
+            (cause_line self.old.limits number denial (option_map (λ frame. frame.now) stopped.entry) cause) }
+    {
+        if let Some(cause) = cause {
+            self.explain(number, cause, denial, stopped);
         }
     }
 }
 
+/// A line of a session that is no command.
+#[derive(Clone, Copy)]
+struct BadLine {
+    number: u64,
+    fault: LineFault,
+}
+
+impl fmt::Display for BadLine {
+    ghost use Rattle.std.specs.Prelude.{Some};
+    ghost use Rattle.jcard.specs.Telling.{bad_line};
+
+    ghost output = { λ line. Some (bad_line line.number line.fault) };
+
+    fn fmt<W: fmt::Write>(&self, f: &mut fmt::Formatter<W>) -> fmt::Result {
+        write!(f, "error: line {}, {}", self.number, self.fault)
+    }
+}
+
+/// A load of a session for which memory ran out.
+#[derive(Clone, Copy)]
+struct ShortLine {
+    number: u64,
+}
+
+impl fmt::Display for ShortLine {
+    ghost use Rattle.std.specs.Prelude.{Some};
+    ghost use Rattle.jcard.specs.Telling.{short_line};
+
+    ghost output = { λ line. Some (short_line line.number) };
+
+    fn fmt<W: fmt::Write>(&self, f: &mut fmt::Formatter<W>) -> fmt::Result {
+        write!(f, "error: line {}: out of memory", self.number)
+    }
+}
+
+/// Why the call of an install method didn't end normally, if one didn't.
+fn install_cause(fault: InstallFault) -> Option<Cause>
+    ensures { result ≡ install_cause fault }
+{
+    match fault {
+        InstallFault::UnknownApplet
+        | InstallFault::TooLong
+        | InstallFault::AidInUse
+        | InstallFault::NoInstance => None,
+        InstallFault::InstallFailed(failure) => failure.cause,
+    }
+}
+
 /// Why a call of an applet didn't end normally, if one didn't.
-fn cause_in(answer: &CommandAnswer) -> Option<Cause> {
+fn answer_cause(answer: &CommandAnswer) -> Option<Cause>
+    ensures { result ≡ answer_cause (shown answer.now) }
+{
     match answer {
         CommandAnswer::Responds(answer) => answer.cause,
-        CommandAnswer::NotInstalled(InstallFault::InstallFailed(failure)) => failure.cause,
-        CommandAnswer::NotInstalled(_)
-        | CommandAnswer::Loaded(_)
+        CommandAnswer::NotInstalled(fault) => install_cause(*fault),
+        CommandAnswer::Loaded(_)
         | CommandAnswer::NotLoaded(_)
         | CommandAnswer::Installed(_)
         | CommandAnswer::Reset
@@ -213,129 +210,11 @@ fn cause_in(answer: &CommandAnswer) -> Option<Cause> {
     }
 }
 
-/// A word as a short.
-fn as_short(word: u16) -> i16 {
-    word.cast_signed()
-}
-
-/// The index that is outside of an array, if a frame stopped because of it.
-fn index_of(stopped: Option<&ShownFrame>) -> Option<IndexFault> {
-    stopped?.index
-}
-
-/// The name of a reason of the API (Java Card API Specification, SystemException, APDUException).
-fn constant_of(class: ApiClass, reason: u16) -> Option<&'static str> {
-    match class {
-        ApiClass::SystemException => system_constant(reason),
-        ApiClass::ApduException => apdu_constant(reason),
-        _ => None,
-    }
-}
-
-fn system_constant(reason: u16) -> Option<&'static str> {
-    match reason {
-        1 => Some("ILLEGAL_VALUE"),
-        2 => Some("NO_TRANSIENT_SPACE"),
-        3 => Some("ILLEGAL_TRANSIENT"),
-        4 => Some("ILLEGAL_AID"),
-        5 => Some("NO_RESOURCE"),
-        6 => Some("ILLEGAL_USE"),
-        _ => None,
-    }
-}
-
-fn apdu_constant(reason: u16) -> Option<&'static str> {
-    match reason {
-        1 => Some("ILLEGAL_USE"),
-        2 => Some("BUFFER_BOUNDS"),
-        3 => Some("BAD_LENGTH"),
-        4 => Some("IO_ERROR"),
-        _ => None,
-    }
-}
-
-/// The firewall's denial, if a SecurityException is thrown.
-fn denied(object: ObjectType, denial: Option<Denial>) -> Option<Denial> {
-    if object == ObjectType::Instance(ClassName::Api(ApiClass::SecurityException)) {
-        denial
-    } else {
-        None
-    }
-}
-
-/// The number of a rule of the firewall.
-fn number_of(rule: Rule) -> u8 {
-    match rule {
-        Rule::Storing => 1,
-        Rule::Components => 2,
-        Rule::Fields => 3,
-        Rule::Calls => 4,
-        Rule::SharedCalls => 5,
-        Rule::Throws => 6,
-        Rule::Casts => 7,
-        Rule::SharedCasts => 8,
-        Rule::Selection => 9,
-    }
-}
-
-/// The words for an access: an instruction, or a read or write of a component, as members of the API do too.
-fn access_name(access: Access) -> &'static str {
-    match access {
-        Access::PutStaticReference => "putstatic of",
-        Access::PutReferenceField | Access::PutField => "putfield of",
-        Access::GetField => "getfield of",
-        Access::LoadComponent => "a component read from",
-        Access::StoreComponent => "a component written to",
-        Access::StoreReference => "aastore to",
-        Access::ArrayLength => "arraylength of",
-        Access::InvokeVirtual => "invokevirtual on",
-        Access::InvokeInterface => "invokeinterface on",
-        Access::Throw => "athrow of",
-        Access::CheckCast => "checkcast of",
-        Access::InstanceOf => "instanceof of",
-    }
-}
-
-/// Whether objects of a class have a reason (Java Card API Specification, CardRuntimeException).
-fn has_reason(class: ApiClass) -> bool {
-    match class {
-        ApiClass::CardRuntimeException
-        | ApiClass::IsoException
-        | ApiClass::SystemException
-        | ApiClass::ApduException => true,
-        _ => false,
-    }
-}
-
-/// The name of a class of the API.
-fn name_of(class: ApiClass) -> &'static str {
-    match class {
-        ApiClass::Object => "Object",
-        ApiClass::Throwable => "Throwable",
-        ApiClass::Exception => "Exception",
-        ApiClass::RuntimeException => "RuntimeException",
-        ApiClass::ArithmeticException => "ArithmeticException",
-        ApiClass::ArrayStoreException => "ArrayStoreException",
-        ApiClass::ClassCastException => "ClassCastException",
-        ApiClass::IndexOutOfBoundsException => "IndexOutOfBoundsException",
-        ApiClass::ArrayIndexOutOfBoundsException => "ArrayIndexOutOfBoundsException",
-        ApiClass::NegativeArraySizeException => "NegativeArraySizeException",
-        ApiClass::NullPointerException => "NullPointerException",
-        ApiClass::SecurityException => "SecurityException",
-        ApiClass::Shareable => "Shareable",
-        ApiClass::CardRuntimeException => "CardRuntimeException",
-        ApiClass::IsoException => "ISOException",
-        ApiClass::SystemException => "SystemException",
-        ApiClass::ApduException => "APDUException",
-        ApiClass::Aid => "AID",
-        ApiClass::Apdu => "APDU",
-        ApiClass::Applet => "Applet",
-        ApiClass::JcSystem => "JCSystem",
-        ApiClass::Util => "Util",
-    }
-}
-
 impl<'a, F: Files, T: Faults, E: Write> Teller<FileSource<'a, F, T>> for LineTeller<E> {
+    ghost use Rattle.jcard.specs.Telling.{Tells};
+
+    ghost tells = { Tells E.contents };
+
     fn answered(
         &mut self,
         number: u64,
@@ -343,22 +222,19 @@ impl<'a, F: Files, T: Faults, E: Write> Teller<FileSource<'a, F, T>> for LineTel
         denial: Option<Denial>,
         stopped: Option<&ShownFrame>,
     ) {
+        if self.explains {
+            self.explain_any(number, answer_cause(answer), denial, stopped);
+        }
         if let CommandAnswer::Steps(steps) = answer {
             self.limits.steps = *steps;
-        }
-        if !self.explains {
-            return;
-        }
-        if let Some(cause) = cause_in(answer) {
-            let _told = self.explain(number, cause, denial, stopped);
         }
     }
 
     fn refused(&mut self, number: u64, refusal: &LineRefusal, source: &FileSource<'a, F, T>) {
-        let _told = match refusal {
+        match refusal {
             LineRefusal::Bad(fault) => self.tell_fault(number, *fault),
             LineRefusal::Source => self.tell_source(number, source),
             LineRefusal::Memory => self.tell_memory(number),
-        };
+        }
     }
 }

@@ -219,8 +219,8 @@ module _ (images certificates : List ℕ → List ℕ → Type 0) where
               (ap answer_line (sym d.answered) ∙ is.whole_is);
         }
 
-    pub script_ends : (told : List Report → Type 0) (script : Script) (c : CardState) (written : List ℕ) (end : ScriptEnd)
-        → ArePlain (commands_of script.commands) → IsBare c
+    pub script_ends : (told : List Report → Type 0) (script : Script) (c : CardState) (written : List ℕ)
+        (end : ScriptEnd) → ArePlain (commands_of script.commands) → IsBare c
         → IsPlayed images certificates reads told script c written end
         → EndsSo script.bad (lines_to script.commands) end written
     script_ends told script c written end plain bare p =

@@ -11,9 +11,9 @@ example_script = codes "reset\napdu 00A40400\napdu 00\nselect\n"
 abbrev pub example_answers : List ℕ
 example_answers = codes "reset\nsw 6999\nsw 6700\n"
 
--- how it ends: at its fourth line, whose first word is no command, with all answers written; or early, with the first of
--- their bytes, if it can't be read or an answer can't be written, or with none if memory runs out for the card, or its
--- limits are bad
+-- how it ends: at its fourth line, whose first word is no command, with all answers written; or early, with the first
+-- of their bytes, if it can't be read or an answer can't be written, or with none if memory runs out for the card, or
+-- its limits are bad
 abbrev pub IsExampleEnd : ScriptEnd → List ℕ → Type 0
 IsExampleEnd Over written = ⊥
 IsExampleEnd (BadLine number fault) written =

@@ -70,8 +70,8 @@ pub none_told : {T : Type 0} {tells : T → Report → T → Type 0} {before aft
     → AreTold tells before after []
 none_told {before = before} same = rw same (none before)
 
-unfoldable pub command_done : (images certificates : List ℕ → List ℕ → Type 0) (told : List Report → Type 0) (c : CardState)
-    (number : ℕ) (command : ScriptCommand) (answer : Answered) (after : CardWords) (old now : Option (List ℕ))
+unfoldable pub command_done : (images certificates : List ℕ → List ℕ → Type 0) (told : List Report → Type 0)
+    (c : CardState) (number : ℕ) (command : ScriptCommand) (answer : Answered) (after : CardWords) (old now : Option (List ℕ))
     (before : List ℕ) (denial : Option Denial) (stopped : Option ShownFrame)
     → told (AnsweredLine number answer denial stopped ∷ []) → Answers images certificates c command answer after
     → old ≡ Some before → Appends old now (answer_line answer)
@@ -94,8 +94,8 @@ command_done images certificates told c number command answer after old now befo
 }
 
 -- a skipped line
-unfoldable pub nothing_done : (images certificates : List ℕ → List ℕ → Type 0) (told : List Report → Type 0) (c : CardState)
-    (number : ℕ) (said : ScriptLine) (after : CardWords) (before : List ℕ) (now : Option (List ℕ)) → told []
+unfoldable pub nothing_done : (images certificates : List ℕ → List ℕ → Type 0) (told : List Report → Type 0)
+    (c : CardState) (number : ℕ) (said : ScriptLine) (after : CardWords) (before : List ℕ) (now : Option (List ℕ)) → told []
     → Skipped ≡ said → Holds after c → now ≡ Some before
     → IsLineDone images certificates told c number said after before now
 nothing_done images certificates told c number said after before now t is holds known = record {

@@ -115,7 +115,8 @@ SessionTurns images certificates unreadable faults told number bytes c after lef
 -- written, whatever the source and the reader are at the end
 pub record HasConversed {S U T : Type 0} (images certificates : List ℕ → List ℕ → Type 0)
     (unreadable : S → U → ℕ → Type 0) (faults : FaultCount) (tells : T → Report → T → Type 0) (first : T)
-    (c : CardState) (input before : List ℕ) (number : ℕ) (after : CardWords) (teller : T) (left now : Option (List ℕ)) : Type 0 where
+    (c : CardState) (input before : List ℕ) (number : ℕ) (after : CardWords) (teller : T)
+    (left now : Option (List ℕ)) : Type 0 where
   pub reports : List Report
   pub counted : AreCounted faults reports
   pub were_told : AreTold tells first teller reports

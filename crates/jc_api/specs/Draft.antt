@@ -16,7 +16,12 @@ use Rattle.jc_api.specs.declared.draft.Draft.{Draft}
 
 -- nothing is named yet
 abbrev pub empty_draft : Draft
-empty_draft = record { lang = None; framework = None; classes = replicate last_class None; members = replicate last_member None }
+empty_draft = record {
+  lang = None;
+  framework = None;
+  classes = replicate last_class None;
+  members = replicate last_member None;
+}
 
 abbrev pub named_package : Draft → ApiPackage → Option PackageInfo
 named_package draft Lang = draft.lang

@@ -29,7 +29,8 @@ pub record StepsGuarded : Type 0 where
   pub owned : (s : Surroundings Kept) → AreNativesGuarded s.natives → (m : Machine Kept) → StepsOwned s m
   pub accesses : (s : Surroundings Kept) → AreNativesGuarded s.natives → (m : Machine Kept) → AccessesAreOwn s m
   pub thrown : (s : Surroundings Kept) (m : Machine Kept) (number : ℕ) (o : Object TaggedValue)
-      → object_at m.heap number ≡ Some o → UnwindsTo s m number (class_of o.kind.object_type) (settled s (Throws m number))
+      → object_at m.heap number ≡ Some o
+      → UnwindsTo s m number (class_of o.kind.object_type) (settled s (Throws m number))
   pub blind : AreNativesBlind meaning
   pub alike : (context : ℕ) (s : Surroundings Kept) → AreNativesGuarded s.natives → AreNativesBlind s.natives
       → AreNativesApart names_applets s.natives → HaveApiMembers s.world.shapes → (start : Start Kept)

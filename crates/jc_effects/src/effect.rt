@@ -3,7 +3,8 @@
 ghost use Rattle.std.specs.Prelude.{◌≡◌, ◌≤◌, ◌-◌, length, true, Some};
 ghost use Rattle.jc_types.specs.Changes.{Became};
 ghost use Rattle.jc_effects.specs.Effect.{effect_of};
-ghost use Rattle.jc_effects.specs.Method.{own_method, returned_type, result_of, setting_of, has_own_method, max_stack_of};
+ghost use Rattle.jc_effects.specs.Method.{own_method, returned_type, result_of, setting_of};
+ghost use Rattle.jc_effects.specs.Method.{has_own_method, max_stack_of};
 
 use crate::objects::transfer_object;
 use crate::setting::Setting;

@@ -7,7 +7,8 @@ ghost use Rattle.jc_frames.specs.Frames.{Frame, HasOperands, HasTop, IsFull, IsP
 ghost use Rattle.jc_frames.specs.Lending.{LendsWords};
 ghost use Rattle.jc_frames.specs.Operands.{HasInUse, arguments_in, at_pc, dropped, header_under, in_use, local_in};
 ghost use Rattle.jc_frames.specs.Operands.{of_top, on_top};
-ghost use Rattle.jc_frames.specs.Operands.{operand_in, placed, pushed, put, replaced, with_in_use, with_words, words_of};
+ghost use Rattle.jc_frames.specs.Operands.{operand_in, placed, pushed, put, replaced};
+ghost use Rattle.jc_frames.specs.Operands.{with_in_use, with_words, words_of};
 ghost use Rattle.jc_frames.specs.PrivateLaid.{HasRoom};
 
 use crate::frame_words::{

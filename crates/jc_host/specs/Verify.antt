@@ -16,7 +16,8 @@ use Rattle.jc_host.specs.Eval.{SpellsCert, SpellsNone}
 use Rattle.jc_host.specs.Files.{Entry, IsFaultAt, IsIrregular, IsLonger, IsUnwritten, Written, failing, file}
 use Rattle.jc_host.specs.Files.{most_certificate}
 use Rattle.jc_host.specs.declared.files.FileCause.{FileCause}
-use Rattle.jc_host.specs.declared.files.FileCause.TheVariants.{LongCertificate, NoBinding, NoFolder, NotRegular, NotText}
+use Rattle.jc_host.specs.declared.files.FileCause.TheVariants.{LongCertificate, NoBinding, NoFolder, NotRegular}
+use Rattle.jc_host.specs.declared.files.FileCause.TheVariants.{NotText}
 use Rattle.jc_host.specs.declared.files.FileCause.TheVariants.{System, TooLong}
 use Rattle.jc_host.specs.declared.files.FileCause.TheVariants as causes
 use Rattle.jc_host.specs.Folders.{FailsFirst, IsFolderFault, IsImage}

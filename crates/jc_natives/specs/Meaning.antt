@@ -159,7 +159,8 @@ answer_of w call =
 
 -- a registered instance has an AID and a number, and its object exists: of class Applet or below it, and its own
 abbrev pub has_applet : List Shape → Instance → Object TaggedValue → Bool
-has_applet shapes i object = is_of_class shapes (Api Applet) object.kind.object_type && is_same_owner object.owner i.owner
+has_applet shapes i object =
+    is_of_class shapes (Api Applet) object.kind.object_type && is_same_owner object.owner i.owner
 
 abbrev pub fits_instance : List Shape → Heap TaggedValue → Instance → Bool
 fits_instance shapes heap i =

@@ -51,7 +51,8 @@ bytes_of word = if nat_lt 0 (length word) && nat_le (length word) most_in_line t
 
 -- a budget of steps: decimal digits that encode 1 to 4,294,967,295. Leading zeros are allowed
 abbrev pub is_budget : List ℕ → Bool
-is_budget text = list_all is_ascii_digit text && (nat_lt 0 (digits_value 10 text) && nat_lt (digits_value 10 text) (2 ^ 32))
+is_budget text = list_all is_ascii_digit text
+    && (nat_lt 0 (digits_value 10 text) && nat_lt (digits_value 10 text) (2 ^ 32))
 
 abbrev pub budget_in : List ℕ → Option ℕ
 budget_in text = if is_budget text then Some (digits_value 10 text) else None

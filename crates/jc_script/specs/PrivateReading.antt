@@ -3,8 +3,8 @@ use Rattle.std.specs.Prelude.{⊤, ◌≡◌, ℕ, ◌<◌, ◌≤◌, ◌==◌,
 use Rattle.std.specs.Prelude.{None}
 use Rattle.std.specs.Io.KnownBytes.{Consumes, IsAtEnd}
 use Rattle.std.specs.List.{AllByRecursion}
-use Rattle.jc_streams.specs.declared.outcome.ReadOutcome.{ReadOutcome}
-use Rattle.jc_streams.specs.declared.outcome.ReadOutcome.TheVariants.{Came, Interrupted, Failed}
+use Rattle.jc_streams.specs.declared.outcome.Outcome.{Outcome}
+use Rattle.jc_streams.specs.declared.outcome.Outcome.TheVariants.{Moved, Interrupted, Failed}
 use Rattle.jc_script.specs.Reading.{SoFar}
 use Rattle.jc_script.specs.Script.{lines_of, most_in_line}
 use Rattle.jc_script.specs.declared.reader.NextLine.{NextLine}
@@ -17,10 +17,10 @@ abbrev pub NoFeed : List ℕ → Type 0
 NoFeed bytes = AllByRecursion (λ b. (b == 10) ≡ false) bytes
 
 -- a fact that holds if a call of a reader gave no bytes, because it didn't succeed
-abbrev pub IfNoneCame : ReadOutcome → Type 0 → Type 0
-IfNoneCame (Came count) fact = ⊤
-IfNoneCame Interrupted fact = fact
-IfNoneCame (Failed error) fact = fact
+abbrev pub IfNoneMoved : Outcome → Type 0 → Type 0
+IfNoneMoved (Moved count) fact = ⊤
+IfNoneMoved Interrupted fact = fact
+IfNoneMoved (Failed error) fact = fact
 
 -- a chunk from a reader; it is empty only at the reader's end
 pub record Fills (unread : List ℕ) (before after : Option (List ℕ)) (some : Bool) : Type 0 where

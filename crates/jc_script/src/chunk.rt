@@ -2,10 +2,10 @@
 
 ghost use Rattle.std.specs.Prelude.{◌≡◌, ◌≤◌, ◌==◌, ◌+◌, suc, [], length, drop};
 ghost use Rattle.std.specs.Io.KnownBytes.{Consumes, IsAtEnd, Keeps};
-ghost use Rattle.jc_streams.specs.Streams.{faults_in, IfCame};
-ghost use Rattle.jc_script.specs.PrivateReading.{IfNoneCame};
+ghost use Rattle.jc_streams.specs.Streams.{faults_in, IfMoved};
+ghost use Rattle.jc_script.specs.PrivateReading.{IfNoneMoved};
 
-use jc_streams::{Input, ReadOutcome};
+use jc_streams::{Input, Outcome};
 use std::marker::Model;
 
 /// The most bytes that are read at once.
@@ -66,18 +66,18 @@ impl Chunk {
 
     /// Replaces the bytes by new ones from the reader, by one call of it. None come only at the reader's end, or if the
     /// call didn't succeed.
-    pub(crate) fn fill<R: Input>(&mut self, reader: &mut R) -> ReadOutcome
+    pub(crate) fn fill<R: Input>(&mut self, reader: &mut R) -> Outcome
         ensures called { R.calls reader.new ≡ suc (R.calls reader.old) }
         ensures counted { R.faults reader.new ≡ R.faults reader.old + faults_in result }
-        ensures filled { IfCame result (λ count. count ≡ length self.new) }
-        ensures came { IfCame result (λ count. Consumes (R.remaining reader.old) (R.remaining reader.new) self.new) }
-        ensures end { IfCame result (λ count. count ≡ 0 → IsAtEnd (R.remaining reader.new)) }
-        ensures kept { IfNoneCame result (Keeps (R.remaining reader.old) (R.remaining reader.new)) }
+        ensures filled { IfMoved result (λ count. count ≡ length self.new) }
+        ensures came { IfMoved result (λ count. Consumes (R.remaining reader.old) (R.remaining reader.new) self.new) }
+        ensures end { IfMoved result (λ count. count ≡ 0 → IsAtEnd (R.remaining reader.new)) }
+        ensures kept { IfNoneMoved result (Keeps (R.remaining reader.old) (R.remaining reader.new)) }
     {
         self.at = 0;
         self.end = 0;
         let outcome = reader.read(self.bytes.as_mut_slice());
-        if let ReadOutcome::Came(count) = &outcome {
+        if let Outcome::Moved(count) = &outcome {
             self.end = *count;
         }
         outcome

@@ -11,7 +11,7 @@ ghost use Rattle.jc_script.specs.Reading.{IsReadFault, Tells, TellsInSession, mo
 use crate::chunk::Chunk;
 use crate::command::MOST_IN_LINE;
 use arrayvec::ArrayVec;
-use jc_streams::{Input, ReadOutcome};
+use jc_streams::{Input, Outcome};
 use std::io;
 use std::marker::Model;
 use thiserror::Error;
@@ -111,9 +111,9 @@ impl ScriptReader {
         while self.calls < MOST_CALLS {
             self.calls += 1;
             match self.chunk.fill(reader) {
-                ReadOutcome::Came(count) => return Ok(count > 0),
-                ReadOutcome::Interrupted => {}
-                ReadOutcome::Failed(error) => return Err(ReadFault::System(error)),
+                Outcome::Moved(count) => return Ok(count > 0),
+                Outcome::Interrupted => {}
+                Outcome::Failed(error) => return Err(ReadFault::System(error)),
             }
         }
         Err(ReadFault::TooManyReads)

@@ -4,7 +4,7 @@ ghost use Rattle.std.specs.Prelude.{◌≡◌, Some};
 
 use crate::counts::Counts;
 use crate::input::Input;
-use crate::outcome::{ReadOutcome, outcome_of};
+use crate::outcome::{Outcome, outcome_of};
 use std::io::Read;
 use std::marker::Model;
 
@@ -43,7 +43,7 @@ impl<'a> Input for BytesInput<'a> {
 
     ghost faults = { λ input. 0 };
 
-    fn read(&mut self, buffer: &mut [u8]) -> ReadOutcome {
+    fn read(&mut self, buffer: &mut [u8]) -> Outcome {
         let outcome = outcome_of(self.bytes.read(buffer));
         self.counts = self.counts.then(&outcome);
         outcome

@@ -1,12 +1,12 @@
-//! How often a reader was called, as proofs see it.
+//! How often a reader or a writer was called, as proofs see it.
 
 ghost use Rattle.std.specs.Prelude.{◌≡◌, ◌+◌, ℕ, suc};
 ghost use Rattle.std.specs.Borrow.{ftrue};
 
-use crate::outcome::ReadOutcome;
+use crate::outcome::Outcome;
 use std::marker::Model;
 
-/// How often a reader was called, and how many of these calls failed. Only proofs see these numbers: they take no
+/// How often a reader or a writer was called, and how many of these calls failed. Only proofs see these numbers: they take no
 /// memory, and have no upper bound.
 #[derive(Drop)]
 pub struct Counts {
@@ -30,7 +30,7 @@ impl Counts {
     }
 
     // These calls, and then one that came to this.
-    pub(crate) fn then(&self, _outcome: &ReadOutcome) -> Counts
+    pub(crate) fn then(&self, _outcome: &Outcome) -> Counts
         ensures calls { result.calls ≡ suc self.now.calls }
         ensures faults { result.faults ≡ self.now.faults + faults_in _outcome.now }
     {

@@ -1,10 +1,10 @@
 //! Readers that count their calls, and those of them that failed.
 
 ghost use Rattle.std.specs.Prelude.{◌≡◌, ◌+◌, ◌≤◌, ℕ, suc, List, Option, None, length};
-ghost use Rattle.jc_streams.specs.Streams.{faults_in, IfCame, Reads};
+ghost use Rattle.jc_streams.specs.Streams.{faults_in, IfMoved, Reads};
 
 use crate::counts::Counts;
-use crate::outcome::{ReadOutcome, outcome_of};
+use crate::outcome::{Outcome, outcome_of};
 use std::io::Read;
 
 /// A reader that counts its calls, and those of them that failed.
@@ -19,10 +19,10 @@ pub trait Input {
     ghost faults: { Self → ℕ };
 
     /// Reads bytes to the front of a buffer.
-    fn read(&mut self, buffer: &mut [u8]) -> ReadOutcome
+    fn read(&mut self, buffer: &mut [u8]) -> Outcome
         ensures called { calls self.new ≡ suc (calls self.old) }
         ensures counted { faults self.new ≡ faults self.old + faults_in result }
-        ensures few { IfCame result (λ count. count ≤ length buffer.new) }
+        ensures few { IfMoved result (λ count. count ≤ length buffer.new) }
         ensures bytes { Reads (remaining self.old) (remaining self.new) result buffer.new };
 }
 
@@ -54,7 +54,7 @@ impl<R: Read> Input for CountedInput<R> {
 
     ghost faults = { λ input. input.counts.faults };
 
-    fn read(&mut self, buffer: &mut [u8]) -> ReadOutcome {
+    fn read(&mut self, buffer: &mut [u8]) -> Outcome {
         let outcome = outcome_of(self.reader.read(buffer));
         self.counts = self.counts.then(&outcome);
         outcome

@@ -28,7 +28,7 @@ use denote.Triple.Table.{entered}
 use denote.Triple.Walked.{Stays, stay_dropped, walk_of, ends_at, walk_Meets, Goes-dropped}
 use Rattle.jc_streams.proofs.Walks.{none, none_made, says_both}
 use Rattle.jc_streams.specs.contracts.counts.Counts as Counts
-use Rattle.jc_streams.specs.contracts.outcome.ReadOutcome as Outcome
+use Rattle.jc_streams.specs.contracts.outcome.Outcome as Outcome
 use Rattle.jc_streams.specs.Streams.{faults_in}
 use Rattle.jc_streams.specs.contracts.counts.Counts.then as F
 use Rattle.jc_streams.specs.contracts.counts.Counts.then.Key.{name as #self}

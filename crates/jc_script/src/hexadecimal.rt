@@ -1,10 +1,11 @@
 //! Bytes in hexadecimal.
 
-ghost use Rattle.std.specs.Prelude.{◌≡◌, ◌<◌, ◌∷◌, ◌++◌, [], slice_index, OnOk};
+ghost use Rattle.std.specs.Prelude.{◌≡◌, ◌+◌, ◌*◌, ◌<◌, ◌≤◌, ◌∷◌, ◌++◌, [], length, slice_index};
+ghost use Rattle.arrayvec.specs.ArrayVec.{array_vec_len};
 ghost use Rattle.std.specs.Char.{encode_utf8};
 ghost use Rattle.hex.specs.Hex.{encode_upper, upper_digits};
 
-use arrayvec::{ArrayVec, CapacityError};
+use arrayvec::ArrayVec;
 use std::fmt;
 
 /// The digit of a value, as an ASCII byte.
@@ -29,19 +30,16 @@ fn digit_of(value: u8) -> char
     char::from(digit_byte(value))
 }
 
-/// Appends bytes to a line, two digits each, in upper case. If there is no room, it may have appended the first of
-/// them.
-pub fn put_digits<const MOST: usize>(
-    line: &mut ArrayVec<u8, MOST>,
-    bytes: &[u8],
-) -> Result<(), CapacityError<u8>>
-    ensures { OnOk result (line.new.items ≡ line.old.items ++ encode_upper bytes.now) }
+/// Appends bytes to a line, two digits each, in upper case.
+pub fn put_digits<const MOST: usize>(line: &mut ArrayVec<u8, MOST>, bytes: &[u8])
+    requires room { array_vec_len line.old + 2 * length bytes.now ≤ MOST }
+    ensures items { line.new.items ≡ line.old.items ++ encode_upper bytes.now }
+    ensures long { array_vec_len line.new ≡ array_vec_len line.old + 2 * length bytes.now }
 {
     for byte in bytes {
-        line.try_push(digit_byte(*byte / 16))?;
-        line.try_push(digit_byte(*byte % 16))?;
+        line.push(digit_byte(*byte / 16));
+        line.push(digit_byte(*byte % 16));
     }
-    Ok(())
 }
 
 /// Bytes, two digits each, in upper case.

@@ -20,8 +20,9 @@ use Rattle.jc_run.specs.CardRun.{IsCardRun}
 use Rattle.jc_run.specs.CardRun.IsCardRun.{command as performed, nothing}
 use Rattle.jc_run.specs.Play.{BadLimits, BadLine, IsAnswered, IsGiven, IsPart, NoMemory, NotRead, NotWritten, Over}
 use Rattle.jc_run.specs.Play.{ScriptEnd, SourceFailed, answer_line}
-use Rattle.jc_run.specs.ScriptReads.{ScriptReads}
+use Rattle.jc_run.specs.EndCauses.{EndCauses}
 use Rattle.jc_run.specs.Reports.{Report}
+use Rattle.jc_run.specs.Loading.{exactly}
 use Rattle.jc_run.specs.Runs.{EndsWith, IsPlayed, answer_lines, commands_of}
 use Rattle.jc_run.specs.Runs.EndsWith.{bad_line, memory, over, source, unread, unwritten}
 use Rattle.jc_script.specs.Script.{Apdu, Cells, Install, Load, Objects, Reset, ScriptCommand, Steps}
@@ -166,7 +167,7 @@ EndsSo bad whole BadLimits written = ⊥
 
 module _ (images certificates : List ℕ → List ℕ → Type 0) where
   command_done : (c : CardState) (command : ScriptCommand) (answer : Answered) (after : CardState)
-      → IsPlain command → IsBare c → IsAnswered images certificates c command answer after
+      → IsPlain command → IsBare c → IsAnswered (exactly images certificates) c command answer after
       → IsDone command answer after
   command_done c (Load folder certificate) answer after plain bare h = elim plain [ ]
   command_done c (Install applet instance incoming) answer after plain bare h = elim plain [ ]
@@ -186,7 +187,7 @@ module _ (images certificates : List ℕ → List ℕ → Type 0) where
 
   run_done : {commands : List ScriptCommand} {c : CardState} {answers : List Answered} {touches : List Touch}
       {ran : List ℕ} {after : CardState} → ArePlain commands → IsBare c
-      → IsCardRun images certificates commands c answers touches ran after → AreDone commands answers after
+      → IsCardRun (exactly images certificates) commands c answers touches ran after → AreDone commands answers after
   run_done plain bare (nothing c) = record { answered = refl; bare = bare }
   run_done plain bare (performed first more c between after answer answers touches ran answered rest) =
       let d : IsDone first answer between = command_done c first answer between plain.0 bare answered in
@@ -199,10 +200,10 @@ module _ (images certificates : List ℕ → List ℕ → Type 0) where
 
   -- ---- a script
 
-  module _ (reads : ScriptReads) where
+  module _ (causes : EndCauses) where
     ends_so : {c : CardState} {bad : Option FaultyLine} {left : List Numbered} {part : List ℕ} {end : ScriptEnd}
         (done : List Numbered) → IsBare c → ArePlain (commands_of left)
-        → EndsWith images certificates reads c bad left part end
+        → EndsWith (exactly images certificates) causes c bad left part end
         → EndsSo bad (lines_to done ++ lines_to left) end (lines_to done ++ part)
     ends_so done bare plain (over none) = (none, refl)
     ends_so done bare plain (bad_line at is) = (is, refl)
@@ -210,7 +211,7 @@ module _ (images certificates : List ℕ → List ℕ → Type 0) where
     ends_so done bare plain (memory next left folder certificate is short) = elim ((rw is at plain.0)) [ ]
     ends_so done bare plain (unread left why) =
         record { rest = lines_to left; whole_is = ap (λ (bs : List ℕ). bs ++ lines_to left) (sym (append-nil _)) }
-    ends_so {c = c} done bare plain (unwritten next left part answer after answered is) =
+    ends_so {c = c} done bare plain (unwritten next left part answer after why answered is) =
         let d : IsDone next.command answer after =
         command_done c next.command answer after plain.0 bare answered in
         record {
@@ -221,7 +222,7 @@ module _ (images certificates : List ℕ → List ℕ → Type 0) where
 
     pub script_ends : (told : List Report → Type 0) (script : Script) (c : CardState) (written : List ℕ)
         (end : ScriptEnd) → ArePlain (commands_of script.commands) → IsBare c
-        → IsPlayed images certificates reads told script c written end
+        → IsPlayed (exactly images certificates) causes told script c written end
         → EndsSo script.bad (lines_to script.commands) end written
     script_ends told script c written end plain bare p =
         let plains = plain_parts p.done p.left (rw p.in_order at plain) in

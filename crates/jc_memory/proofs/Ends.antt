@@ -8,8 +8,8 @@ use Rattle.jc_run.specs.Performs.{HasRun}
 use Rattle.jc_run.specs.Play.{ScriptEnd}
 use Rattle.jc_run.specs.Reports.{Report}
 use Rattle.jc_run.specs.Runs.{IsSimulated}
-use Rattle.jc_run.specs.ScriptReads.{script_reads}
-use Rattle.jc_memory.specs.Memory.{Holds, IsMissing, Stored, missing_reads, stored_under, unheard}
+use Rattle.jc_run.specs.EndCauses.{end_causes}
+use Rattle.jc_memory.specs.Memory.{Holds, IsMissing, Stored, missing_causes, stored_under, unheard}
 
 -- ---- what is missing
 
@@ -32,23 +32,24 @@ missing_before images certificates images_after certificates_after same same_cer
 -- ---- the end of a script
 
 -- what was written to an empty writer is all that it holds
-pub run_in_memory : (images certificates images_after certificates_after : List Stored) (unread : Type 0)
+pub run_in_memory : (images certificates images_after certificates_after : List Stored) (unread unwritten : Type 0)
     (told : List Report → Type 0) (limits : Limits) (binding : Bound) (script written : List ℕ)
     (end : ScriptEnd) (before after : ℕ)
     → HoldSame (Holds images) (Holds images_after) → HoldSame (Holds certificates) (Holds certificates_after)
     → HasRun (Holds images) (Holds certificates)
-    (script_reads (IsMissing images_after certificates_after) before after unread) told limits binding script []
+    (end_causes (IsMissing images_after certificates_after) before after unread unwritten) told limits binding script []
     (Some written) end
-    → IsSimulated (Holds images) (Holds certificates) (missing_reads images certificates) unheard limits binding script
+    → IsSimulated (Holds images) (Holds certificates) (missing_causes images certificates) unheard limits binding script
     written end
-run_in_memory images certificates images_after certificates_after unread told limits binding script written end before
-    after same also r =
+run_in_memory images certificates images_after certificates_after unread unwritten told limits binding script written
+    end before after same also r =
     let is : written ≡ r.written = cc in
     rw is (simulated_as (Holds images) (Holds certificates)
-    (script_reads (IsMissing images_after certificates_after) before after unread) (missing_reads images certificates)
-    told unheard (record {
+    (end_causes (IsMissing images_after certificates_after) before after unread unwritten)
+    (missing_causes images certificates) told unheard (record {
       failing = λ number ends. missing_before images certificates images_after certificates_after same also;
       short = λ short. refl;
       unread = λ why. tt;
+      unwritten = λ why. tt;
       telling = λ reports t. tt;
     }) r.simulated)

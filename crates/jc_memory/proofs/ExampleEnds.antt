@@ -4,8 +4,9 @@ use Rattle.jc_api.specs.Bound.{Bound}
 use Rattle.jc_card.specs.New.{new_card}
 use Rattle.jc_machine.specs.declared.limits.Limits.{Limits}
 use Rattle.jc_run.specs.Play.{BadLimits, BadLine, NoMemory, NotRead, NotWritten, Over, ScriptEnd, SourceFailed}
-use Rattle.jc_run.specs.ScriptReads.{ScriptReads}
+use Rattle.jc_run.specs.EndCauses.{EndCauses}
 use Rattle.jc_run.specs.Reports.{Report}
+use Rattle.jc_run.specs.Loading.{exactly}
 use Rattle.jc_run.specs.Runs.{RunsTo}
 use Rattle.jc_run.specs.Runs.RunsTo.{no_card, played, unfit}
 use Rattle.jc_script.specs.Faults.{fault_at}
@@ -50,13 +51,14 @@ as_example bad written NotWritten fourth h = h
 as_example bad written NoMemory fourth h = elim h [ ]
 as_example bad written BadLimits fourth h = elim h [ ]
 
-pub example_ends : {images certificates : List ℕ → List ℕ → Type 0} {reads : ScriptReads}
+pub example_ends : {images certificates : List ℕ → List ℕ → Type 0} {causes : EndCauses}
     {told : List Report → Type 0} {limits : Limits} {binding : Bound} {written : List ℕ} {end : ScriptEnd}
-    → RunsTo images certificates reads told limits binding example_script written end → IsExampleEnd end written
+    → RunsTo (exactly images certificates) causes told limits binding example_script written end
+    → IsExampleEnd end written
 example_ends (unfit too_far silent) = refl
 example_ends (no_card fit silent) = refl
-example_ends {images = images} {certificates = certificates} {reads = reads} {told = told} {limits = limits}
+example_ends {images = images} {certificates = certificates} {causes = causes} {told = told} {limits = limits}
     {binding = binding} (played written end fit p) =
     as_example (Some fourth_line) written end refl (rw (← answers_are)
-    (script_ends images certificates reads told example (new_card limits binding) written end (tt, (tt, (tt, tt)))
+    (script_ends images certificates causes told example (new_card limits binding) written end (tt, (tt, (tt, tt)))
     (record { unselected = refl; alone = refl }) (rw (← example_is) p)))

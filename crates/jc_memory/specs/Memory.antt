@@ -3,7 +3,7 @@ use Rattle.std.specs.Prelude.{⊤, ◌≡◌, ℕ, List, [], Option, Some, None,
 use Rattle.std.specs.Option.{option_map}
 use Rattle.jc_source.specs.Source.{Asked, Certificate, Image}
 use Rattle.jc_run.specs.Reports.{Report}
-use Rattle.jc_run.specs.ScriptReads.{ScriptReads}
+use Rattle.jc_run.specs.EndCauses.{EndCauses}
 use Rattle.jc_source.specs.declared.source.SourceFault.{SourceFault}
 use Rattle.jc_source.specs.declared.source.SourceFault.TheVariants.{Failed, Memory}
 
@@ -39,10 +39,12 @@ abbrev pub IsMissing : (images certificates : List Stored) → Asked → Type 0
 IsMissing images certificates (Image name) = stored_under images name ≡ None
 IsMissing images certificates (Certificate name) = stored_under certificates name ≡ None
 
--- the reads of a script in memory: the last read of the source that failed was of a name under which nothing is, and
--- memory may have run out for one. No read of its lines fails, but there may be too many
-abbrev pub missing_reads : (images certificates : List Stored) → ScriptReads
-missing_reads images certificates = record { failed_at = IsMissing images certificates; short = 1; unread = ⊤ }
+-- what may end a script in memory: the last read of the source that failed was of a name under which nothing is, and
+-- memory may have run out for one. No read of its lines fails, but there may be too many; and there may be no memory
+-- for an answer
+abbrev pub missing_causes : (images certificates : List Stored) → EndCauses
+missing_causes images certificates =
+    record { failed_at = IsMissing images certificates; short = 1; unread = ⊤; unwritten = ⊤ }
 
 -- nobody gets the reports of such a script: nothing is said of them
 abbrev pub unheard : List Report → Type 0

@@ -2,7 +2,7 @@
 
 ghost use Rattle.std.specs.Prelude.{[]};
 ghost use Rattle.jc_memory.specs.Example.{IsExampleEnd, example_script};
-ghost use Rattle.jc_memory.specs.Memory.{Holds, missing_reads, unheard};
+ghost use Rattle.jc_memory.specs.Memory.{Holds, missing_causes, unheard};
 ghost use Rattle.jc_run.specs.End.{end_of};
 ghost use Rattle.jc_run.specs.Runs.{IsSimulated};
 
@@ -17,7 +17,7 @@ const SCRIPT: &[u8] = b"reset\napdu 00A40400\napdu 00\nselect\n";
 /// Plays the example on a new card. Unless memory, reading or writing fails, it ends at its fourth line, and what it
 /// wrote is the lines `reset`, `sw 6999` and `sw 6700`.
 pub fn play_example(alloc: Global, limits: Limits, binding: &Binding) -> Played
-    ensures simulated { IsSimulated (Holds []) (Holds []) (missing_reads [] []) unheard limits binding.now
+    ensures simulated { IsSimulated (Holds []) (Holds []) (missing_causes [] []) unheard limits binding.now
         example_script result.written.items (end_of result.outcome) }
     ensures exact { IsExampleEnd (end_of result.outcome) result.written.items }
 {

@@ -1,7 +1,7 @@
 //! Scripts in memory on a new card.
 
 ghost use Rattle.std.specs.Prelude.{◌≡◌, ◌<◌, ◌++◌, ◌^◌, OnOk};
-ghost use Rattle.jc_memory.specs.Memory.{Holds, missing_reads, unheard};
+ghost use Rattle.jc_memory.specs.Memory.{Holds, missing_causes, unheard};
 ghost use Rattle.jc_run.specs.End.{end_of};
 ghost use Rattle.jc_run.specs.Performs.{asked_by};
 ghost use Rattle.jc_run.specs.Runs.{IsSimulated};
@@ -16,7 +16,7 @@ use jc_machine::Limits;
 use jc_run::{CommandAnswer, LineRefusal, ScriptFault, Teller, perform, run_script};
 use jc_script::ScriptCommand;
 use jc_source::SourceFault;
-use jc_streams::BytesInput;
+use jc_streams::{BytesInput, CountedOutput};
 use std::alloc::Global;
 
 /// The result of a script: the bytes that it wrote, and how it ended.
@@ -56,22 +56,23 @@ pub fn play_in_memory(
     limits: Limits,
     binding: &Binding,
 ) -> Played
-    ensures { IsSimulated (Holds images.now) (Holds certificates.now) (missing_reads images.now certificates.now)
+    ensures { IsSimulated (Holds images.now) (Holds certificates.now) (missing_causes images.now certificates.now)
         unheard limits binding.now script.now result.written.items (end_of result.outcome) }
 {
     let mut source = MemorySource::new(images, certificates);
     let mut reader = BytesInput::new(script);
-    let mut written = Vec::new(alloc);
+    let mut writer = CountedOutput::new(Vec::new(alloc));
     let mut teller = Silence;
     let outcome = run_script(
         alloc,
         &mut reader,
-        &mut written,
+        &mut writer,
         &mut source,
         &mut teller,
         limits,
         binding,
     );
+    let written = writer.writer;
     Played { written, outcome }
 }
 

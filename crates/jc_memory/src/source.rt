@@ -1,12 +1,11 @@
 //! Packages and certificates in memory.
 
-ghost use Rattle.std.specs.Prelude.{◌≡◌, ◌≤◌, Some, IfOk, IfErr, bytes_eq, find};
+ghost use Rattle.std.specs.Prelude.{◌≡◌, Some, IfOk, IfErr, bytes_eq, find};
 ghost use Rattle.std.specs.Option.{option_map};
 ghost use Rattle.jc_memory.specs.Memory.{Holds, IsMissing, IsUnread, unread_store};
-ghost use Rattle.jc_source.specs.Source.{failures_in, shortages_in};
 
 use crate::reads::{NamedRead, Reads};
-use jc_source::{PackageSource, SourceFault};
+use jc_source::{PackageSource, SourceFault, failures_in, shortages_in};
 use std::alloc::Global;
 use std::marker::Model;
 
@@ -81,28 +80,6 @@ fn copied(alloc: Global, entries: &[NamedBytes], name: &str) -> Result<Vec<u8>, 
     match entry_under(entries, name) {
         Some(entry) => Vec::from_slice(alloc, &entry.bytes).map_err(|_| SourceFault::Memory),
         None => Err(SourceFault::Failed),
-    }
-}
-
-// How many failures a read is.
-fn failures_in(read: &Result<Vec<u8>, SourceFault>) -> u32
-    ensures counted { result ≡ failures_in read.now }
-    ensures most { result ≤ 1 }
-{
-    match read {
-        Ok(_) | Err(SourceFault::Memory) => 0,
-        Err(SourceFault::Failed) => 1,
-    }
-}
-
-// How many shortages of memory a read is.
-fn shortages_in(read: &Result<Vec<u8>, SourceFault>) -> u32
-    ensures counted { result ≡ shortages_in read.now }
-    ensures most { result ≤ 1 }
-{
-    match read {
-        Ok(_) | Err(SourceFault::Failed) => 0,
-        Err(SourceFault::Memory) => 1,
     }
 }
 

@@ -11,6 +11,7 @@ use Rattle.jc_machine.specs.Machine.{Touch}
 use Rattle.jc_run.specs.Answer.{Answered}
 use Rattle.jc_run.specs.CardRun.{IsCardRun}
 use Rattle.jc_run.specs.CardRun.IsCardRun.{command, nothing}
+use Rattle.jc_run.specs.Loading.{exactly}
 use Rattle.jc_run.specs.Play.{IsAnswered, IsGiven}
 use Rattle.jc_script.specs.Script.{Apdu, Cells, Install, Load, Objects, Reset, ScriptCommand, Steps}
 
@@ -40,7 +41,7 @@ mapped P Q (Some x) f h = f x h
 
 module _ (laws : AreAnswered) (images certificates : List ℕ → List ℕ → Type 0) where
   answered_idle : (c : CardState) (asked : ScriptCommand) (answer : Answered) (after : CardState) → IsIdle c
-      → IsAnswered images certificates c asked answer after → IsIdle after
+      → IsAnswered (exactly images certificates) c asked answer after → IsIdle after
   answered_idle c (Load folder certificate) answer after idle h =
       loaded_idle c after h.image h.bytes h.result idle h.load
   answered_idle c (Install applet instance incoming) answer after idle h =
@@ -60,7 +61,7 @@ module _ (laws : AreAnswered) (images certificates : List ℕ → List ℕ → T
   answered_idle c (Steps steps) answer after idle h = ap (λ (d : CardState). d.kept.installing) h.1 ∙ idle
 
   pub runs_idle : {commands : List ScriptCommand} {c : CardState} {answers : List Answered} {touches : List Touch}
-      {ran : List ℕ} {after : CardState} → IsCardRun images certificates commands c answers touches ran after
+      {ran : List ℕ} {after : CardState} → IsCardRun (exactly images certificates) commands c answers touches ran after
       → IsIdle c → IsIdle after
   runs_idle (nothing c) idle = idle
   runs_idle (command first more c between after answer answers touches ran answered rest) idle =

@@ -18,6 +18,7 @@ use Rattle.jc_run.specs.Answer.{Answered}
 use Rattle.jc_run.specs.CardRun.{IsCardRun, accesses_of, contexts_in, contexts_of}
 use Rattle.jc_run.specs.CardRun.IsCardRun.{command, nothing}
 use Rattle.jc_run.specs.Play.{IsAnswered, IsGiven}
+use Rattle.jc_run.specs.Loading.{exactly}
 use Rattle.jc_run.specs.Runs.{AreGuarded}
 use Rattle.jc_script.specs.Script.{Apdu, Cells, Install, Load, Objects, Reset, ScriptCommand, Steps}
 use Rattle.jc_store.specs.Heap.{Heap, Object, object_at}
@@ -54,9 +55,9 @@ given_keeps {A} context c done said answer after keeps given out =
     (sym (ap (λ (o : Option (Left A)). stays_out context (contexts_in o)) given.is) ∙ out))
 
 module _ (laws : KeepLaws) (images certificates : List ℕ → List ℕ → Type 0)
-    (guarded : AreGuarded images certificates) (context : ℕ) where
+    (guarded : AreGuarded IsApartCard (exactly images certificates)) (context : ℕ) where
   answered_keeps : (c : CardState) (asked : ScriptCommand) (answer : Answered) (after : CardState) → IsApartCard c
-      → IsAnswered images certificates c asked answer after → stays_out context (contexts_of c asked) ≡ true
+      → IsAnswered (exactly images certificates) c asked answer after → stays_out context (contexts_of c asked) ≡ true
       → KeepsContents context c.heap after.heap
   answered_keeps c (Load folder certificate) answer after p h out = λ n o q e f hidden clears.
       ap (λ (x : Object TaggedValue). x.cells)
@@ -77,13 +78,13 @@ module _ (laws : KeepLaws) (images certificates : List ℕ → List ℕ → Type
 
   -- a command, as a run
   alone : (c : CardState) (asked : ScriptCommand) (answer : Answered) (after : CardState)
-      → IsAnswered images certificates c asked answer after
-      → IsCardRun images certificates (asked ∷ []) c (answer ∷ []) (accesses_of c asked ++ [])
+      → IsAnswered (exactly images certificates) c asked answer after
+      → IsCardRun (exactly images certificates) (asked ∷ []) c (answer ∷ []) (accesses_of c asked ++ [])
       (contexts_of c asked ++ []) after
   alone c asked answer after h = command asked [] c after after answer [] [] [] h (nothing after)
 
   pub runs_keep : {commands : List ScriptCommand} {c : CardState} {answers : List Answered} {touches : List Touch}
-      {ran : List ℕ} {after : CardState} → IsCardRun images certificates commands c answers touches ran after
+      {ran : List ℕ} {after : CardState} → IsCardRun (exactly images certificates) commands c answers touches ran after
       → IsApartCard c → stays_out context ran ≡ true → KeepsContents context c.heap after.heap
   runs_keep (nothing c) p out = same_heap context c.heap c.heap refl
   runs_keep (command first more c between after answer answers touches ran answered rest) p out =

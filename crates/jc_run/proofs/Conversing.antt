@@ -23,8 +23,9 @@ use Rattle.jc_run.specs.PrivateSession.{Converses, ConversesFrom, EndsLine, HasC
 use Rattle.jc_run.specs.PrivateSession.{IsLineUnwritten, IsSessionTurn}
 use Rattle.jc_run.specs.PrivateSession.Converses.{line as one_line, over, unread, unwritten}
 use Rattle.jc_run.specs.PrivateSession.IsDoneOrRefused.{left_out, not_loaded, played}
-use Rattle.jc_run.specs.Reports.{AnsweredLine, AreTold, IsOfLoad, RefusedLine, Report, failures_by, failures_for}
-use Rattle.jc_run.specs.Reports.{failures_told, shortages_by, shortages_for, shortages_told}
+use Rattle.jc_run.specs.EndCauses.{SessionCauses}
+use Rattle.jc_run.specs.Reports.{AnsweredLine, AreTold, RefusedLine, Report, failures_by, failures_told}
+use Rattle.jc_run.specs.Reports.{shortages_by, shortages_told}
 use Rattle.jc_run.specs.Reports.AreTold.{none}
 use Rattle.jc_run.specs.Session.{AreCounted, FaultCount, fault_count, session_fault}
 use Rattle.jc_run.specs.declared.refusal.LineRefusal.{LineRefusal}
@@ -89,12 +90,12 @@ bad_counted {failed = failed} {short = short} number fault =
 
 -- a refused load
 pub refusal_counted : {failed short failed_after short_after : ℕ} (number : ℕ) (fault : SourceFault)
-    (refusal : LineRefusal) → failed_after ≡ failed + failures_of fault → short_after ≡ short + shortages_of fault
-    → failures_for refusal ≡ failures_of fault → shortages_for refusal ≡ shortages_of fault
-    → AreCounted (fault_count failed short failed_after short_after) (RefusedLine number refusal ∷ [])
-refusal_counted {failed = failed} {short = short} number fault refusal h1 h2 h3 h4 = record {
-  failures = h1 ∙ ap (λ n. failed + n) (sym h3 ∙ sym (add-zero (failures_for refusal)));
-  shortages = h2 ∙ ap (λ n. short + n) (sym h4 ∙ sym (add-zero (shortages_for refusal)));
+    → failed_after ≡ failed + failures_of fault → short_after ≡ short + shortages_of fault
+    → AreCounted (fault_count failed short failed_after short_after)
+    (RefusedLine number (refusals.Unread fault) ∷ [])
+refusal_counted {failed = failed} {short = short} number fault h1 h2 = record {
+  failures = h1 ∙ ap (λ n. failed + n) (sym (add-zero (failures_of fault)));
+  shortages = h2 ∙ ap (λ n. short + n) (sym (add-zero (shortages_of fault)));
 }
 
 -- ---- a line
@@ -126,19 +127,18 @@ module _ (images certificates : List ℕ → List ℕ → Type 0) (faults : Faul
       refused said after before now (refusals.Bad fault) counted t (left_out (sym bad)) holds known
 
   pub load_refused : (command : ScriptCommand) (after : CardWords) (before : List ℕ) (now : Option (List ℕ))
-      (refusal : LineRefusal) → AreCounted faults (RefusedLine number refusal ∷ [])
-      → told (RefusedLine number refusal ∷ []) → IsOfLoad refusal → AsksSource command → Holds after c
+      (why : SourceFault) → AreCounted faults (RefusedLine number (refusals.Unread why) ∷ [])
+      → told (RefusedLine number (refusals.Unread why) ∷ []) → AsksSource command → Holds after c
       → now ≡ Some before
       → IsLineHeld images certificates faults told c number fault (Asks command) after before now
-  load_refused (Load folder certificate) after before now refusal counted t of_load asks holds known =
-      refused _ after before now refusal counted t (not_loaded folder certificate refusal refl of_load) holds known
-  load_refused (Install applet instance incoming) after before now refusal counted t of_load asks holds known =
-      elim asks [ ]
-  load_refused (Apdu bytes) after before now refusal counted t of_load asks holds known = elim asks [ ]
-  load_refused Reset after before now refusal counted t of_load asks holds known = elim asks [ ]
-  load_refused Cells after before now refusal counted t of_load asks holds known = elim asks [ ]
-  load_refused Objects after before now refusal counted t of_load asks holds known = elim asks [ ]
-  load_refused (Steps steps) after before now refusal counted t of_load asks holds known = elim asks [ ]
+  load_refused (Load folder certificate) after before now why counted t asks holds known =
+      refused _ after before now (refusals.Unread why) counted t (not_loaded folder certificate why refl) holds known
+  load_refused (Install applet instance incoming) after before now why counted t asks holds known = elim asks [ ]
+  load_refused (Apdu bytes) after before now why counted t asks holds known = elim asks [ ]
+  load_refused Reset after before now why counted t asks holds known = elim asks [ ]
+  load_refused Cells after before now why counted t asks holds known = elim asks [ ]
+  load_refused Objects after before now why counted t asks holds known = elim asks [ ]
+  load_refused (Steps steps) after before now why counted t asks holds known = elim asks [ ]
 
   -- a line that is played
   held : (said : ScriptLine) (after : CardWords) (before : List ℕ) (now : Option (List ℕ))
@@ -175,23 +175,24 @@ module _ (images certificates : List ℕ → List ℕ → Type 0) (faults : Faul
       (command_done images certificates told c number command answer after old now before denial stopped t a is h)
       counted
 
-module _ (images certificates : List ℕ → List ℕ → Type 0) (c : CardState) where
+module _ (images certificates : List ℕ → List ℕ → Type 0) (unwritable : Type 0) (c : CardState) where
   unwritten_by : {failed_at : Asked → Type 0} {short number : ℕ} {told : LineFault} {said : ScriptLine}
       {written : List ℕ} {end : ScriptEnd} → end ≡ NotWritten → (before : List ℕ) (now : Option (List ℕ))
-      → now ≡ Some (before ++ written) → EndsAt images certificates failed_at short c number told said written end
-      → IsLineUnwritten images certificates c said before now
+      → now ≡ Some (before ++ written)
+      → EndsAt images certificates failed_at short unwritable c number told said written end
+      → IsLineUnwritten images certificates unwritable c said before now
   unwritten_by is before now known bad_line = absurd cc
   unwritten_by is before now known (source folder certificate failing) = absurd cc
   unwritten_by is before now known (memory folder certificate short) = absurd cc
-  unwritten_by is before now known (cut_short command written answer after answered part) = search arith
+  unwritten_by is before now known (cut_short command written answer after why answered part) = search arith
 
   pub command_not_written : (command : ScriptCommand) (answer : Answered) (after : CardWords)
-      (old now : Option (List ℕ)) (before : List ℕ) → Answers images certificates c command answer after
+      (old now : Option (List ℕ)) (before : List ℕ) → unwritable → Answers images certificates c command answer after
       → old ≡ Some before → AppendsPart old now (answer_line answer)
-      → EndsLine images certificates c (Asks command) before now NotWritten
-  command_not_written command answer after old now before a is h =
-      let e = command_unwritten images certificates (λ asked. ⊥) 0 c 0 (unread_fault 0) command answer after old now
-      before a is h in
+      → EndsLine images certificates unwritable c (Asks command) before now NotWritten
+  command_not_written command answer after old now before why a is h =
+      let e = command_unwritten images certificates (λ asked. ⊥) 0 unwritable c 0 (unread_fault 0) command answer
+      after old now before why a is h in
       unwritten_by refl before now e.now_is e.ends
 
 -- ---- what is told of known bytes
@@ -270,13 +271,13 @@ module _ (images certificates : List ℕ → List ℕ → Type 0) (faults : Faul
         (long_line s.first s.long) h known);
   }
 
-module _ (images certificates : List ℕ → List ℕ → Type 0) (unreadable : ℕ → Type 0) (faults : FaultCount)
+module _ (images certificates : List ℕ → List ℕ → Type 0) (causes : SessionCauses) (faults : FaultCount)
     (told : List Report → Type 0) (c : CardState) (number : ℕ) (bytes : List ℕ) where
   -- lines that end without a report
   ends_by : (written before : List ℕ) (now : Option (List ℕ)) (end : ScriptEnd) → AreCounted faults [] → told []
-      → Converses images certificates unreadable number (lines_of bytes) c [] written end
+      → Converses images certificates causes number (lines_of bytes) c [] written end
       → now ≡ Some (before ++ written)
-      → ConversesFrom images certificates unreadable faults told number bytes c before now end
+      → ConversesFrom images certificates causes faults told number bytes c before now end
   ends_by written before now end counted silent converses known = record {
     reports = [];
     counted = counted;
@@ -287,26 +288,26 @@ module _ (images certificates : List ℕ → List ℕ → Type 0) (unreadable : 
   }
 
   pub none_left : (before : List ℕ) (now : Option (List ℕ)) → AreCounted faults [] → told [] → lines_of bytes ≡ []
-      → now ≡ Some before → ConversesFrom images certificates unreadable faults told number bytes c before now Over
+      → now ≡ Some before → ConversesFrom images certificates causes faults told number bytes c before now Over
   none_left before now counted silent empty known =
       ends_by [] before now Over counted silent (rw empty (over number c)) (none_more known)
 
-  pub not_read : (before : List ℕ) (now : Option (List ℕ)) → AreCounted faults [] → told [] → unreadable number
-      → now ≡ Some before → ConversesFrom images certificates unreadable faults told number bytes c before now NotRead
+  pub not_read : (before : List ℕ) (now : Option (List ℕ)) → AreCounted faults [] → told [] → causes.unread number
+      → now ≡ Some before → ConversesFrom images certificates causes faults told number bytes c before now NotRead
   not_read before now counted silent why known =
       ends_by [] before now NotRead counted silent (unread number (lines_of bytes) c why) (none_more known)
 
   pub line_ends : (line rest before : List ℕ) (now : Option (List ℕ)) (end : ScriptEnd) → AreCounted faults []
       → told [] → TakesShortLine line bytes rest
-      → EndsLine images certificates c (said_in_session line) before now end
-      → ConversesFrom images certificates unreadable faults told number bytes c before now end
+      → EndsLine images certificates causes.unwritten c (said_in_session line) before now end
+      → ConversesFrom images certificates causes faults told number bytes c before now end
   line_ends line rest before now Over counted silent t e = elim e [ ]
   line_ends line rest before now (BadLine at fault) counted silent t e = elim e [ ]
   line_ends line rest before now (SourceFailed at) counted silent t e = elim e [ ]
   line_ends line rest before now NotRead counted silent t e = elim e [ ]
   line_ends line rest before now NotWritten counted silent t e =
       ends_by e.written before now NotWritten counted silent
-      (rw t.lines (unwritten number line (lines_of rest) c e.card e.command e.written e.answer
+      (rw t.lines (unwritten number line (lines_of rest) c e.card e.command e.written e.answer e.why
       (short_line line t.short ∙ e.is) e.answered e.part)) e.now_is
   line_ends line rest before now NoMemory counted silent t e = elim e [ ]
   line_ends line rest before now BadLimits counted silent t e = elim e [ ]
@@ -319,11 +320,11 @@ handed_on result error P is p = grind (arith, err_from_is_err_and)
 
 -- ---- lines that are done
 
-module _ {S U T : Type 0} (images certificates : List ℕ → List ℕ → Type 0) (unreadable : S → U → ℕ → Type 0)
+module _ {S U V T : Type 0} (images certificates : List ℕ → List ℕ → Type 0) (causes : S → U → V → SessionCauses)
     (tells : T → Report → T → Type 0) (opening : T) (c : CardState) (input before : List ℕ) where
   pub begun : (faults : FaultCount) (after : CardWords) (left now : Option (List ℕ)) → AreCounted faults []
       → Holds after c → left ≡ Some input → now ≡ Some before
-      → HasConversed images certificates unreadable faults tells opening c input before 1 after opening left now
+      → HasConversed images certificates causes faults tells opening c input before 1 after opening left now
   begun faults after left now counted holds is known = record {
     reports = [];
     counted = counted;
@@ -334,16 +335,16 @@ module _ {S U T : Type 0} (images certificates : List ℕ → List ℕ → Type 
     left_is = is;
     written = [];
     now_is = none_more known;
-    leads = λ s u more behind end p. p;
+    leads = λ s u v more behind end p. p;
   }
 
   pub one_more : {number : ℕ} {card after : CardWords} {teller further : T} {left rest now later : Option (List ℕ)}
       {failed short failed_between short_between failed_last short_last : ℕ}
-      → (h : HasConversed images certificates unreadable (fault_count failed short failed_between short_between) tells
+      → (h : HasConversed images certificates causes (fault_count failed short failed_between short_between) tells
       opening c input before number card teller left now)
       → IsSessionTurn images certificates (fault_count failed_between short_between failed_last short_last)
       (AreTold tells teller further) number h.rest h.card after rest (before ++ h.written) later
-      → HasConversed images certificates unreadable (fault_count failed short failed_last short_last) tells opening c
+      → HasConversed images certificates causes (fault_count failed short failed_last short_last) tells opening c
       input before (number + 1) after further rest later
   one_more {number = number} h t = record {
     reports = h.reports ++ t.done.reports;
@@ -355,29 +356,29 @@ module _ {S U T : Type 0} (images certificates : List ℕ → List ℕ → Type 
     left_is = t.left_is;
     written = h.written ++ t.done.written;
     now_is = t.done.now_is ∙ ap (λ (bs : List ℕ). Some bs) (append_assoc before h.written t.done.written);
-    leads = λ s u more behind end p.
+    leads = λ s u v more behind end p.
         rw (append_assoc h.written t.done.written behind, append_assoc h.reports t.done.reports more)
-        (h.leads s u (t.done.reports ++ more) (t.done.written ++ behind) end
+        (h.leads s u v (t.done.reports ++ more) (t.done.written ++ behind) end
         (rw t.lines (one_line number t.first (lines_of t.rest) h.card t.done.card t.done.reports more t.done.written
         behind end t.done.done (rw (add-one number) at p))));
   }
 
-  pub at_end : (s : S) (u : U) {number : ℕ} {card : CardWords} {teller last : T}
+  pub at_end : (s : S) (u : U) (v : V) {number : ℕ} {card : CardWords} {teller last : T}
       {left now final : Option (List ℕ)} {end : ScriptEnd}
       {failed short failed_between short_between failed_last short_last : ℕ}
-      → (h : HasConversed images certificates unreadable (fault_count failed short failed_between short_between) tells
+      → (h : HasConversed images certificates causes (fault_count failed short failed_between short_between) tells
       opening c input before number card teller left now)
-      → ConversesFrom images certificates (unreadable s u)
+      → ConversesFrom images certificates (causes s u v)
       (fault_count failed_between short_between failed_last short_last)
       (AreTold tells teller last) number h.rest h.card (before ++ h.written) final end
-      → ConversesFrom images certificates (unreadable s u) (fault_count failed short failed_last short_last)
+      → ConversesFrom images certificates (causes s u v) (fault_count failed short failed_last short_last)
       (AreTold tells opening last) 1 input c before final end
-  at_end s u {end = end} h p = record {
+  at_end s u v {end = end} h p = record {
     reports = h.reports ++ p.reports;
     counted = counted_more h.counted p.counted;
     were_told = told_more h.were_told p.were_told;
     written = h.written ++ p.written;
-    converses = h.leads s u p.reports p.written end p.converses;
+    converses = h.leads s u v p.reports p.written end p.converses;
     now_is = p.now_is ∙ ap (λ (bs : List ℕ). Some bs) (append_assoc before h.written p.written);
   }
 
@@ -393,23 +394,24 @@ module _ (images certificates older old : List ℕ → List ℕ → Type 0) (sam
       played reports written after (line_as images certificates older old same_images same_certificates c number said
       reports written after p)
   done_as (left_out is) = left_out is
-  done_as (not_loaded folder name refusal is of_load) = not_loaded folder name refusal is of_load
+  done_as (not_loaded folder name why is) = not_loaded folder name why is
 
-  module _ {unreadable later : ℕ → Type 0} (lead : (number : ℕ) → unreadable number → later number) where
+  module _ {causes later : SessionCauses} (lead : (number : ℕ) → causes.unread number → later.unread number)
+      (lead_cut : causes.unwritten → later.unwritten) where
     converses_as : {number : ℕ} {lines : List (List ℕ)} {c : CardState} {reports : List Report} {written : List ℕ}
-        {end : ScriptEnd} → Converses images certificates unreadable number lines c reports written end
+        {end : ScriptEnd} → Converses images certificates causes number lines c reports written end
         → Converses older old later number lines c reports written end
     converses_as (over number c) = over number c
     converses_as (one_line number first lines c after reports more written behind end p rest) =
         one_line number first lines c after reports more written behind end (done_as p) (converses_as rest)
-    converses_as (unwritten number first lines c after asked written answer is answered part) =
-        unwritten number first lines c after asked written answer is
+    converses_as (unwritten number first lines c after asked written answer why is answered part) =
+        unwritten number first lines c after asked written answer (lead_cut why) is
         (answered_as images certificates older old same_images same_certificates c asked answer after answered) part
     converses_as (unread number lines c why) = unread number lines c (lead number why)
 
     pub converses_from_as : {faults : FaultCount} {told : List Report → Type 0} {number : ℕ} {bytes : List ℕ}
         {c : CardState} {before : List ℕ} {now : Option (List ℕ)} {end : ScriptEnd}
-        → ConversesFrom images certificates unreadable faults told number bytes c before now end
+        → ConversesFrom images certificates causes faults told number bytes c before now end
         → ConversesFrom older old later faults told number bytes c before now end
     converses_from_as p = record {
       reports = p.reports;

@@ -14,7 +14,7 @@ use Rattle.jc_run.specs.Answer.{Answered}
 use Rattle.jc_run.specs.Performs.{Answers, AsksSource, IsFailingOf}
 use Rattle.jc_run.specs.Play.{BadLine, IsPart, NoMemory, NotRead, NotWritten, Over, ScriptEnd}
 use Rattle.jc_run.specs.Play.{SourceFailed, answer_line}
-use Rattle.jc_run.specs.ScriptReads.{ScriptReads}
+use Rattle.jc_run.specs.EndCauses.{EndCauses}
 use Rattle.jc_run.specs.Reports.{AnsweredLine, AreTold, Report}
 use Rattle.jc_run.specs.Reports.AreTold.{more as told_one, none}
 use Rattle.jc_run.specs.PrivatePlay.{AppendsPart, IsEnd, IsLineDone, IsLineEnd, IsTaken, IsUnread, Plays}
@@ -71,8 +71,8 @@ pub none_told : {T : Type 0} {tells : T → Report → T → Type 0} {before aft
 none_told {before = before} same = rw same (none before)
 
 unfoldable pub command_done : (images certificates : List ℕ → List ℕ → Type 0) (told : List Report → Type 0)
-    (c : CardState) (number : ℕ) (command : ScriptCommand) (answer : Answered) (after : CardWords) (old now : Option (List ℕ))
-    (before : List ℕ) (denial : Option Denial) (stopped : Option ShownFrame)
+    (c : CardState) (number : ℕ) (command : ScriptCommand) (answer : Answered) (after : CardWords)
+    (old now : Option (List ℕ)) (before : List ℕ) (denial : Option Denial) (stopped : Option ShownFrame)
     → told (AnsweredLine number answer denial stopped ∷ []) → Answers images certificates c command answer after
     → old ≡ Some before → Appends old now (answer_line answer)
     → IsLineDone images certificates told c number (Asks command) after before now
@@ -95,8 +95,8 @@ command_done images certificates told c number command answer after old now befo
 
 -- a skipped line
 unfoldable pub nothing_done : (images certificates : List ℕ → List ℕ → Type 0) (told : List Report → Type 0)
-    (c : CardState) (number : ℕ) (said : ScriptLine) (after : CardWords) (before : List ℕ) (now : Option (List ℕ)) → told []
-    → Skipped ≡ said → Holds after c → now ≡ Some before
+    (c : CardState) (number : ℕ) (said : ScriptLine) (after : CardWords) (before : List ℕ) (now : Option (List ℕ))
+    → told [] → Skipped ≡ said → Holds after c → now ≡ Some before
     → IsLineDone images certificates told c number said after before now
 nothing_done images certificates told c number said after before now t is holds known = record {
   reports = [];
@@ -108,11 +108,12 @@ nothing_done images certificates told c number said after before now t is holds 
   now_is = none_more known;
 }
 
-module _ (images certificates : List ℕ → List ℕ → Type 0) (failed_at : Asked → Type 0) (short : ℕ) (c : CardState)
-    (number : ℕ) (told : LineFault) where
+module _ (images certificates : List ℕ → List ℕ → Type 0) (failed_at : Asked → Type 0) (short : ℕ)
+    (unwritable : Type 0) (c : CardState) (number : ℕ) (told : LineFault) where
   pub source_end : (command : ScriptCommand) (before : List ℕ) (now : Option (List ℕ))
       → IsFailingOf failed_at command → now ≡ Some before
-      → IsLineEnd images certificates failed_at short c number told (Asks command) before now (SourceFailed number)
+      → IsLineEnd images certificates failed_at short unwritable c number told (Asks command) before now
+      (SourceFailed number)
   source_end (Load folder certificate) before now failing is =
       record { written = []; ends = source folder certificate failing; now_is = none_more is }
   source_end (Install applet instance incoming) before now failing is = elim failing [ ]
@@ -124,7 +125,7 @@ module _ (images certificates : List ℕ → List ℕ → Type 0) (failed_at : A
 
   pub memory_end : (command : ScriptCommand) (before : List ℕ) (now : Option (List ℕ)) → AsksSource command
       → short ≡ 1 → now ≡ Some before
-      → IsLineEnd images certificates failed_at short c number told (Asks command) before now NoMemory
+      → IsLineEnd images certificates failed_at short unwritable c number told (Asks command) before now NoMemory
   memory_end (Load folder certificate) before now asks one is =
       record { written = []; ends = memory folder certificate one; now_is = none_more is }
   memory_end (Install applet instance incoming) before now asks one is = elim asks [ ]
@@ -135,19 +136,19 @@ module _ (images certificates : List ℕ → List ℕ → Type 0) (failed_at : A
   memory_end (Steps steps) before now asks one is = elim asks [ ]
 
   pub command_unwritten : (command : ScriptCommand) (answer : Answered) (after : CardWords)
-      (old now : Option (List ℕ)) (before : List ℕ) → Answers images certificates c command answer after
+      (old now : Option (List ℕ)) (before : List ℕ) → unwritable → Answers images certificates c command answer after
       → old ≡ Some before → AppendsPart old now (answer_line answer)
-      → IsLineEnd images certificates failed_at short c number told (Asks command) before now NotWritten
-  command_unwritten command answer after old now before a is h =
+      → IsLineEnd images certificates failed_at short unwritable c number told (Asks command) before now NotWritten
+  command_unwritten command answer after old now before why a is h =
       let p = parted old now before _ is h in
       record {
         written = p.bytes;
-        ends = unwritten command p.bytes answer a.card a.answered p.part;
+        ends = unwritten command p.bytes answer a.card why a.answered p.part;
         now_is = p.now_is;
       }
 
   pub bad_end : (said : ScriptLine) (before : List ℕ) (now : Option (List ℕ)) → Bad ≡ said → now ≡ Some before
-      → IsLineEnd images certificates failed_at short c number told said before now (BadLine number told)
+      → IsLineEnd images certificates failed_at short unwritable c number told said before now (BadLine number told)
   bad_end said before now is known = record { written = []; ends = rw (← is) bad; now_is = none_more known }
 
 -- ---- lines
@@ -167,41 +168,41 @@ pub as_said : (number : ℕ) (line : List ℕ) → number ≤ most_lines → len
     → line_at number line ≡ said_by line
 as_said number line few short = rw (read_whole number line few short) refl
 
-module _ (images certificates : List ℕ → List ℕ → Type 0) (reads : ScriptReads) (told : List Report → Type 0)
+module _ (images certificates : List ℕ → List ℕ → Type 0) (causes : EndCauses) (told : List Report → Type 0)
     (number : ℕ) (bytes : List ℕ) (c : CardState) (before : List ℕ) (now : Option (List ℕ)) (silent : told []) where
   -- lines that end without a report
   ends_by : (written : List ℕ) (end : ScriptEnd)
-      → Plays images certificates reads number (lines_of bytes) c [] written end → now ≡ Some (before ++ written)
-      → PlaysFrom images certificates reads told number bytes c before now end
+      → Plays images certificates causes number (lines_of bytes) c [] written end → now ≡ Some (before ++ written)
+      → PlaysFrom images certificates causes told number bytes c before now end
   ends_by written end plays known =
       record { reports = []; were_told = silent; written = written; plays = plays; now_is = known }
 
   pub none_left : lines_of bytes ≡ [] → now ≡ Some before
-      → PlaysFrom images certificates reads told number bytes c before now Over
+      → PlaysFrom images certificates causes told number bytes c before now Over
   none_left empty known = ends_by [] Over (rw empty (over number c)) (none_more known)
 
   bad_first : BeginsBad number (lines_of bytes) → now ≡ Some before
-      → PlaysFrom images certificates reads told number bytes c before now (BadLine number (unread_fault number))
+      → PlaysFrom images certificates causes told number bytes c before now (BadLine number (unread_fault number))
   bad_first b known =
       ends_by [] _ (rw b.are (ended number b.first b.others c [] (BadLine number (unread_fault number))
       (rw b.unread bad))) (none_more known)
 
-  not_read : reads.unread → now ≡ Some before
-      → PlaysFrom images certificates reads told number bytes c before now NotRead
+  not_read : causes.unread → now ≡ Some before
+      → PlaysFrom images certificates causes told number bytes c before now NotRead
   not_read why known = ends_by [] NotRead (unread number (lines_of bytes) c why) (none_more known)
 
-  pub unread_plays : (end : ScriptEnd) → IsUnread reads.unread number bytes end → now ≡ Some before
-      → PlaysFrom images certificates reads told number bytes c before now end
+  pub unread_plays : (end : ScriptEnd) → IsUnread causes.unread number bytes end → now ≡ Some before
+      → PlaysFrom images certificates causes told number bytes c before now end
   unread_plays end h1 h2 = grind (arith, bad_first, not_read)
 
-  pub end_plays : (end : ScriptEnd) → IsEnd reads.unread number bytes end → now ≡ Some before
-      → PlaysFrom images certificates reads told number bytes c before now end
+  pub end_plays : (end : ScriptEnd) → IsEnd causes.unread number bytes end → now ≡ Some before
+      → PlaysFrom images certificates causes told number bytes c before now end
   end_plays end h1 h2 = grind (arith, none_left, bad_first, not_read)
 
   pub line_ends : (line : List ℕ) (left : Option (List ℕ)) (end : ScriptEnd) → IsTaken number line bytes left
-      → IsLineEnd images certificates reads.failed_at reads.short c number (fault_in dialects.Script line)
-      (said_by line) before now end
-      → PlaysFrom images certificates reads told number bytes c before now end
+      → IsLineEnd images certificates causes.failed_at causes.short causes.unwritten c number
+      (fault_in dialects.Script line) (said_by line) before now end
+      → PlaysFrom images certificates causes told number bytes c before now end
   line_ends line left end t e =
       ends_by e.written end (rw t.takes.lines (ended number line (lines_of t.rest) c e.written end
       (rw (read_whole number line t.takes.few t.takes.short) e.ends))) e.now_is

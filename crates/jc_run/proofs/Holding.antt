@@ -1,15 +1,17 @@
 -- What a session comes to is a run of the card.
-use Rattle.std.proofs.Common.{◌≡◌, ℕ, suc, List, [], ◌∷◌, ◌++◌, Option, Some, false, Result, Ok, Err, ◌↔◌, rules, arith}
+use Rattle.std.proofs.Common.{◌≡◌, ℕ, suc, List, [], ◌∷◌, ◌++◌, Option, Some, false, Result, Ok, Err, ◌↔◌, rules}
 use Rattle.std.proofs.Common.{refl, sym, ap, ◌∙◌, append_assoc}
 use Rattle.jc_api.specs.Bound.{Bound}
 use Rattle.jc_card.specs.Card.{CardState}
+use Rattle.jc_card.specs.Accesses.{IsApartCard}
+use Rattle.jc_card.specs.Load.{IsLoad}
 use Rattle.jc_card.specs.New.{new_card}
 use Rattle.jc_machine.specs.Limits.{are_limits}
 use Rattle.jc_card.specs.declared.fault.CardFault.{CardFault}
 use Rattle.jc_card.specs.declared.fault.CardFault.TheVariants as cards
 use Rattle.jc_machine.specs.declared.limits.Limits.{Limits}
 use Rattle.jc_run.proofs.Ending.{none_more}
-use Rattle.jc_run.proofs.Starting.{AreLawful, limits_fit}
+use Rattle.jc_run.proofs.Starting.{limits_fit}
 use Rattle.jc_run.specs.Answer.{Answered}
 use Rattle.jc_run.specs.End.{card_fault, end_of_fault}
 use Rattle.jc_run.specs.Play.{BadLimits, NoMemory, ScriptEnd, answer_line}
@@ -21,7 +23,9 @@ use Rattle.jc_run.specs.Reports.{Report}
 use Rattle.jc_machine.specs.Machine.{Touch}
 use Rattle.jc_run.specs.CardRun.{IsCardRun, accesses_of, contexts_of}
 use Rattle.jc_run.specs.CardRun.IsCardRun.{command, nothing}
-use Rattle.jc_run.specs.Runs.{answer_lines}
+use Rattle.jc_run.specs.EndCauses.{SessionCauses}
+use Rattle.jc_run.specs.Loading.{exactly}
+use Rattle.jc_run.specs.Runs.{IsSafeCard, answer_lines}
 use Rattle.jc_run.specs.Session.{AreAnswered, ConversesOn, FaultCount, HasHeld, IsSessionSimulated, SessionEndsWith}
 use Rattle.jc_run.specs.Session.{SessionRunsTo, session_fault}
 use Rattle.jc_run.specs.Session.AreAnswered.{answered as one_answered, bad as bad_answered, none as none_answered}
@@ -32,7 +36,7 @@ use Rattle.jc_run.specs.Session.SessionRunsTo.{held, no_card, unfit}
 use Rattle.jc_script.specs.Script.{Asks, Bad, ScriptCommand, ScriptLine, Skipped, session_line}
 
 -- lines whose answers, accesses and reports are known
-record HasAnswered (images certificates : List ℕ → List ℕ → Type 0) (unreadable : ℕ → Type 0) (number : ℕ)
+record HasAnswered (images certificates : List ℕ → List ℕ → Type 0) (causes : SessionCauses) (number : ℕ)
     (lines : List (List ℕ)) (c : CardState) (reports : List Report) (written : List ℕ) (end : ScriptEnd) : Type 0
   where
     done : List ScriptCommand
@@ -43,17 +47,17 @@ record HasAnswered (images certificates : List ℕ → List ℕ → Type 0) (unr
     touches : List Touch
     ran : List ℕ
     card : CardState
-    run : IsCardRun images certificates done c answers touches ran card
+    run : IsCardRun (exactly images certificates) done c answers touches ran card
     part : List ℕ
     written_is : written ≡ answer_lines answers ++ part
-    ends : SessionEndsWith images certificates unreadable card last left part end
+    ends : SessionEndsWith (exactly images certificates) causes card last left part end
 
-module _ (images certificates : List ℕ → List ℕ → Type 0) (unreadable : ℕ → Type 0) where
+module _ (images certificates : List ℕ → List ℕ → Type 0) (causes : SessionCauses) where
   abbrev Is : ℕ → List (List ℕ) → CardState → List Report → List ℕ → ScriptEnd → Type 0
-  Is number lines c reports written end = HasAnswered images certificates unreadable number lines c reports written end
+  Is number lines c reports written end = HasAnswered images certificates causes number lines c reports written end
 
   none_done : (number : ℕ) (lines : List (List ℕ)) (c : CardState) (part : List ℕ) (end : ScriptEnd)
-      → SessionEndsWith images certificates unreadable c number lines part end → Is number lines c [] part end
+      → SessionEndsWith (exactly images certificates) causes c number lines part end → Is number lines c [] part end
   none_done number lines c part end ends = record {
     done = [];
     answers = [];
@@ -140,24 +144,24 @@ module _ (images certificates : List ℕ → List ℕ → Type 0) (unreadable : 
       one_silent number first lines c _ more behind end d
       (bad_answered number d.last first lines d.left d.done d.answers more is d.in_order)
   one_line {number = number} {first = first} {lines = lines} {c = c} {more = more} {behind = behind} {end = end}
-      (not_loaded folder name refusal is of_load) d =
+      (not_loaded folder name why is) d =
       one_silent number first lines c _ more behind end d
-      (none_loaded number d.last first lines d.left d.done d.answers more folder name refusal is of_load d.in_order)
+      (none_loaded number d.last first lines d.left d.done d.answers more folder name why is d.in_order)
 
   held_of : {number : ℕ} {lines : List (List ℕ)} {c : CardState} {reports : List Report} {written : List ℕ}
-      {end : ScriptEnd} → Converses images certificates unreadable number lines c reports written end
+      {end : ScriptEnd} → Converses images certificates causes number lines c reports written end
       → Is number lines c reports written end
   held_of (over number c) = none_done number [] c [] _ (over_left number)
   held_of (line_held number first lines c after reports more written behind end p rest) = one_line p (held_of rest)
-  held_of (unwritten number first more c after asked written answer is answered part) =
+  held_of (unwritten number first more c after asked written answer why is answered part) =
       none_done number (first ∷ more) c written _
-      (unwritten_left number first more asked written answer after is answered part)
+      (unwritten_left number first more asked written answer after why is answered part)
   held_of (unread number more c why) = none_done number more c [] _ (unread_left number more why)
 
   pub held_on : {faults : FaultCount} {told : List Report → Type 0} {input : List ℕ} {c : CardState}
       {before : List ℕ} {now : Option (List ℕ)} {end : ScriptEnd}
-      → ConversesFrom images certificates unreadable faults told 1 input c before now end
-      → ConversesOn images certificates unreadable faults told input c before now end
+      → ConversesFrom images certificates causes faults told 1 input c before now end
+      → ConversesOn images certificates causes faults told input c before now end
   held_on p =
       let h = held_of p.converses in record {
         written = p.written;
@@ -183,18 +187,20 @@ module _ (images certificates : List ℕ → List ℕ → Type 0) (unreadable : 
 
 -- ---- a session on a new card
 
-module _ (images certificates : List ℕ → List ℕ → Type 0) (unreadable : ℕ → Type 0) (faults : FaultCount)
-    (told : List Report → Type 0) (limits : Limits) (binding : Bound) (lawful : AreLawful limits binding)
-    (input before : List ℕ) (now : Option (List ℕ)) {A : Type 0} (result : Result A CardFault)
+module _ (images certificates : List ℕ → List ℕ → Type 0) (causes : SessionCauses) (faults : FaultCount)
+    (told : List Report → Type 0) (limits : Limits) (binding : Bound)
+    (safe : IsSafeCard IsLoad IsApartCard limits binding) (input before : List ℕ) (now : Option (List ℕ))
+    {A : Type 0} (result : Result A CardFault)
     (fits : (result ≡ Err cards.BadLimits) ↔ (are_limits limits ≡ false)) where
   simulated : (written : List ℕ) (end : ScriptEnd)
-      → SessionRunsTo images certificates unreadable faults told limits binding input written end
-      → IsSessionSimulated images certificates unreadable faults told limits binding input written end
-  simulated written end runs = grind arith
+      → SessionRunsTo (exactly images certificates) causes faults told limits binding input written end
+      → IsSessionSimulated images certificates causes faults told limits binding input written end
+  simulated written end runs =
+      record { safe = record { responses = runs; card = safe }; exact = record { responses = runs } }
 
   pub made_holds : (card : A) (end : ScriptEnd) → result ≡ Ok card
-      → ConversesOn images certificates unreadable faults told input (new_card limits binding) before now end
-      → HasHeld images certificates unreadable faults told limits binding input before now end
+      → ConversesOn images certificates causes faults told input (new_card limits binding) before now end
+      → HasHeld images certificates causes faults told limits binding input before now end
   made_holds card end is p = record {
     written = p.written;
     simulated = simulated p.written end (held p.written end
@@ -203,7 +209,7 @@ module _ (images certificates : List ℕ → List ℕ → Type 0) (unreadable : 
   }
 
   pub not_made : (fault : CardFault) → result ≡ Err fault → told [] → now ≡ Some before
-      → HasHeld images certificates unreadable faults told limits binding input before now
+      → HasHeld images certificates causes faults told limits binding input before now
       (end_of_fault (card_fault fault))
   not_made cards.BadLimits is silent known =
       record { written = []; simulated = simulated [] BadLimits (unfit (fits.0 is) silent); now_is = none_more known }

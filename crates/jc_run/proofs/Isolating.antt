@@ -27,6 +27,7 @@ use Rattle.jc_run.specs.CardRun.{IsCardRun, accesses_in, accesses_of, contexts_i
 use Rattle.jc_run.specs.CardRun.IsCardRun.{command, nothing}
 use Rattle.jc_run.specs.Isolation.{AreIsolated, RunsAlike}
 use Rattle.jc_run.specs.Play.{IsAnswered, IsGiven}
+use Rattle.jc_run.specs.Loading.{exactly}
 use Rattle.jc_run.specs.Runs.{AreGuarded}
 use Rattle.jc_script.specs.Script.{Apdu, Cells, Install, Load, Objects, Reset, ScriptCommand, Steps}
 use Rattle.jc_run.proofs.BetweenCommands.{runs_idle}
@@ -46,10 +47,10 @@ pub record Laws : Type 0 where
   pub keep : KeepLaws
 
 module _ (laws : Laws) (images certificates : List ℕ → List ℕ → Type 0)
-    (guarded : AreGuarded images certificates) where
+    (guarded : AreGuarded IsApartCard (exactly images certificates)) where
   -- a command leaves a card on which the runtime's name is its own
   stays_apart : (c : CardState) (asked : ScriptCommand) (answer : Answered) (after : CardState) → IsApartCard c
-      → IsAnswered images certificates c asked answer after → IsApartCard after
+      → IsAnswered (exactly images certificates) c asked answer after → IsApartCard after
   stays_apart c asked answer after p h =
       guarded.stays (asked ∷ []) c (answer ∷ []) (accesses_of c asked ++ []) (contexts_of c asked ++ []) after p
       (command asked [] c after after answer [] [] [] h (nothing after))
@@ -61,7 +62,7 @@ module _ (laws : Laws) (images certificates : List ℕ → List ℕ → Type 0)
         (after : CardState) : Type 0 where
       heap_behind : Heap TaggedValue
       alike : AreAlike context after.heap heap_behind
-      answered : IsAnswered images certificates (with_heap c heap) asked answer (with_heap after heap_behind)
+      answered : IsAnswered (exactly images certificates) (with_heap c heap) asked answer (with_heap after heap_behind)
       touches : accesses_of c asked ≡ accesses_of (with_heap c heap) asked
       ran : contexts_of c asked ≡ contexts_of (with_heap c heap) asked
 
@@ -99,7 +100,7 @@ module _ (laws : Laws) (images certificates : List ℕ → List ℕ → Type 0)
 
       -- a command that leaves the card as it is, but for its budget
       unchanged : (asked : ScriptCommand) (answer : Answered) (after e : CardState) → after ≡ e → e.heap ≡ c.heap
-          → IsAnswered images certificates d asked answer (with_heap after heap)
+          → IsAnswered (exactly images certificates) d asked answer (with_heap after heap)
           → accesses_of c asked ≡ accesses_of d asked → contexts_of c asked ≡ contexts_of d asked
           → IsAnsweredAlike c heap asked answer after
       unchanged asked answer after e is same answered touches ran = record {
@@ -113,8 +114,8 @@ module _ (laws : Laws) (images certificates : List ℕ → List ℕ → Type 0)
       }
 
       answered_alike : (asked : ScriptCommand) (answer : Answered) (after : CardState)
-          → IsAnswered images certificates c asked answer after → stays_out context (contexts_of c asked) ≡ true
-          → IsAnsweredAlike c heap asked answer after
+          → IsAnswered (exactly images certificates) c asked answer after
+          → stays_out context (contexts_of c asked) ≡ true → IsAnsweredAlike c heap asked answer after
       answered_alike (Load folder certificate) answer after h out =
           let k = laws.load c after h.image h.bytes h.result h.load context heap alike in record {
             heap_behind = k.heap_behind;
@@ -179,10 +180,11 @@ module _ (laws : Laws) (images certificates : List ℕ → List ℕ → Type 0)
     abbrev Alike : List ScriptCommand → CardState → Heap TaggedValue → List Answered → List Touch → List ℕ → CardState
         → Type 0
     Alike commands c heap answers touches ran after =
-        RunsAlike images certificates context commands c heap answers touches ran after
+        RunsAlike (exactly images certificates) context commands c heap answers touches ran after
 
     runs_alike : {commands : List ScriptCommand} {c : CardState} {answers : List Answered} {touches : List Touch}
-        {ran : List ℕ} {after : CardState} → IsCardRun images certificates commands c answers touches ran after
+        {ran : List ℕ} {after : CardState}
+        → IsCardRun (exactly images certificates) commands c answers touches ran after
         → IsApartCard c → stays_out context ran ≡ true → (heap : Heap TaggedValue) → AreAlike context c.heap heap
         → Alike commands c heap answers touches ran after
     runs_alike (nothing c) p out heap alike =
@@ -196,17 +198,17 @@ module _ (laws : Laws) (images certificates : List ℕ → List ℕ → Type 0)
           heap_behind = r.heap_behind;
           alike = r.alike;
           run =
-              subst (λ (ts : List Touch). IsCardRun images certificates (first ∷ more) (with_heap c heap)
+              subst (λ (ts : List Touch). IsCardRun (exactly images certificates) (first ∷ more) (with_heap c heap)
               (answer ∷ answers) (ts ++ touches) (contexts_of c first ++ ran) (with_heap after r.heap_behind))
               (sym k.touches)
-              (subst (λ (ns : List ℕ). IsCardRun images certificates (first ∷ more) (with_heap c heap)
+              (subst (λ (ns : List ℕ). IsCardRun (exactly images certificates) (first ∷ more) (with_heap c heap)
               (answer ∷ answers) (accesses_of (with_heap c heap) first ++ touches) (ns ++ ran)
               (with_heap after r.heap_behind)) (sym k.ran)
               (command first more (with_heap c heap) (with_heap between k.heap_behind) (with_heap after r.heap_behind)
               answer answers touches ran k.answered r.run));
         }
 
-  pub all_isolated : AreIsolated images certificates
+  pub all_isolated : AreIsolated IsApartCard (exactly images certificates)
   all_isolated = record {
     unseen = λ context commands c answers touches ran after p run out heap alike.
         runs_alike context run p out heap alike;

@@ -11,6 +11,7 @@ use Rattle.jc_card.specs.Parts.{Left}
 use Rattle.jc_card.specs.Typed.{GivesTyped, IsTypedCard}
 use Rattle.jc_natives.specs.Kept.{are_bytes, is_aid}
 use Rattle.jc_run.specs.Answer.{Answered}
+use Rattle.jc_run.specs.Loading.{exactly}
 use Rattle.jc_run.specs.NeverStuck.{GoesOn, NeverStuck, is_of_bytes}
 use Rattle.jc_run.specs.Play.{IsAnswered, IsGiven}
 use Rattle.jc_script.specs.Script.{ScriptCommand}
@@ -44,12 +45,12 @@ module _ (laws : TypedLaws) (images certificates : List ℕ → List ℕ → Typ
   goes_on c h1 command h2 = grind (arith, gives_some, installed)
 
   stays_typed : (c : CardState) → IsTypedCard c → (command : ScriptCommand) → is_of_bytes command ≡ true
-      → (answer : Answered) (after : CardState) → IsAnswered images certificates c command answer after
+      → (answer : Answered) (after : CardState) → IsAnswered (exactly images certificates) c command answer after
       → IsTypedCard after
   stays_typed c h1 command h2 answer after h3 = grind (arith, given_typed, installed)
 
   pub never_stuck : (commands : List ScriptCommand) → list_all is_of_bytes commands ≡ true → (c : CardState)
-      → IsTypedCard c → NeverStuck images certificates commands c
+      → IsTypedCard c → NeverStuck (exactly images certificates) commands c
   never_stuck [] e c t = tt
   never_stuck (command ∷ commands) e c t =
       let parts = and_parts (is_of_bytes command) (list_all is_of_bytes commands) e in (

@@ -10,7 +10,8 @@ use Rattle.jc_run.proofs.Ending.{none_more}
 use Rattle.jc_run.specs.Answer.{Answered}
 use Rattle.jc_run.specs.End.{end_of, end_of_fault}
 use Rattle.jc_run.specs.Play.{IsAnswered, ScriptEnd}
-use Rattle.jc_run.specs.ScriptReads.{ScriptReads}
+use Rattle.jc_run.specs.EndCauses.{EndCauses}
+use Rattle.jc_run.specs.Loading.{exactly}
 use Rattle.jc_run.specs.Reports.{AreTold, Report}
 use Rattle.jc_run.specs.Reports.AreTold.{more as told_one, none}
 use Rattle.jc_run.specs.PrivatePlay.{EndsAt, HasPlayed, IsLinePlayed, IsTurn, Plays, PlaysFrom}
@@ -25,16 +26,17 @@ pub same_through : (first second third : List ℕ → List ℕ → Type 0) → H
     → HoldSame first third
 same_through first second third a b = grind arith
 
--- the reads of a script whose lines can't be read for this reason
-abbrev pub reads_for : (Asked → Type 0) → ℕ → Type 0 → ScriptReads
-reads_for failed_at short why = record { failed_at = failed_at; short = short; unread = why }
+-- the causes of a script's end, with these reasons why its lines can't be read, and why an answer can't be written
+abbrev pub causes_for : (Asked → Type 0) → ℕ → (why cut : Type 0) → EndCauses
+causes_for failed_at short why cut = record { failed_at = failed_at; short = short; unread = why; unwritten = cut }
 
 -- ---- what a source holds that holds the same
 
 module _ (images certificates older old : List ℕ → List ℕ → Type 0) (same_images : HoldSame older images)
     (same_certificates : HoldSame old certificates) where
   pub answered_as : (c : CardState) (command : ScriptCommand) (answer : Answered) (after : CardState)
-      → IsAnswered images certificates c command answer after → IsAnswered older old c command answer after
+      → IsAnswered (exactly images certificates) c command answer after
+      → IsAnswered (exactly older old) c command answer after
   answered_as c command answer after h1 = grind arith
 
   pub line_as : (c : CardState) (number : ℕ) (said : ScriptLine) (reports : List Report) (written : List ℕ)
@@ -42,32 +44,33 @@ module _ (images certificates older old : List ℕ → List ℕ → Type 0) (sam
       → IsLinePlayed older old c number said reports written after
   line_as c number said reports written after h1 = grind (arith, answered_as)
 
-  ends_as : {failed_at : Asked → Type 0} {short : ℕ} {c : CardState} {number : ℕ} {told : LineFault}
-      {said : ScriptLine} {written : List ℕ} {end : ScriptEnd}
-      → EndsAt images certificates failed_at short c number told said written end
-      → EndsAt older old failed_at short c number told said written end
-  ends_as bad = bad
-  ends_as (source folder certificate failing) = source folder certificate failing
-  ends_as (memory folder certificate short) = memory folder certificate short
-  ends_as {c = c} (unwritten command written answer after answered part) =
-      unwritten command written answer after (answered_as c command answer after answered) part
+  ends_as : {failed_at : Asked → Type 0} {short : ℕ} {why later : Type 0} {c : CardState} {number : ℕ}
+      {told : LineFault} {said : ScriptLine} {written : List ℕ} {end : ScriptEnd} → (why → later)
+      → EndsAt images certificates failed_at short why c number told said written end
+      → EndsAt older old failed_at short later c number told said written end
+  ends_as lead bad = bad
+  ends_as lead (source folder certificate failing) = source folder certificate failing
+  ends_as lead (memory folder certificate short) = memory folder certificate short
+  ends_as {c = c} lead (unwritten command written answer after why answered part) =
+      unwritten command written answer after (lead why) (answered_as c command answer after answered) part
 
-  module _ {failed_at : Asked → Type 0} {short : ℕ} {unread later : Type 0} (lead : unread → later) where
+  module _ {failed_at : Asked → Type 0} {short : ℕ} {unread unread_later cut cut_later : Type 0}
+      (lead : unread → unread_later) (lead_cut : cut → cut_later) where
     plays_as : {number : ℕ} {lines : List (List ℕ)} {c : CardState} {reports : List Report} {written : List ℕ}
         {end : ScriptEnd}
-        → Plays images certificates (reads_for failed_at short unread) number lines c reports written end
-        → Plays older old (reads_for failed_at short later) number lines c reports written end
+        → Plays images certificates (causes_for failed_at short unread cut) number lines c reports written end
+        → Plays older old (causes_for failed_at short unread_later cut_later) number lines c reports written end
     plays_as (over number c) = over number c
     plays_as (line number first lines c after reports more written behind end played rest) =
         line number first lines c after reports more written behind end
         (line_as c number _ reports written after played) (plays_as rest)
-    plays_as (ended number first lines c written end e) = ended number first lines c written end (ends_as e)
+    plays_as (ended number first lines c written end e) = ended number first lines c written end (ends_as lead_cut e)
     plays_as (not_read number lines c why) = not_read number lines c (lead why)
 
     pub plays_from_as : {told : List Report → Type 0} {number : ℕ} {bytes : List ℕ} {c : CardState}
         {before : List ℕ} {now : Option (List ℕ)} {end : ScriptEnd}
-        → PlaysFrom images certificates (reads_for failed_at short unread) told number bytes c before now end
-        → PlaysFrom older old (reads_for failed_at short later) told number bytes c before now end
+        → PlaysFrom images certificates (causes_for failed_at short unread cut) told number bytes c before now end
+        → PlaysFrom older old (causes_for failed_at short unread_later cut_later) told number bytes c before now end
     plays_from_as p = record {
       reports = p.reports;
       were_told = p.were_told;
@@ -107,10 +110,10 @@ told_more (told_one before between after report reports told rest) later =
 
 -- ---- lines that are done
 
-module _ {S U T : Type 0} (images certificates : List ℕ → List ℕ → Type 0) (reads : S → U → ScriptReads)
+module _ {S U V T : Type 0} (images certificates : List ℕ → List ℕ → Type 0) (causes : S → U → V → EndCauses)
     (tells : T → Report → T → Type 0) (opening : T) (c : CardState) (script before : List ℕ) where
   pub begun : (after : CardWords) (left now : Option (List ℕ)) → Holds after c → left ≡ Some script
-      → now ≡ Some before → HasPlayed images certificates reads tells opening c script before 1 after opening left now
+      → now ≡ Some before → HasPlayed images certificates causes tells opening c script before 1 after opening left now
   begun after left now holds is known = record {
     card = c;
     holds = holds;
@@ -120,14 +123,14 @@ module _ {S U T : Type 0} (images certificates : List ℕ → List ℕ → Type 
     were_told = none opening;
     written = [];
     now_is = none_more known;
-    leads = λ s u more behind end p. p;
+    leads = λ s u v more behind end p. p;
   }
 
   pub one_more : {number : ℕ} {card after : CardWords} {teller further : T} {left rest now later : Option (List ℕ)}
-      → (h : HasPlayed images certificates reads tells opening c script before number card teller left now)
+      → (h : HasPlayed images certificates causes tells opening c script before number card teller left now)
       → IsTurn images certificates (AreTold tells teller further) number h.rest h.card after rest
       (before ++ h.written) later
-      → HasPlayed images certificates reads tells opening c script before (number + 1) after further rest later
+      → HasPlayed images certificates causes tells opening c script before (number + 1) after further rest later
   one_more {number = number} h t = record {
     card = t.done.card;
     holds = t.done.holds;
@@ -137,24 +140,24 @@ module _ {S U T : Type 0} (images certificates : List ℕ → List ℕ → Type 
     were_told = told_more h.were_told t.done.were_told;
     written = h.written ++ t.done.written;
     now_is = t.done.now_is ∙ ap (λ (bs : List ℕ). Some bs) (append_assoc before h.written t.done.written);
-    leads = λ s u more behind end p.
+    leads = λ s u v more behind end p.
         rw (append_assoc h.written t.done.written behind, append_assoc h.reports t.done.reports more)
-        (h.leads s u (t.done.reports ++ more) (t.done.written ++ behind) end
+        (h.leads s u v (t.done.reports ++ more) (t.done.written ++ behind) end
         (rw t.lines (line number t.first (lines_of t.rest) h.card t.done.card t.done.reports more t.done.written behind
         end t.done.played (rw (add-one number) at p))));
   }
 
-  pub at_end : (s : S) (u : U) {number : ℕ} {card : CardWords} {teller last : T} {left now later : Option (List ℕ)}
-      {end : ScriptEnd}
-      → (h : HasPlayed images certificates reads tells opening c script before number card teller left now)
-      → PlaysFrom images certificates (reads s u) (AreTold tells teller last) number h.rest h.card
+  pub at_end : (s : S) (u : U) (v : V) {number : ℕ} {card : CardWords} {teller last : T}
+      {left now later : Option (List ℕ)} {end : ScriptEnd}
+      → (h : HasPlayed images certificates causes tells opening c script before number card teller left now)
+      → PlaysFrom images certificates (causes s u v) (AreTold tells teller last) number h.rest h.card
       (before ++ h.written) later end
-      → PlaysFrom images certificates (reads s u) (AreTold tells opening last) 1 script c before later end
-  at_end s u {end = end} h p = record {
+      → PlaysFrom images certificates (causes s u v) (AreTold tells opening last) 1 script c before later end
+  at_end s u v {end = end} h p = record {
     reports = h.reports ++ p.reports;
     were_told = told_more h.were_told p.were_told;
     written = h.written ++ p.written;
-    plays = h.leads s u p.reports p.written end p.plays;
+    plays = h.leads s u v p.reports p.written end p.plays;
     now_is = p.now_is ∙ ap (λ (bs : List ℕ). Some bs) (append_assoc before h.written p.written);
   }
 

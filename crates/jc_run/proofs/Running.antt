@@ -1,13 +1,14 @@
 -- What a script comes to is a run of the card.
 use Rattle.std.proofs.Common.{◌≡◌, ℕ, suc, List, [], ◌∷◌, ◌++◌, Option, Some, None, IfSome, refl, sym, ap, ◌∙◌, arith}
-use Rattle.std.proofs.Common.{append_assoc, Result}
+use Rattle.std.proofs.Common.{append_assoc, Result, Ok, Err}
 use Rattle.jc_base.specs.declared.fault.LoadFault.{LoadFault}
 use Rattle.jc_card.specs.Accesses.{ChangesBy, IsApartCard, IsGuardedCommand, KeepsApart, LeavesObjects}
+use Rattle.jc_card.specs.Accesses.{law_of_plain_objects}
 use Rattle.jc_card.specs.Card.{CardState}
 use Rattle.jc_card.specs.Commands.{apdu_command, reset_command}
 use Rattle.jc_card.specs.Install.{install_command}
 use Rattle.jc_card.specs.Load.{IsLoad}
-use Rattle.jc_card.specs.Order.{Order, Resets, apdu_order, install_order}
+use Rattle.jc_card.specs.Order.{Leads, Order, Resets, apdu_order, install_order}
 use Rattle.jc_card.specs.Parts.{Left}
 use Rattle.jc_machine.specs.Machine.{Touch}
 use Rattle.jc_store.specs.Heap.{Heap}
@@ -19,11 +20,12 @@ use Rattle.jc_run.specs.PrivatePlay.{EndsAt, IsCommandPlayed, IsLinePlayed, Play
 use Rattle.jc_run.specs.PrivatePlay.EndsAt.{bad, memory, source, unwritten}
 use Rattle.jc_run.specs.PrivatePlay.Plays.{ended, line, over, unread}
 use Rattle.jc_run.specs.CardRun.{IsCardRun, accesses_in, accesses_of, contexts_of}
-use Rattle.jc_run.specs.Runs.{AreGuarded, EndsWith, IsGuarded, IsKeptApart, answer_lines, commands_of}
+use Rattle.jc_run.specs.Loading.{AreSafeLoads, exactly}
+use Rattle.jc_run.specs.Runs.{AreGuarded, EndsWith, IsGuarded, KeepsPlainObjects, answer_lines, commands_of}
 use Rattle.jc_run.specs.Runs.EndsWith.{bad_line, memory as memory_left, over as over_left, source as source_left}
 use Rattle.jc_run.specs.Runs.EndsWith.{unread as unread_left, unwritten as unwritten_left}
 use Rattle.jc_run.specs.CardRun.IsCardRun.{command, nothing}
-use Rattle.jc_run.specs.ScriptReads.{ScriptReads}
+use Rattle.jc_run.specs.EndCauses.{EndCauses}
 use Rattle.jc_run.specs.Reports.{AreReported, Report}
 use Rattle.jc_run.specs.Reports.AreReported.{more as one_reported, none}
 use Rattle.jc_script.specs.Script.{Apdu, Asks, Bad, Cells, Install, Load, Objects, Reset, ScriptCommand, ScriptLine}
@@ -31,7 +33,7 @@ use Rattle.jc_script.specs.Script.{Skipped, Steps, line_at}
 use Rattle.jc_script.specs.Whole.{Numbered, Script, bad_fault, script_from, with_line}
 
 -- commands that are done, up to an end, and what is told of them
-record IsDone (images certificates : List ℕ → List ℕ → Type 0) (reads : ScriptReads) (script : Script) (c : CardState)
+record IsDone (images certificates : List ℕ → List ℕ → Type 0) (causes : EndCauses) (script : Script) (c : CardState)
     (reports : List Report) (written : List ℕ) (end : ScriptEnd) : Type 0 where
   done : List Numbered
   left : List Numbered
@@ -40,20 +42,20 @@ record IsDone (images certificates : List ℕ → List ℕ → Type 0) (reads : 
   touches : List Touch
   ran : List ℕ
   card : CardState
-  run : IsCardRun images certificates (commands_of done) c answers touches ran card
+  run : IsCardRun (exactly images certificates) (commands_of done) c answers touches ran card
   part : List ℕ
   lines : written ≡ answer_lines answers ++ part
   reported : AreReported done answers reports
-  ends : EndsWith images certificates reads card script.bad left part end
+  ends : EndsWith (exactly images certificates) causes card script.bad left part end
 
-module _ (images certificates : List ℕ → List ℕ → Type 0) (reads : ScriptReads) where
+module _ (images certificates : List ℕ → List ℕ → Type 0) (causes : EndCauses) where
   abbrev Is : Script → CardState → List Report → List ℕ → ScriptEnd → Type 0
-  Is script c reports written end = IsDone images certificates reads script c reports written end
+  Is script c reports written end = IsDone images certificates causes script c reports written end
 
   -- ---- no command is done
 
   none_done : (script : Script) (c : CardState) (part : List ℕ) (end : ScriptEnd)
-      → EndsWith images certificates reads c script.bad script.commands part end → Is script c [] part end
+      → EndsWith (exactly images certificates) causes c script.bad script.commands part end → Is script c [] part end
   none_done script c part end ends = record {
     done = [];
     left = script.commands;
@@ -111,8 +113,8 @@ module _ (images certificates : List ℕ → List ℕ → Type 0) (reads : Scrip
 
   line_ends : {number : ℕ} (bytes : List ℕ) (script : Script) {c : CardState} {said : ScriptLine} {written : List ℕ}
       {end : ScriptEnd}
-      → EndsAt images certificates reads.failed_at reads.short c number (bad_fault number bytes) said written end
-      → Is (with_line number bytes said script) c [] written end
+      → EndsAt images certificates causes.failed_at causes.short causes.unwritten c number (bad_fault number bytes)
+      said written end → Is (with_line number bytes said script) c [] written end
   line_ends {number = number} bytes script {c = c} bad =
       none_done _ c [] _ (bad_line (record { number = number; fault = bad_fault number bytes }) refl)
   line_ends {number = number} bytes script {c = c} (source folder certificate failing) =
@@ -121,14 +123,14 @@ module _ (images certificates : List ℕ → List ℕ → Type 0) (reads : Scrip
   line_ends {number = number} bytes script {c = c} (memory folder certificate short) =
       none_done _ c [] _ (memory_left (record { number = number; command = Load folder certificate }) script.commands
       folder certificate refl short)
-  line_ends {number = number} bytes script {c = c} (unwritten asked part answer after answered first) =
+  line_ends {number = number} bytes script {c = c} (unwritten asked part answer after why answered first) =
       none_done _ c part _ (unwritten_left (record { number = number; command = asked }) script.commands part answer
-      after answered first)
+      after why answered first)
 
   -- ---- all lines
 
   run_of : {number : ℕ} {lines : List (List ℕ)} {c : CardState} {reports : List Report} {written : List ℕ}
-      {end : ScriptEnd} → Plays images certificates reads number lines c reports written end
+      {end : ScriptEnd} → Plays images certificates causes number lines c reports written end
       → Is (script_from number lines) c reports written end
   unfolding script_from
   run_of (over number c) = none_done _ c [] _ (over_left refl)
@@ -140,8 +142,8 @@ module _ (images certificates : List ℕ → List ℕ → Type 0) (reads : Scrip
 
   pub played_on : {told : List Report → Type 0} {script : List ℕ} {c : CardState} {before : List ℕ}
       {now : Option (List ℕ)} {end : ScriptEnd}
-      → PlaysFrom images certificates reads told 1 script c before now end
-      → PlaysOn images certificates reads told script c before now end
+      → PlaysFrom images certificates causes told 1 script c before now end
+      → PlaysOn images certificates causes told script c before now end
   played_on p =
       let d = run_of p.plays in
       record {
@@ -189,7 +191,7 @@ pub record Laws : Type 0 where
 
 module _ (laws : Laws) (images certificates : List ℕ → List ℕ → Type 0) where
   guarded : (c : CardState) (command : ScriptCommand) (answer : Answered) (after : CardState)
-      → IsAnswered images certificates c command answer after → IsGuarded c command after
+      → IsAnswered (exactly images certificates) c command answer after → IsGuarded c command after
   guarded c (Load folder certificate) answer after h = laws.load c after h.image h.bytes h.result h.load
   guarded c (Install applet instance incoming) answer after h = laws.install c applet instance incoming
   guarded c (Apdu bytes) answer after h = laws.apdu c bytes
@@ -207,7 +209,8 @@ module _ (laws : Laws) (images certificates : List ℕ → List ℕ → Type 0) 
       rw (given.after_is, same) h.changes
 
   changes : (c : CardState) (command : ScriptCommand) (answer : Answered) (after : CardState)
-      → IsAnswered images certificates c command answer after → ChangesBy (accesses_of c command) c.heap after.heap
+      → IsAnswered (exactly images certificates) c command answer after
+      → ChangesBy (accesses_of c command) c.heap after.heap
   changes c (Load folder certificate) answer after h =
       laws.none c.heap after.heap (laws.load c after h.image h.bytes h.result h.load)
   changes c (Install applet instance incoming) answer after h =
@@ -222,7 +225,7 @@ module _ (laws : Laws) (images certificates : List ℕ → List ℕ → Type 0) 
   changes c (Steps steps) answer after h = rw h.1 (laws.none c.heap c.heap (λ number o e. e))
 
   run_changes : {commands : List ScriptCommand} {c : CardState} {answers : List Answered} {touches : List Touch}
-      {ran : List ℕ} {after : CardState} → IsCardRun images certificates commands c answers touches ran after
+      {ran : List ℕ} {after : CardState} → IsCardRun (exactly images certificates) commands c answers touches ran after
       → ChangesBy touches c.heap after.heap
   run_changes (nothing c) = laws.none c.heap c.heap (λ number o e. e)
   run_changes (command first more c between after answer answers touches ran answered rest) =
@@ -237,18 +240,25 @@ module _ (laws : Laws) (images certificates : List ℕ → List ℕ → Type 0) 
       → IsApartCard after
   given_apart order c done said answer after h1 h2 = grind arith
 
-  kept_apart : (c : CardState) (command : ScriptCommand) (answer : Answered) (after : CardState) → IsApartCard c
-      → IsAnswered images certificates c command answer after → IsKeptApart c command after
-  kept_apart c (Load folder certificate) answer after p h = laws.apart_load c after h.image h.bytes h.result p h.load
-  kept_apart c (Install applet instance incoming) answer after p h = laws.apart_install c p applet instance incoming
-  kept_apart c (Apdu bytes) answer after p h = laws.apart_apdu c p bytes
-  kept_apart c Reset answer after p h = laws.apart_reset c p
-  kept_apart c Cells answer after p h = h.1
-  kept_apart c Objects answer after p h = h.1
-  kept_apart c (Steps steps) answer after p h = h.1
+  plain_of : {A : Type 0} (order : Order) (c : CardState) (done : Option (Left A))
+      → IfSome done (λ l. KeepsApart order c l.touches l.card)
+      → IfSome done (λ l. Leads law_of_plain_objects order c l.touches l.card)
+  plain_of order c None h = tt
+  plain_of order c (Some l) h = h.plain
+
+  keeps_plain : (c : CardState) → IsApartCard c → (command : ScriptCommand) → KeepsPlainObjects c command
+  keeps_plain c p (Load folder certificate) = tt
+  keeps_plain c p (Install applet instance incoming) =
+      plain_of (install_order c applet) c (install_command c applet instance incoming)
+      (laws.apart_install c p applet instance incoming)
+  keeps_plain c p (Apdu bytes) = plain_of (apdu_order c bytes) c (apdu_command c bytes) (laws.apart_apdu c p bytes)
+  keeps_plain c p Reset = plain_of Resets c (reset_command c) (laws.apart_reset c p)
+  keeps_plain c p Cells = tt
+  keeps_plain c p Objects = tt
+  keeps_plain c p (Steps steps) = tt
 
   pub stays_apart : (c : CardState) (command : ScriptCommand) (answer : Answered) (after : CardState) → IsApartCard c
-      → IsAnswered images certificates c command answer after → IsApartCard after
+      → IsAnswered (exactly images certificates) c command answer after → IsApartCard after
   stays_apart c (Load folder certificate) answer after p h = laws.apart_load c after h.image h.bytes h.result p h.load
   stays_apart c (Install applet instance incoming) answer after p h = search (arith, given_apart)
   stays_apart c (Apdu bytes) answer after p h = search (arith, given_apart)
@@ -264,11 +274,36 @@ module _ (laws : Laws) (images certificates : List ℕ → List ℕ → Type 0) 
 
   run_apart : {commands : List ScriptCommand} {c : CardState} {answers : List Answered} {touches : List Touch}
       {ran : List ℕ} {after : CardState} → IsApartCard c
-      → IsCardRun images certificates commands c answers touches ran after
+      → IsCardRun (exactly images certificates) commands c answers touches ran after
       → IsApartCard after
   run_apart p (nothing c) = p
   run_apart p (command first more c between after answer answers touches ran answered rest) =
       run_apart (stays_apart c first answer between p answered) rest
 
-  pub all_guarded : AreGuarded images certificates
-  all_guarded = grind (arith, guarded, run_changes, kept_apart, run_apart)
+  pub all_guarded : AreGuarded IsApartCard (exactly images certificates)
+  all_guarded = record {
+    commands = λ c command answer after h. guarded c command answer after h;
+    runs = λ commands c answers touches ran after run. run_changes run;
+    plain = λ c p command. keeps_plain c p command;
+    stays = λ commands c answers touches ran after p run. run_apart p run;
+    known = λ c p. record { objects = p.objects; statics = p.statics; instances = p.instances };
+  }
+
+-- ---- loads
+
+-- a package is loaded as its image says, or the card stays
+pub loads_are_safe : AreSafeLoads IsLoad
+loads_are_safe c image certificate (Ok number) after h =
+    let l = h.fit.linked in record {
+      parts = l.parts;
+      cut = l.cut;
+      «package» = l.linked.«package»;
+      read = l.linked.read;
+      linked = h.linked;
+      world = l.linked.linked.world;
+      kept = l.linked.linked.kept;
+      targets = l.linked.linked.targets;
+      number_is = h.number_is;
+      after_is = h.after_is;
+    }
+loads_are_safe c image certificate (Err fault) after h = h.kept

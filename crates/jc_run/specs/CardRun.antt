@@ -8,6 +8,7 @@ use Rattle.jc_card.specs.Install.{install_command}
 use Rattle.jc_card.specs.Parts.{Left}
 use Rattle.jc_machine.specs.Machine.{Touch}
 use Rattle.jc_run.specs.Answer.{Answered}
+use Rattle.jc_run.specs.Loading.{Loading}
 use Rattle.jc_run.specs.Play.{IsAnswered}
 use Rattle.jc_script.specs.Script.{Apdu, Cells, Install, Load, Objects, Reset, ScriptCommand, Steps}
 
@@ -39,12 +40,12 @@ contexts_of c (Steps steps) = []
 
 -- commands one after the other, each on the card that the one before it left: their answers, their accesses and the
 -- contexts in which their steps run, in order, and the card after them. No call of an answered command is stuck
-pub data IsCardRun (images certificates : List ℕ → List ℕ → Type 0)
+pub data IsCardRun (loading : Loading)
     : List ScriptCommand → CardState → List Answered → List Touch → List ℕ → CardState → Type 0 where
-  nothing : (c : CardState) → IsCardRun images certificates [] c [] [] [] c
+  nothing : (c : CardState) → IsCardRun loading [] c [] [] [] c
   command : (first : ScriptCommand) (commands : List ScriptCommand) (c between after : CardState) (answer : Answered)
       (answers : List Answered) (touches : List Touch) (ran : List ℕ)
-      → IsAnswered images certificates c first answer between
-      → IsCardRun images certificates commands between answers touches ran after
-      → IsCardRun images certificates (first ∷ commands) c (answer ∷ answers) (accesses_of c first ++ touches)
+      → IsAnswered loading c first answer between
+      → IsCardRun loading commands between answers touches ran after
+      → IsCardRun loading (first ∷ commands) c (answer ∷ answers) (accesses_of c first ++ touches)
       (contexts_of c first ++ ran) after

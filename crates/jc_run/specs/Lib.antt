@@ -1,9 +1,10 @@
 pub mod Answer
+pub mod Loading
 pub mod Play
 pub mod NeverStuck
 pub mod CardRun
 pub mod Reports
-pub mod ScriptReads
+pub mod EndCauses
 pub mod Isolation
 pub mod Runs
 pub mod End

@@ -1,12 +1,13 @@
 -- No command of the defensive machine's card is stuck, in any list of commands (Java Card Virtual Machine
 -- Specification, Verification of CAP files; Java Card Runtime Environment Specification, Applet Lifetime).
-use Rattle.std.specs.Prelude.{⊤, ◌≡◌, ℕ, ◌&&◌, Bool, true, List, [], ◌∷◌, IsSome}
+use Rattle.std.specs.Prelude.{⊤, ◌≡◌, ◌&&◌, Bool, true, List, [], ◌∷◌, IsSome}
 use Rattle.std.specs.List.{list_all}
 use Rattle.jc_card.specs.Card.{CardState}
 use Rattle.jc_card.specs.Commands.{apdu_command, reset_command}
 use Rattle.jc_card.specs.Install.{install_command}
 use Rattle.jc_natives.specs.Kept.{are_bytes, is_aid}
 use Rattle.jc_run.specs.Answer.{Answered}
+use Rattle.jc_run.specs.Loading.{Loading}
 use Rattle.jc_run.specs.Play.{IsAnswered}
 use Rattle.jc_script.specs.Script.{Apdu, Cells, Install, Load, Objects, Reset, ScriptCommand, Steps}
 
@@ -31,14 +32,14 @@ GoesOn c Objects = ⊤
 GoesOn c (Steps steps) = ⊤
 
 -- commands one after the other: none is stuck, on any card that those before it may leave
-abbrev pub NeverStuck : (images certificates : List ℕ → List ℕ → Type 0) → List ScriptCommand → CardState → Type 0
-NeverStuck images certificates [] c = ⊤
-NeverStuck images certificates (command ∷ commands) c =
+abbrev pub NeverStuck : Loading → List ScriptCommand → CardState → Type 0
+NeverStuck loading [] c = ⊤
+NeverStuck loading (command ∷ commands) c =
     GoesOn c command × ((answer : Answered) (after : CardState)
-    → IsAnswered images certificates c command answer after → NeverStuck images certificates commands after)
+    → IsAnswered loading c command answer after → NeverStuck loading commands after)
 
 -- no list of commands is stuck on a card
-abbrev pub IsNeverStuck : (images certificates : List ℕ → List ℕ → Type 0) → CardState → Type 0
-IsNeverStuck images certificates c =
+abbrev pub IsNeverStuck : Loading → CardState → Type 0
+IsNeverStuck loading c =
     (commands : List ScriptCommand) → list_all is_of_bytes commands ≡ true
-    → NeverStuck images certificates commands c
+    → NeverStuck loading commands c

@@ -7,7 +7,8 @@ use Rattle.jc_machine.specs.declared.limits.Limits.{Limits}
 use Rattle.jc_source.specs.Source.{Asked, Certificate, Image}
 use Rattle.jc_run.specs.Answer.{Answered}
 use Rattle.jc_run.specs.Play.{IsAnswered, IsFailing, ScriptEnd}
-use Rattle.jc_run.specs.ScriptReads.{ScriptReads}
+use Rattle.jc_run.specs.EndCauses.{EndCauses}
+use Rattle.jc_run.specs.Loading.{exactly}
 use Rattle.jc_run.specs.Reports.{Report}
 use Rattle.jc_run.specs.Runs.{IsPlayed, IsSimulated}
 use Rattle.jc_script.specs.Script.{Apdu, Cells, Install, Load, Objects, Reset, ScriptCommand, Steps}
@@ -17,7 +18,7 @@ use Rattle.jc_script.specs.Whole.{script_commands}
 pub record Answers (images certificates : List ℕ → List ℕ → Type 0) (c : CardState) (command : ScriptCommand)
     (answer : Answered) (after : CardWords) : Type 0 where
   pub card : CardState
-  pub answered : IsAnswered images certificates c command answer card
+  pub answered : IsAnswered (exactly images certificates) c command answer card
   pub holds : Holds after card
 
 -- only a load reads the source
@@ -52,16 +53,16 @@ IsFailingOf failed_at (Steps steps) = ⊥
 
 -- what was appended to the output, what the teller got, and the end, are those of a script on a card. Of the source it
 -- is known which read failed last, and how many ran out of memory
-pub record PlaysOn (images certificates : List ℕ → List ℕ → Type 0) (reads : ScriptReads) (told : List Report → Type 0)
+pub record PlaysOn (images certificates : List ℕ → List ℕ → Type 0) (causes : EndCauses) (told : List Report → Type 0)
     (script : List ℕ) (c : CardState) (before : List ℕ) (now : Option (List ℕ)) (end : ScriptEnd) : Type 0 where
   pub written : List ℕ
-  pub played : IsPlayed images certificates reads told (script_commands script) c written end
+  pub played : IsPlayed (exactly images certificates) causes told (script_commands script) c written end
   pub now_is : now ≡ Some (before ++ written)
 
 -- they are those of a script on a new card: the simulation theorem holds for it
-pub record HasRun (images certificates : List ℕ → List ℕ → Type 0) (reads : ScriptReads) (told : List Report → Type 0)
+pub record HasRun (images certificates : List ℕ → List ℕ → Type 0) (causes : EndCauses) (told : List Report → Type 0)
     (limits : Limits) (binding : Bound) (script before : List ℕ) (now : Option (List ℕ)) (end : ScriptEnd)
     : Type 0 where
   pub written : List ℕ
-  pub simulated : IsSimulated images certificates reads told limits binding script written end
+  pub simulated : IsSimulated images certificates causes told limits binding script written end
   pub now_is : now ≡ Some (before ++ written)

@@ -1,16 +1,15 @@
--- The answers of the defensive machine's card to commands, and the ends of scripts. The contents of the source of
--- packages are two relations: the image of a package under a name, and the bytes of a certificate under a name.
+-- The answers of the defensive machine's card to commands, and the ends of scripts.
 use Rattle.std.specs.Prelude.{◌≡◌, ℕ, true, List, [], ◌∷◌, ◌++◌, length, Option, Some, Result, Ok, Err}
 use Rattle.jc_base.specs.declared.fault.LoadFault.{LoadFault}
 use Rattle.jc_card.specs.Card.{CardState, with_steps}
 use Rattle.jc_card.specs.Commands.{apdu_command, reset_command}
 use Rattle.jc_card.specs.Install.{HasNumber, Installed as Outcome, Refused, install_command}
-use Rattle.jc_card.specs.Load.{IsLoad}
 use Rattle.jc_card.specs.Parts.{Left}
 use Rattle.jc_natives.specs.Kept.{are_bytes}
 use Rattle.jc_source.specs.Source.{Asked, Certificate, Image}
 use Rattle.jc_run.specs.Answer as answers
 use Rattle.jc_run.specs.Answer.{Answered, Installed, Loaded, NotInstalled, NotLoaded, Responds, WasReset, line_of}
+use Rattle.jc_run.specs.Loading.{Loading}
 use Rattle.jc_script.specs.Script.{Apdu, Cells, Install, Load, Objects, Reset, ScriptCommand, Steps}
 use Rattle.jc_script.specs.declared.fault.LineFault.{LineFault}
 use Rattle.jc_store.specs.Heap.{cells_in}
@@ -25,16 +24,16 @@ abbrev pub install_answer : Outcome → Answered
 install_answer (HasNumber number) = Installed number
 install_answer (Refused fault) = NotInstalled fault
 
--- the image and the certificate that are held under two names are loaded; the image is bytes
-pub record IsLoadAnswered (images certificates : List ℕ → List ℕ → Type 0) (c : CardState)
+-- a load by the image and the certificate that are held under two names; the image is bytes
+pub record IsLoadAnswered (loading : Loading) (c : CardState)
     (folder certificate : List ℕ) (answer : Answered) (after : CardState) : Type 0 where
   pub image : List ℕ
-  pub image_held : images folder image
+  pub image_held : loading.images folder image
   pub image_is_bytes : are_bytes image ≡ true
   pub bytes : List ℕ
-  pub bytes_held : certificates certificate bytes
+  pub bytes_held : loading.certificates certificate bytes
   pub result : Result ℕ LoadFault
-  pub load : IsLoad c image bytes result after
+  pub load : loading.rule c image bytes result after
   pub answer_is : answer ≡ load_answer result
 
 -- a command of the machine, which isn't stuck, leaves this card, and its result is this answer
@@ -46,19 +45,18 @@ pub record IsGiven {A : Type 0} (done : Option (Left A)) (said : A → Answered)
   pub answer_is : answer ≡ said left.value
 
 -- the answer to a command, and the card after it
-abbrev pub IsAnswered : (images certificates : List ℕ → List ℕ → Type 0) → CardState → ScriptCommand → Answered
-    → CardState → Type 0
-IsAnswered images certificates c (Load folder certificate) answer after =
-    IsLoadAnswered images certificates c folder certificate answer after
-IsAnswered images certificates c (Install applet instance incoming) answer after =
+abbrev pub IsAnswered : Loading → CardState → ScriptCommand → Answered → CardState → Type 0
+IsAnswered loading c (Load folder certificate) answer after =
+    IsLoadAnswered loading c folder certificate answer after
+IsAnswered loading c (Install applet instance incoming) answer after =
     IsGiven (install_command c applet instance incoming) install_answer answer after
-IsAnswered images certificates c (Apdu bytes) answer after = IsGiven (apdu_command c bytes) Responds answer after
-IsAnswered images certificates c Reset answer after = IsGiven (reset_command c) (λ u. WasReset) answer after
-IsAnswered images certificates c Cells answer after =
+IsAnswered loading c (Apdu bytes) answer after = IsGiven (apdu_command c bytes) Responds answer after
+IsAnswered loading c Reset answer after = IsGiven (reset_command c) (λ u. WasReset) answer after
+IsAnswered loading c Cells answer after =
     (answer ≡ answers.Cells (cells_in c.heap) c.limits.cells) × (after ≡ c)
-IsAnswered images certificates c Objects answer after =
+IsAnswered loading c Objects answer after =
     (answer ≡ answers.Objects (length c.heap) c.limits.objects) × (after ≡ c)
-IsAnswered images certificates c (Steps steps) answer after =
+IsAnswered loading c (Steps steps) answer after =
     (answer ≡ answers.Steps steps) × (after ≡ with_steps c steps)
 
 -- ---- an answer

@@ -10,7 +10,8 @@ use Rattle.jc_interp.specs.declared.shown.ShownFrame.{ShownFrame}
 use Rattle.jc_run.specs.Answer.{Answered}
 use Rattle.jc_run.specs.Play.{BadLimits, BadLine, IsAnswered, IsFailing, IsPart, NoMemory, NotRead, NotWritten, Over}
 use Rattle.jc_run.specs.Play.{ScriptEnd, SourceFailed, answer_line, load_answer}
-use Rattle.jc_run.specs.ScriptReads.{ScriptReads}
+use Rattle.jc_run.specs.EndCauses.{EndCauses}
+use Rattle.jc_run.specs.Loading.{exactly}
 use Rattle.jc_run.specs.Reports.{AnsweredLine, AreTold, Report}
 use Rattle.jc_script.specs.Reading.{BeginsBad, TakesLine, most_calls}
 use Rattle.jc_script.specs.Script.{Asks, Bad, Load, ScriptCommand, ScriptLine, Skipped, line_at, lines_of}
@@ -23,7 +24,7 @@ use Rattle.jc_script.specs.declared.fault.LineFault.{LineFault}
 pub record IsCommandPlayed (images certificates : List ℕ → List ℕ → Type 0) (c : CardState) (number : ℕ)
     (command : ScriptCommand) (reports : List Report) (written : List ℕ) (after : CardState) : Type 0 where
   pub answer : Answered
-  pub answered : IsAnswered images certificates c command answer after
+  pub answered : IsAnswered (exactly images certificates) c command answer after
   pub written_is : written ≡ answer_line answer
   pub denial : Option Denial
   pub stopped : Option ShownFrame
@@ -38,44 +39,47 @@ IsLinePlayed images certificates c number (Asks command) reports written after =
     IsCommandPlayed images certificates c number command reports written after
 IsLinePlayed images certificates c number Bad reports written after = ⊥
 
--- what is written for a line that ends the script, and the end; if the line is no command it has this fault
+-- what is written for a line that ends the script, and the end; if the line is no command it has this fault, and if its
+-- answer can't be written, this is why
 pub data EndsAt (images certificates : List ℕ → List ℕ → Type 0) (failed_at : Asked → Type 0) (short : ℕ)
-    (c : CardState) (number : ℕ) (told : LineFault) : ScriptLine → List ℕ → ScriptEnd → Type 0 where
-  bad : EndsAt images certificates failed_at short c number told Bad [] (BadLine number told)
-  source : (folder certificate : List ℕ) → IsFailing failed_at folder certificate
-      → EndsAt images certificates failed_at short c number told (Asks (Load folder certificate)) []
-      (SourceFailed number)
-  memory : (folder certificate : List ℕ) → short ≡ 1
-      → EndsAt images certificates failed_at short c number told (Asks (Load folder certificate)) [] NoMemory
-  unwritten : (command : ScriptCommand) (written : List ℕ) (answer : Answered) (after : CardState)
-      → IsAnswered images certificates c command answer after → IsPart written (answer_line answer)
-      → EndsAt images certificates failed_at short c number told (Asks command) written NotWritten
+    (unwritable : Type 0) (c : CardState) (number : ℕ) (told : LineFault) : ScriptLine → List ℕ → ScriptEnd → Type 0
+  where
+    bad : EndsAt images certificates failed_at short unwritable c number told Bad [] (BadLine number told)
+    source : (folder certificate : List ℕ) → IsFailing failed_at folder certificate
+        → EndsAt images certificates failed_at short unwritable c number told (Asks (Load folder certificate)) []
+        (SourceFailed number)
+    memory : (folder certificate : List ℕ) → short ≡ 1
+        → EndsAt images certificates failed_at short unwritable c number told (Asks (Load folder certificate)) []
+        NoMemory
+    unwritten : (command : ScriptCommand) (written : List ℕ) (answer : Answered) (after : CardState) → unwritable
+        → IsAnswered (exactly images certificates) c command answer after → IsPart written (answer_line answer)
+        → EndsAt images certificates failed_at short unwritable c number told (Asks command) written NotWritten
 
 -- the result of lines, of which the first has a number: what is told, the bytes that are written, and the end. The
 -- lines are played in order, each on the card that the one before it left
-pub data Plays (images certificates : List ℕ → List ℕ → Type 0) (reads : ScriptReads)
+pub data Plays (images certificates : List ℕ → List ℕ → Type 0) (causes : EndCauses)
     : ℕ → List (List ℕ) → CardState → List Report → List ℕ → ScriptEnd → Type 0 where
-  over : (number : ℕ) (c : CardState) → Plays images certificates reads number [] c [] [] Over
+  over : (number : ℕ) (c : CardState) → Plays images certificates causes number [] c [] [] Over
   line : (number : ℕ) (first : List ℕ) (lines : List (List ℕ)) (c after : CardState) (reports more : List Report)
       (written behind : List ℕ) (end : ScriptEnd)
       → IsLinePlayed images certificates c number (line_at number first) reports written after
-      → Plays images certificates reads (suc number) lines after more behind end
-      → Plays images certificates reads number (first ∷ lines) c (reports ++ more) (written ++ behind) end
+      → Plays images certificates causes (suc number) lines after more behind end
+      → Plays images certificates causes number (first ∷ lines) c (reports ++ more) (written ++ behind) end
   ended : (number : ℕ) (first : List ℕ) (lines : List (List ℕ)) (c : CardState) (written : List ℕ) (end : ScriptEnd)
-      → EndsAt images certificates reads.failed_at reads.short c number (bad_fault number first)
+      → EndsAt images certificates causes.failed_at causes.short causes.unwritten c number (bad_fault number first)
       (line_at number first) written end
-      → Plays images certificates reads number (first ∷ lines) c [] written end
-  unread : (number : ℕ) (lines : List (List ℕ)) (c : CardState) → reads.unread
-      → Plays images certificates reads number lines c [] [] NotRead
+      → Plays images certificates causes number (first ∷ lines) c [] written end
+  unread : (number : ℕ) (lines : List (List ℕ)) (c : CardState) → causes.unread
+      → Plays images certificates causes number lines c [] [] NotRead
 
 -- what was told, what was appended to the output, and the end, are the result of these lines; the first has a number
-pub record PlaysFrom (images certificates : List ℕ → List ℕ → Type 0) (reads : ScriptReads)
+pub record PlaysFrom (images certificates : List ℕ → List ℕ → Type 0) (causes : EndCauses)
     (told : List Report → Type 0) (number : ℕ) (bytes : List ℕ) (c : CardState) (before : List ℕ)
     (now : Option (List ℕ)) (end : ScriptEnd) : Type 0 where
   pub reports : List Report
   pub were_told : told reports
   pub written : List ℕ
-  pub plays : Plays images certificates reads number (lines_of bytes) c reports written end
+  pub plays : Plays images certificates causes number (lines_of bytes) c reports written end
   pub now_is : now ≡ Some (before ++ written)
 
 -- ---- parts
@@ -112,10 +116,10 @@ pub record IsLineDone (images certificates : List ℕ → List ℕ → Type 0) (
 
 -- a line ends the script
 pub record IsLineEnd (images certificates : List ℕ → List ℕ → Type 0) (failed_at : Asked → Type 0) (short : ℕ)
-    (c : CardState) (number : ℕ) (told : LineFault) (said : ScriptLine) (before : List ℕ) (now : Option (List ℕ))
-    (end : ScriptEnd) : Type 0 where
+    (unwritable : Type 0) (c : CardState) (number : ℕ) (told : LineFault) (said : ScriptLine)
+    (before : List ℕ) (now : Option (List ℕ)) (end : ScriptEnd) : Type 0 where
   pub written : List ℕ
-  pub ends : EndsAt images certificates failed_at short c number told said written end
+  pub ends : EndsAt images certificates failed_at short unwritable c number told said written end
   pub now_is : now ≡ Some (before ++ written)
 
 -- a read: a line was taken off, or none is left
@@ -165,17 +169,18 @@ pub record IsTurn (images certificates : List ℕ → List ℕ → Type 0) (told
   pub lines : lines_of bytes ≡ first ∷ lines_of rest
   pub done : IsLineDone images certificates told c number (line_at number first) after before now
 
-abbrev pub Turns : (images certificates : List ℕ → List ℕ → Type 0) → (reads : ScriptReads)
+abbrev pub Turns : (images certificates : List ℕ → List ℕ → Type 0) → (causes : EndCauses)
     → (told : List Report → Type 0) → ℕ → List ℕ → CardState → CardWords → Option (List ℕ) → List ℕ
     → Option (List ℕ) → Bool → Type 0
-Turns images certificates reads told number bytes c after left before now true =
+Turns images certificates causes told number bytes c after left before now true =
     IsTurn images certificates told number bytes c after left before now
-Turns images certificates reads told number bytes c after left before now false =
-    PlaysFrom images certificates reads told number bytes c before now Over
+Turns images certificates causes told number bytes c after left before now false =
+    PlaysFrom images certificates causes told number bytes c before now Over
 
 -- lines are played: if the lines that are left have a result, all lines have that result after what is told and
--- written, whatever the source and the reader are at the end
-pub record HasPlayed {S U T : Type 0} (images certificates : List ℕ → List ℕ → Type 0) (reads : S → U → ScriptReads)
+-- written, whatever the source, the reader and the writer are at the end
+pub record HasPlayed {S U V T : Type 0} (images certificates : List ℕ → List ℕ → Type 0)
+    (causes : S → U → V → EndCauses)
     (tells : T → Report → T → Type 0) (first : T) (c : CardState) (script before : List ℕ) (number : ℕ)
     (after : CardWords) (teller : T) (left now : Option (List ℕ)) : Type 0 where
   pub card : CardState
@@ -186,6 +191,6 @@ pub record HasPlayed {S U T : Type 0} (images certificates : List ℕ → List �
   pub were_told : AreTold tells first teller reports
   pub written : List ℕ
   pub now_is : now ≡ Some (before ++ written)
-  pub leads : (s : S) (u : U) (more : List Report) (behind : List ℕ) (end : ScriptEnd)
-      → Plays images certificates (reads s u) number (lines_of rest) card more behind end
-      → Plays images certificates (reads s u) 1 (lines_of script) c (reports ++ more) (written ++ behind) end
+  pub leads : (s : S) (u : U) (v : V) (more : List Report) (behind : List ℕ) (end : ScriptEnd)
+      → Plays images certificates (causes s u v) number (lines_of rest) card more behind end
+      → Plays images certificates (causes s u v) 1 (lines_of script) c (reports ++ more) (written ++ behind) end

@@ -1,11 +1,12 @@
 -- Reports to a teller, besides the answers that are written.
-use Rattle.std.specs.Prelude.{⊤, ℕ, ◌+◌, List, [], ◌∷◌, Option}
+use Rattle.std.specs.Prelude.{ℕ, ◌+◌, List, [], ◌∷◌, Option}
 use Rattle.jc_firewall.specs.declared.access.Denial.{Denial}
 use Rattle.jc_interp.specs.declared.shown.ShownFrame.{ShownFrame}
 use Rattle.jc_run.specs.Answer.{Answered}
 use Rattle.jc_run.specs.declared.refusal.LineRefusal.{LineRefusal}
-use Rattle.jc_run.specs.declared.refusal.LineRefusal.TheVariants.{Bad, Memory, Source}
+use Rattle.jc_run.specs.declared.refusal.LineRefusal.TheVariants.{Bad, Unread}
 use Rattle.jc_script.specs.Whole.{Numbered}
+use Rattle.jc_source.specs.Source.{failures_of, shortages_of}
 
 -- the line with a number was answered, or refused. With an answer come the firewall's denial and the frame in which a
 -- call stopped, if the card has them
@@ -32,31 +33,16 @@ pub data AreReported : List Numbered → List Answered → List Report → Type 
 
 -- ---- refused loads
 
--- a load is refused if a file can't be read, or memory runs out for it
-abbrev pub IsOfLoad : LineRefusal → Type 0
-IsOfLoad (Bad fault) = ⊥
-IsOfLoad Source = ⊤
-IsOfLoad Memory = ⊤
-
--- how many reads of the source failed for a refusal, and for how many memory ran out
-abbrev pub failures_for : LineRefusal → ℕ
-failures_for (Bad fault) = 0
-failures_for Source = 1
-failures_for Memory = 0
-
-abbrev pub shortages_for : LineRefusal → ℕ
-shortages_for (Bad fault) = 0
-shortages_for Source = 0
-shortages_for Memory = 1
-
--- .. and for the refusals among reports
+-- how many reads of the source failed for a report, and for how many memory ran out
 abbrev pub failures_by : Report → ℕ
 failures_by (AnsweredLine number answer denial stopped) = 0
-failures_by (RefusedLine number refusal) = failures_for refusal
+failures_by (RefusedLine number (Bad fault)) = 0
+failures_by (RefusedLine number (Unread fault)) = failures_of fault
 
 abbrev pub shortages_by : Report → ℕ
 shortages_by (AnsweredLine number answer denial stopped) = 0
-shortages_by (RefusedLine number refusal) = shortages_for refusal
+shortages_by (RefusedLine number (Bad fault)) = 0
+shortages_by (RefusedLine number (Unread fault)) = shortages_of fault
 
 abbrev pub failures_told : List Report → ℕ
 failures_told [] = 0

@@ -8,11 +8,10 @@ ghost use Rattle.jc_card.specs.Accesses.{IsApartCard};
 ghost use Rattle.jc_card.specs.Card.{CardState};
 ghost use Rattle.jc_card.specs.Commands.{apdu_command, reset_command};
 ghost use Rattle.jc_card.specs.Install.{install_command};
-ghost use Rattle.jc_card.specs.New.{new_card};
+ghost use Rattle.jc_card.specs.Load.{IsLoad};
 ghost use Rattle.jc_machine.specs.declared.limits.Limits.{Limits};
-ghost use Rattle.jc_run.specs.Isolation.{AreIsolated};
-ghost use Rattle.jc_run.specs.NeverStuck.{GoesOn, IsNeverStuck};
-ghost use Rattle.jc_run.specs.Runs.{AreGuarded, anything};
+ghost use Rattle.jc_run.specs.NeverStuck.{GoesOn};
+ghost use Rattle.jc_run.specs.Runs.{IsSafeCard};
 ghost use Rattle.jc_script.specs.Script.{Apdu, Install, Reset};
 
 use jc_card::{
@@ -21,14 +20,10 @@ use jc_card::{
 };
 use jc_natives::members_keep_what_is_kept;
 
-/// Whatever is loaded, the accesses of each command on each card are guarded, contexts are isolated, and runs keep
-/// cards apart. A new card is apart, and no list of commands is stuck there. It does nothing.
+/// Each new card within limits is safe, whatever is loaded as jc_card loads it. It does nothing.
 pub(crate) fn commands_are_lawful()
-    ensures guarded { AreGuarded anything anything }
-    ensures isolated { AreIsolated anything anything }
-    ensures apart { (limits : Limits) (binding : Bound) → HasNoClash binding → IsApartCard (new_card limits binding) }
-    ensures never_stuck { (limits : Limits) (binding : Bound) → limits.cells < 65536 → HasNoClash binding
-        → IsNeverStuck anything anything (new_card limits binding) }
+    ensures { (limits : Limits) (binding : Bound) → limits.cells < 65536 → HasNoClash binding
+        → IsSafeCard IsLoad IsApartCard limits binding }
 {
     commands_are_guarded();
     commands_stay_apart();

@@ -3,6 +3,7 @@
 ghost use Rattle.std.specs.Prelude.{◌≡◌};
 
 use jc_script::LineFault;
+use jc_source::SourceFault;
 
 /// Why a line of a session isn't answered.
 #[derive(Clone, Copy, Debug, PartialEq, Eq)]
@@ -10,7 +11,5 @@ pub enum LineRefusal {
     /// It is no command.
     Bad(LineFault),
     /// The package or the certificate that it names can't be read, as the source reports.
-    Source,
-    /// Memory ran out for what it names.
-    Memory,
+    Unread(SourceFault),
 }

@@ -11,7 +11,7 @@ ghost use Rattle.jc_run.specs.Performs.{HasRun, PlaysOn};
 ghost use Rattle.jc_run.specs.Play.{BadLimits, failures_at};
 ghost use Rattle.jc_run.specs.PrivatePlay.{IsLineDone, IsEnd, IsLineEnd, IsRead, IsUnread, IsUnreadSoFar, PlaysFrom};
 ghost use Rattle.jc_run.specs.PrivatePlay.{Turns};
-ghost use Rattle.jc_run.specs.ScriptReads.{IsUnreadable, script_reads};
+ghost use Rattle.jc_run.specs.EndCauses.{IsUnreadable, IsUnwritable, end_causes};
 ghost use Rattle.jc_run.specs.Reports.{AreTold};
 ghost use Rattle.jc_script.specs.Faults.{fault_in};
 ghost use Rattle.jc_script.specs.Reading.{pending};
@@ -33,12 +33,11 @@ use jc_script::{
     ScriptLine, ScriptReader, fault_in, said_by,
 };
 use jc_source::{PackageSource, SourceFault};
-use jc_streams::Input;
+use jc_streams::{Input, Output};
 use std::alloc::Global;
-use std::io::Write;
 
 /// Performs the command of the line with a number, and writes its answer.
-fn play_command<W: Write, S: PackageSource, T: Teller<S>>(
+fn play_command<W: Output, S: PackageSource, T: Teller<S>>(
     alloc: Global,
     writer: &mut W,
     source: &mut S,
@@ -56,10 +55,14 @@ fn play_command<W: Write, S: PackageSource, T: Teller<S>>(
         (W.contents writer.new)) }
     ensures none_told { IsErr result → teller.new ≡ teller.old }
     ensures none_short { OnOk result (S.short source.new ≡ S.short source.old) }
+    ensures writes { W.calls writer.old ≤ W.calls writer.new }
+    ensures written { OnOk result (W.faults writer.new ≡ W.faults writer.old) }
     ensures ended { IfErr result (λ fault. (c : CardState) (before : List ℕ) (told : LineFault) → Holds card.old c
         → W.contents writer.old ≡ Some before
         → IsLineEnd (S.holds_image source.old) (S.holds_certificate source.old)
-        (S.failed_at source.new) (S.short source.new - S.short source.old) c number told
+        (S.failed_at source.new) (S.short source.new - S.short source.old)
+        (IsUnwritable (W.calls writer.old) (W.calls writer.new) (W.faults writer.old) (W.faults writer.new)) c number
+        told
         (script.Asks (shown_command command.now)) before (W.contents writer.new) (end_of_fault fault)) }
     ensures counted { S.failed source.new ≡ S.failed source.old + failures_at (end_of result) }
     ensures same_images { HoldSame (S.holds_image source.old) (S.holds_image source.new) }
@@ -80,7 +83,7 @@ fn play_command<W: Write, S: PackageSource, T: Teller<S>>(
 }
 
 /// Plays the line with a number.
-fn play_line<W: Write, S: PackageSource, T: Teller<S>>(
+fn play_line<W: Output, S: PackageSource, T: Teller<S>>(
     alloc: Global,
     writer: &mut W,
     source: &mut S,
@@ -99,10 +102,13 @@ fn play_line<W: Write, S: PackageSource, T: Teller<S>>(
         (W.contents writer.new)) }
     ensures none_told { IsErr result → teller.new ≡ teller.old }
     ensures none_short { OnOk result (S.short source.new ≡ S.short source.old) }
+    ensures writes { W.calls writer.old ≤ W.calls writer.new }
+    ensures written { OnOk result (W.faults writer.new ≡ W.faults writer.old) }
     ensures ended { IfErr result (λ fault. (c : CardState) (before : List ℕ) → Holds card.old c
         → W.contents writer.old ≡ Some before
         → IsLineEnd (S.holds_image source.old) (S.holds_certificate source.old)
-        (S.failed_at source.new) (S.short source.new - S.short source.old) c number
+        (S.failed_at source.new) (S.short source.new - S.short source.old)
+        (IsUnwritable (W.calls writer.old) (W.calls writer.new) (W.faults writer.old) (W.faults writer.new)) c number
         (fault_in dialects.Script line.now) (script.said_by line.now) before (W.contents writer.new)
         (end_of_fault fault)) }
     ensures counted { S.failed source.new ≡ S.failed source.old + failures_at (end_of result) }
@@ -167,7 +173,7 @@ fn read_line<R: Input>(
 }
 
 /// Reads and plays the line with a number, and returns whether there is one.
-fn play_next<R: Input, W: Write, S: PackageSource, T: Teller<S>>(
+fn play_next<R: Input, W: Output, S: PackageSource, T: Teller<S>>(
     alloc: Global,
     reader: &mut R,
     writer: &mut W,
@@ -182,19 +188,23 @@ fn play_next<R: Input, W: Write, S: PackageSource, T: Teller<S>>(
     ensures done { IfOk result (λ is_line. (c : CardState) (bytes before : List ℕ) → Holds card.old c
         → pending lines.old.unread (R.remaining reader.old) ≡ Some bytes → W.contents writer.old ≡ Some before
         → Turns (S.holds_image source.old) (S.holds_certificate source.old)
-        (script_reads (S.failed_at source.new) (S.short source.old) (S.short source.new)
-        (IsUnreadSoFar (R.faults reader.old) (R.faults reader.new) lines.new.calls))
+        (end_causes (S.failed_at source.new) (S.short source.old) (S.short source.new)
+        (IsUnreadSoFar (R.faults reader.old) (R.faults reader.new) lines.new.calls)
+        (IsUnwritable (W.calls writer.old) (W.calls writer.new) (W.faults writer.old) (W.faults writer.new)))
         (AreTold T.tells teller.old teller.new) number bytes c card.new
         (pending lines.new.unread (R.remaining reader.new)) before (W.contents writer.new) is_line) }
     ensures ended { IfErr result (λ fault. (c : CardState) (bytes before : List ℕ) → Holds card.old c
         → pending lines.old.unread (R.remaining reader.old) ≡ Some bytes → W.contents writer.old ≡ Some before
         → PlaysFrom (S.holds_image source.old) (S.holds_certificate source.old)
-        (script_reads (S.failed_at source.new) (S.short source.old) (S.short source.new)
-        (IsUnreadSoFar (R.faults reader.old) (R.faults reader.new) lines.new.calls))
+        (end_causes (S.failed_at source.new) (S.short source.old) (S.short source.new)
+        (IsUnreadSoFar (R.faults reader.old) (R.faults reader.new) lines.new.calls)
+        (IsUnwritable (W.calls writer.old) (W.calls writer.new) (W.faults writer.old) (W.faults writer.new)))
         (AreTold T.tells teller.old teller.new) number bytes c before (W.contents writer.new)
         (end_of_fault fault)) }
     ensures called { R.calls reader.new + lines.old.calls ≡ R.calls reader.old + lines.new.calls }
     ensures working { OnOk result (R.faults reader.new ≡ R.faults reader.old) }
+    ensures writes { W.calls writer.old ≤ W.calls writer.new }
+    ensures written { OnOk result (W.faults writer.new ≡ W.faults writer.old) }
     ensures none_failed { IfOk result (λ is_line. S.failed source.new ≡ S.failed source.old) }
     ensures none_short { IfOk result (λ is_line. S.short source.new ≡ S.short source.old) }
     ensures counted { IfErr result (λ fault.
@@ -235,7 +245,7 @@ fn play_end<R: Input>(
 /// Plays a script on a card. It reads a line after the answer to the one before it is written and flushed. Each answer
 /// has a line of its own. If it fails, the lines before are written, and if the writer fails, a part of the line that
 /// couldn't be written. After each answer it informs the teller.
-pub fn play<R: Input, W: Write, S: PackageSource, T: Teller<S>>(
+pub fn play<R: Input, W: Output, S: PackageSource, T: Teller<S>>(
     alloc: Global,
     reader: &mut R,
     writer: &mut W,
@@ -248,8 +258,9 @@ pub fn play<R: Input, W: Write, S: PackageSource, T: Teller<S>>(
     ensures played { (c : CardState) (bytes before : List ℕ) → Holds card.old c
         → R.remaining reader.old ≡ Some bytes → W.contents writer.old ≡ Some before
         → PlaysOn (S.holds_image source.old) (S.holds_certificate source.old)
-        (script_reads (S.failed_at source.new) (S.short source.old) (S.short source.new)
-        (IsUnreadable (R.calls reader.old) (R.calls reader.new) (R.faults reader.old) (R.faults reader.new)))
+        (end_causes (S.failed_at source.new) (S.short source.old) (S.short source.new)
+        (IsUnreadable (R.calls reader.old) (R.calls reader.new) (R.faults reader.old) (R.faults reader.new))
+        (IsUnwritable (W.calls writer.old) (W.calls writer.new) (W.faults writer.old) (W.faults writer.new)))
         (AreTold T.tells teller.old teller.new) bytes c before (W.contents writer.new) (end_of result) }
     ensures counted { S.failed source.new ≡ S.failed source.old + failures_at (end_of result) }
     ensures same_images { HoldSame (S.holds_image source.old) (S.holds_image source.new) }
@@ -270,7 +281,7 @@ pub fn play<R: Input, W: Write, S: PackageSource, T: Teller<S>>(
 
 /// Plays a script on a new card with only the API's packages, with the AIDs and tokens of a binding, and within limits.
 /// It reads nothing if the limits are too small or too large.
-pub fn run_script<R: Input, W: Write, S: PackageSource, T: Teller<S>>(
+pub fn run_script<R: Input, W: Output, S: PackageSource, T: Teller<S>>(
     alloc: Global,
     reader: &mut R,
     writer: &mut W,
@@ -283,8 +294,9 @@ pub fn run_script<R: Input, W: Write, S: PackageSource, T: Teller<S>>(
     requires few_short { S.short source.old < 2 ^ 31 }
     ensures run { (bytes before : List ℕ) → R.remaining reader.old ≡ Some bytes → W.contents writer.old ≡ Some before
         → HasRun (S.holds_image source.old) (S.holds_certificate source.old)
-        (script_reads (S.failed_at source.new) (S.short source.old) (S.short source.new)
-        (IsUnreadable (R.calls reader.old) (R.calls reader.new) (R.faults reader.old) (R.faults reader.new)))
+        (end_causes (S.failed_at source.new) (S.short source.old) (S.short source.new)
+        (IsUnreadable (R.calls reader.old) (R.calls reader.new) (R.faults reader.old) (R.faults reader.new))
+        (IsUnwritable (W.calls writer.old) (W.calls writer.new) (W.faults writer.old) (W.faults writer.new)))
         (AreTold T.tells teller.old teller.new) limits binding.now bytes before (W.contents writer.new)
         (end_of result) }
     ensures limits { are_limits limits ≡ false → (end_of result ≡ BadLimits)

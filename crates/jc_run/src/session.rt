@@ -5,13 +5,13 @@ ghost use Rattle.std.specs.Prelude.{length};
 ghost use Rattle.jc_machine.specs.Limits.{are_limits};
 ghost use Rattle.jc_card.specs.Card.{CardState};
 ghost use Rattle.jc_card.specs.Reads.{Holds};
-ghost use Rattle.jc_source.specs.Source.{HoldSame, failures_of, shortages_of};
+ghost use Rattle.jc_source.specs.Source.{HoldSame};
 ghost use Rattle.jc_run.specs.End.{end_of, end_of_fault};
 ghost use Rattle.jc_run.specs.Play.{BadLimits};
 ghost use Rattle.jc_run.specs.PrivatePlay.{IsUnreadSoFar};
 ghost use Rattle.jc_run.specs.PrivateSession.{ConversesFrom, EndsLine, IsLineHeld, SessionTurns};
-ghost use Rattle.jc_run.specs.ScriptReads.{IsUnreadAt, IsUnreadable};
-ghost use Rattle.jc_run.specs.Reports.{AreTold, IsOfLoad, failures_for, shortages_for};
+ghost use Rattle.jc_run.specs.EndCauses.{IsUnreadAt, IsUnreadable, IsUnwritable, session_causes};
+ghost use Rattle.jc_run.specs.Reports.{AreTold};
 ghost use Rattle.jc_run.specs.Session.{ConversesOn, HasHeld, fault_count};
 ghost use Rattle.jc_script.specs.Faults.{fault_in};
 ghost use Rattle.jc_script.specs.Reading.{pending};
@@ -32,10 +32,9 @@ use jc_script::{
     Dialect, LineCause, LineFault, MOST_BYTES, MOST_IN_LINE, NextLine, ReadFault, ScriptCommand,
     ScriptLine, ScriptReader, fault_in, said_in_session,
 };
-use jc_source::{PackageSource, SourceFault};
-use jc_streams::Input;
+use jc_source::PackageSource;
+use jc_streams::{Input, Output};
 use std::alloc::Global;
-use std::io::Write;
 
 /// The most reads of a source that may fail, or run out of memory.
 const MOST_FAULTS: u32 = 2_147_483_647;
@@ -55,20 +54,8 @@ fn has_most_faults<S: PackageSource>(source: &S) -> bool
     source.failures() > MOST_FAULTS || source.shortages() > MOST_FAULTS
 }
 
-/// The refusal of a load for a fault of the source.
-fn refusal_of(fault: SourceFault) -> LineRefusal
-    ensures of_load { IsOfLoad result }
-    ensures failures { failures_for result ≡ failures_of fault }
-    ensures shortages { shortages_for result ≡ shortages_of fault }
-{
-    match fault {
-        SourceFault::Failed => LineRefusal::Source,
-        SourceFault::Memory => LineRefusal::Memory,
-    }
-}
-
 /// Performs a command and writes its answer, or reports that its files can't be read.
-fn converse_command<W: Write, S: PackageSource, T: Teller<S>>(
+fn converse_command<W: Output, S: PackageSource, T: Teller<S>>(
     alloc: Global,
     writer: &mut W,
     source: &mut S,
@@ -87,18 +74,21 @@ fn converse_command<W: Write, S: PackageSource, T: Teller<S>>(
         (W.contents writer.new)) }
     ensures ended { IfErr result (λ fault. (c : CardState) (before : List ℕ) → Holds card.old c
         → W.contents writer.old ≡ Some before
-        → EndsLine (S.holds_image source.old) (S.holds_certificate source.old) c
+        → EndsLine (S.holds_image source.old) (S.holds_certificate source.old)
+        (IsUnwritable (W.calls writer.old) (W.calls writer.new) (W.faults writer.old) (W.faults writer.new)) c
         (script.Asks (shown_command command.now)) before (W.contents writer.new) (end_of_fault fault)) }
     ensures none_told { IsErr result → teller.new ≡ teller.old }
     ensures none_counted { IfErr result (λ fault. S.failed source.new ≡ S.failed source.old) }
     ensures none_short { IfErr result (λ fault. S.short source.new ≡ S.short source.old) }
+    ensures writes { W.calls writer.old ≤ W.calls writer.new }
+    ensures written { OnOk result (W.faults writer.new ≡ W.faults writer.old) }
     ensures same_images { HoldSame (S.holds_image source.old) (S.holds_image source.new) }
     ensures same_certificates { HoldSame (S.holds_certificate source.old) (S.holds_certificate source.new) }
 {
     let answer = match perform(card, alloc, source, command) {
         Ok(answer) => answer,
         Err(fault) => {
-            teller.refused(number, &refusal_of(fault), source);
+            teller.refused(number, &LineRefusal::Unread(fault), source);
             return Ok(());
         }
     };
@@ -112,7 +102,7 @@ fn converse_command<W: Write, S: PackageSource, T: Teller<S>>(
 }
 
 /// Plays a line, or reports its fault.
-fn converse_line<W: Write, S: PackageSource, T: Teller<S>>(
+fn converse_line<W: Output, S: PackageSource, T: Teller<S>>(
     alloc: Global,
     writer: &mut W,
     source: &mut S,
@@ -132,11 +122,14 @@ fn converse_line<W: Write, S: PackageSource, T: Teller<S>>(
         (script.said_in_session line.now) card.new before (W.contents writer.new)) }
     ensures ended { IfErr result (λ fault. (c : CardState) (before : List ℕ) → Holds card.old c
         → W.contents writer.old ≡ Some before
-        → EndsLine (S.holds_image source.old) (S.holds_certificate source.old) c
+        → EndsLine (S.holds_image source.old) (S.holds_certificate source.old)
+        (IsUnwritable (W.calls writer.old) (W.calls writer.new) (W.faults writer.old) (W.faults writer.new)) c
         (script.said_in_session line.now) before (W.contents writer.new) (end_of_fault fault)) }
     ensures none_told { IsErr result → teller.new ≡ teller.old }
     ensures none_counted { IfErr result (λ fault. S.failed source.new ≡ S.failed source.old) }
     ensures none_short { IfErr result (λ fault. S.short source.new ≡ S.short source.old) }
+    ensures writes { W.calls writer.old ≤ W.calls writer.new }
+    ensures written { OnOk result (W.faults writer.new ≡ W.faults writer.old) }
     ensures same_images { HoldSame (S.holds_image source.old) (S.holds_image source.new) }
     ensures same_certificates { HoldSame (S.holds_certificate source.old) (S.holds_certificate source.new) }
 {
@@ -155,7 +148,7 @@ fn converse_line<W: Write, S: PackageSource, T: Teller<S>>(
 }
 
 /// Reads and plays a line, and returns whether there is one.
-fn converse_next<R: Input, W: Write, S: PackageSource, T: Teller<S>>(
+fn converse_next<R: Input, W: Output, S: PackageSource, T: Teller<S>>(
     alloc: Global,
     reader: &mut R,
     writer: &mut W,
@@ -170,19 +163,23 @@ fn converse_next<R: Input, W: Write, S: PackageSource, T: Teller<S>>(
     ensures done { IfOk result (λ is_line. (c : CardState) (bytes before : List ℕ) → Holds card.old c
         → pending lines.old.unread (R.remaining reader.old) ≡ Some bytes → W.contents writer.old ≡ Some before
         → SessionTurns (S.holds_image source.old) (S.holds_certificate source.old)
-        (λ number. IsUnreadSoFar (R.faults reader.old) (R.faults reader.new) lines.new.calls)
+        (session_causes (λ number. IsUnreadSoFar (R.faults reader.old) (R.faults reader.new) lines.new.calls)
+        (IsUnwritable (W.calls writer.old) (W.calls writer.new) (W.faults writer.old) (W.faults writer.new)))
         (fault_count (S.failed source.old) (S.short source.old) (S.failed source.new) (S.short source.new))
         (AreTold T.tells teller.old teller.new) number bytes c card.new
         (pending lines.new.unread (R.remaining reader.new)) before (W.contents writer.new) is_line) }
     ensures ended { IfErr result (λ fault. (c : CardState) (bytes before : List ℕ) → Holds card.old c
         → pending lines.old.unread (R.remaining reader.old) ≡ Some bytes → W.contents writer.old ≡ Some before
         → ConversesFrom (S.holds_image source.old) (S.holds_certificate source.old)
-        (λ number. IsUnreadSoFar (R.faults reader.old) (R.faults reader.new) lines.new.calls)
+        (session_causes (λ number. IsUnreadSoFar (R.faults reader.old) (R.faults reader.new) lines.new.calls)
+        (IsUnwritable (W.calls writer.old) (W.calls writer.new) (W.faults writer.old) (W.faults writer.new)))
         (fault_count (S.failed source.old) (S.short source.old) (S.failed source.new) (S.short source.new))
         (AreTold T.tells teller.old teller.new) number bytes c before (W.contents writer.new)
         (end_of_fault fault)) }
     ensures called { R.calls reader.new + lines.old.calls ≡ R.calls reader.old + lines.new.calls }
     ensures working { OnOk result (R.faults reader.new ≡ R.faults reader.old) }
+    ensures writes { W.calls writer.old ≤ W.calls writer.new }
+    ensures written { OnOk result (W.faults writer.new ≡ W.faults writer.old) }
     ensures same_images { HoldSame (S.holds_image source.old) (S.holds_image source.new) }
     ensures same_certificates { HoldSame (S.holds_certificate source.old) (S.holds_certificate source.new) }
 {
@@ -202,7 +199,7 @@ fn converse_next<R: Input, W: Write, S: PackageSource, T: Teller<S>>(
 /// Answers lines on a card, one by one, to their end. It reads a line after the answer to the one before it is written
 /// and flushed. It reports a line that is no command, or whose files can't be read, to the teller, and then reads the
 /// next line.
-pub fn converse<R: Input, W: Write, S: PackageSource, T: Teller<S>>(
+pub fn converse<R: Input, W: Output, S: PackageSource, T: Teller<S>>(
     alloc: Global,
     reader: &mut R,
     writer: &mut W,
@@ -213,8 +210,9 @@ pub fn converse<R: Input, W: Write, S: PackageSource, T: Teller<S>>(
     ensures held { (c : CardState) (bytes before : List ℕ) → Holds card.old c
         → R.remaining reader.old ≡ Some bytes → W.contents writer.old ≡ Some before
         → ConversesOn (S.holds_image source.old) (S.holds_certificate source.old)
-        (IsUnreadAt (IsUnreadable (R.calls reader.old) (R.calls reader.new) (R.faults reader.old)
+        (session_causes (IsUnreadAt (IsUnreadable (R.calls reader.old) (R.calls reader.new) (R.faults reader.old)
         (R.faults reader.new)) (S.failed source.new) (S.short source.new))
+        (IsUnwritable (W.calls writer.old) (W.calls writer.new) (W.faults writer.old) (W.faults writer.new)))
         (fault_count (S.failed source.old) (S.short source.old) (S.failed source.new) (S.short source.new))
         (AreTold T.tells teller.old teller.new) bytes c before (W.contents writer.new) (end_of result) }
     ensures same_images { HoldSame (S.holds_image source.old) (S.holds_image source.new) }
@@ -238,7 +236,7 @@ pub fn converse<R: Input, W: Write, S: PackageSource, T: Teller<S>>(
 
 /// Answers lines on a new card with only the API's packages, with the AIDs and tokens of a binding, and within limits.
 /// It reads nothing if the limits are too small or too large.
-pub fn run_session<R: Input, W: Write, S: PackageSource, T: Teller<S>>(
+pub fn run_session<R: Input, W: Output, S: PackageSource, T: Teller<S>>(
     alloc: Global,
     reader: &mut R,
     writer: &mut W,
@@ -250,8 +248,9 @@ pub fn run_session<R: Input, W: Write, S: PackageSource, T: Teller<S>>(
     ensures held { (bytes before : List ℕ) → R.remaining reader.old ≡ Some bytes
         → W.contents writer.old ≡ Some before
         → HasHeld (S.holds_image source.old) (S.holds_certificate source.old)
-        (IsUnreadAt (IsUnreadable (R.calls reader.old) (R.calls reader.new) (R.faults reader.old)
+        (session_causes (IsUnreadAt (IsUnreadable (R.calls reader.old) (R.calls reader.new) (R.faults reader.old)
         (R.faults reader.new)) (S.failed source.new) (S.short source.new))
+        (IsUnwritable (W.calls writer.old) (W.calls writer.new) (W.faults writer.old) (W.faults writer.new)))
         (fault_count (S.failed source.old) (S.short source.old) (S.failed source.new) (S.short source.new))
         (AreTold T.tells teller.old teller.new) limits binding.now bytes before (W.contents writer.new)
         (end_of result) }

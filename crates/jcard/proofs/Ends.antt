@@ -1,5 +1,6 @@
 -- How a script ended, by what is told in place of what its source knows.
 use Rattle.std.proofs.Common.{◌≡◌, ℕ, List, Option, refl}
+use Rattle.std.specs.Prelude.{⊤}
 use Rattle.jc_api.specs.Bound.{Bound}
 use Rattle.jc_machine.specs.declared.limits.Limits.{Limits}
 use Rattle.jc_source.specs.Source.{Asked}
@@ -9,7 +10,7 @@ use Rattle.jc_run.specs.Play.{BadLimits, BadLine, NoMemory, NotRead, NotWritten,
 use Rattle.jc_run.specs.Reports.{Report}
 use Rattle.jc_host.specs.FileSource.{IsFaultOf, IsSourceFault, IsToldOfSome}
 use Rattle.jc_host.specs.Files.{Entry}
-use Rattle.jcard.specs.Play.{IsTold, told_reads}
+use Rattle.jcard.specs.Play.{IsTold, told_causes}
 use Rattle.jcard.specs.PrivatePlay.{IsToldAt}
 use Rattle.jcard.specs.declared.play.PlayFault.{PlayFault}
 use Rattle.jcard.specs.declared.play.PlayFault.TheVariants.{File, Load, Memory, Script as OfScript}
@@ -27,17 +28,38 @@ told_failing BadLimits failed_at told_at told number is asked h = absurd cc
 
 -- what is known of the source at the end is told
 pub run_as : (images certificates : List ℕ → List ℕ → Type 0) (failed_at told_at : Asked → Type 0)
-    {short : ℕ} {unread : Type 0} {told : List Report → Type 0} {limits : Limits} {binding : Bound}
-    {script before : List ℕ} {now : Option (List ℕ)} {end : ScriptEnd} → IsToldAt end failed_at told_at
-    → HasRun images certificates (record { failed_at = failed_at; short = short; unread = unread }) told limits binding
+    {short : ℕ} {unread unread_later unwritten : Type 0} {told : List Report → Type 0} {limits : Limits}
+    {binding : Bound} {script before : List ℕ} {now : Option (List ℕ)} {end : ScriptEnd}
+    → IsToldAt end failed_at told_at → (unread → unread_later)
+    → HasRun images certificates
+    (record { failed_at = failed_at; short = short; unread = unread; unwritten = unwritten }) told limits binding
     script before now end
-    → HasRun images certificates (told_reads told_at) told limits binding script before now end
-run_as images certificates failed_at told_at {short = short} {unread = unread} {told = told} {end = end} known r =
-    run_known images certificates (record { failed_at = failed_at; short = short; unread = unread })
-    (told_reads told_at) told told (record {
+    → HasRun images certificates (told_causes told_at unread_later unwritten) told limits binding script before now end
+run_as images certificates failed_at told_at {short = short} {unread = unread} {unread_later = unread_later}
+    {unwritten = unwritten} {told = told} {end = end} known lead r =
+    run_known images certificates
+    (record { failed_at = failed_at; short = short; unread = unread; unwritten = unwritten })
+    (told_causes told_at unread_later unwritten) told told (record {
       failing = told_failing end failed_at told_at known;
       short = λ one. refl;
+      unread = lead;
+      unwritten = λ why. why;
+      telling = λ reports t. t;
+    }) r
+
+-- less is known of a reader that isn't there any more
+pub runs_unread : (images certificates : List ℕ → List ℕ → Type 0) (failed_at : Asked → Type 0)
+    {unread unwritten : Type 0} {told : List Report → Type 0} {limits : Limits} {binding : Bound}
+    {script before : List ℕ} {now : Option (List ℕ)} {end : ScriptEnd}
+    → HasRun images certificates (told_causes failed_at unread unwritten) told limits binding script before now end
+    → HasRun images certificates (told_causes failed_at ⊤ unwritten) told limits binding script before now end
+runs_unread images certificates failed_at {unread = unread} {unwritten = unwritten} {told = told} r =
+    run_known images certificates (told_causes failed_at unread unwritten) (told_causes failed_at ⊤ unwritten) told
+    told (record {
+      failing = λ number is asked h. h;
+      short = λ one. refl;
       unread = λ why. tt;
+      unwritten = λ why. why;
       telling = λ reports t. t;
     }) r
 

@@ -22,31 +22,35 @@ none_asked has before h = subst has (sym (append-nil before)) h
 
 -- the binding of a script isn't read
 pub run_unbound : {W : Type 0} (holds : List ℕ → Entry → Type 0) (tells : List ℕ → Opening → Type 0)
-    (has : List (List ℕ) → Type 0) (told_lines : List Report → Type 0) (contents : W → Option (List ℕ)) (old : W)
-    (job : RunJob) (fault : ReadFault) → told_lines [] → OfFile (IsBindingFault holds job.card.binding) fault
-    → ComesOfRun holds tells (AreAsked has has) told_lines contents old old job (Err (told_of fault))
-run_unbound holds tells has told_lines contents old job (File f) silent told =
+    (has : List (List ℕ) → Type 0) (told_lines : List Report → Type 0) (contents : W → Option (List ℕ))
+    (unwritable : Type 0) (old : W) (job : RunJob) (fault : ReadFault)
+    → told_lines [] → OfFile (IsBindingFault holds job.card.binding) fault
+    → ComesOfRun holds tells (AreAsked has has) told_lines contents unwritable old old job (Err (told_of fault))
+run_unbound holds tells has told_lines contents unwritable old job (File f) silent told =
     unbound f told (none_asked has) silent refl
-run_unbound holds tells has told_lines contents old job Memory silent told =
+run_unbound holds tells has told_lines contents unwritable old job Memory silent told =
     memory (inl (none_asked has)) silent refl
 
 -- a script isn't opened
 pub run_unopened : {W : Type 0} (holds : List ℕ → Entry → Type 0) (tells : List ℕ → Opening → Type 0)
-    (asked : List (List ℕ) → Type 0) (told_lines : List Report → Type 0) (contents : W → Option (List ℕ)) (old : W)
-    (job : RunJob) (bound : Bound) (fault : ReadFault) → told_lines [] → IsBindingFor holds job.card.binding bound
+    (asked : List (List ℕ) → Type 0) (told_lines : List Report → Type 0) (contents : W → Option (List ℕ))
+    (unwritable : Type 0) (old : W) (job : RunJob) (bound : Bound) (fault : ReadFault)
+    → told_lines [] → IsBindingFor holds job.card.binding bound
     → OfFile (IsFaultAt job.script.now (IsUnopened (tells job.script.now))) fault → asked (job.script.now ∷ [])
-    → ComesOfRun holds tells asked told_lines contents old old job (Err (told_of fault))
-run_unopened holds tells asked told_lines contents old job bound (File f) silent is told asks =
+    → ComesOfRun holds tells asked told_lines contents unwritable old old job (Err (told_of fault))
+run_unopened holds tells asked told_lines contents unwritable old job bound (File f) silent is told asks =
     unopened f (record { binding = bound; bound = is; faulty = told }) asks silent refl
-run_unopened holds tells asked told_lines contents old job bound Memory silent is told asks =
+run_unopened holds tells asked told_lines contents unwritable old job bound Memory silent is told asks =
     memory (inr asks) silent refl
 
 -- the binding of a session isn't read
 pub session_unbound : {R W : Type 0} (holds : List ℕ → Entry → Type 0) (remaining : R → Option (List ℕ))
-    (unreadable : Type 0) (from : R) (told_lines : List Report → Type 0) (contents : W → Option (List ℕ)) (old : W)
-    (job : CardJob) (fault : ReadFault) → told_lines [] → OfFile (IsBindingFault holds job.binding) fault
-    → ComesOfSession holds remaining unreadable from from told_lines contents old old job (Err (told_of fault))
-session_unbound holds remaining unreadable from told_lines contents old job (File f) silent told =
+    (unreadable : Type 0) (from : R) (told_lines : List Report → Type 0) (contents : W → Option (List ℕ))
+    (unwritable : Type 0) (old : W) (job : CardJob) (fault : ReadFault)
+    → told_lines [] → OfFile (IsBindingFault holds job.binding) fault
+    → ComesOfSession holds remaining unreadable from from told_lines contents unwritable old old job
+    (Err (told_of fault))
+session_unbound holds remaining unreadable from told_lines contents unwritable old job (File f) silent told =
     session_unread f told refl silent refl
-session_unbound holds remaining unreadable from told_lines contents old job Memory silent told =
+session_unbound holds remaining unreadable from told_lines contents unwritable old job Memory silent told =
     session_memory refl silent refl

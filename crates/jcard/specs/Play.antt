@@ -7,7 +7,7 @@ use Rattle.jc_source.specs.Source.{Asked}
 use Rattle.jc_run.specs.End.{end_of_fault}
 use Rattle.jc_run.specs.Play.{NoMemory, NotRead, Over, ScriptEnd, SourceFailed}
 use Rattle.jc_run.specs.Reports.{Report}
-use Rattle.jc_run.specs.ScriptReads.{IsUnreadAt, ScriptReads}
+use Rattle.jc_run.specs.EndCauses.{EndCauses, IsUnreadAt, session_causes}
 use Rattle.jc_run.specs.Session.{HasHeld, fault_count}
 use Rattle.jc_run.specs.declared.fault.ScriptFault.{ScriptFault}
 use Rattle.jc_run.specs.declared.fault.ScriptFault.TheVariants as scripts
@@ -45,19 +45,20 @@ abbrev pub fault_of_end : (Asked → FileFault → Type 0) → Result (Unit {0})
 fault_of_end IsFault (Ok u) asked = ⊥
 fault_of_end IsFault (Err fault) asked = fault_of_told IsFault fault asked
 
--- the reads of a script: the last failed read of its source may have been one of these, memory may have run out for one
--- read, and its lines may not be readable
-abbrev pub told_reads : (Asked → Type 0) → ScriptReads
-told_reads failed_at = record { failed_at = failed_at; short = 1; unread = ⊤ }
+-- what may end a script: the last failed read of its source may have been one of these, memory may have run out for one
+-- read, and its lines may not be readable, or an answer not writable, for these reasons
+abbrev pub told_causes : (Asked → Type 0) → (unreadable unwritable : Type 0) → EndCauses
+told_causes failed_at unreadable unwritable =
+    record { failed_at = failed_at; short = 1; unread = unreadable; unwritten = unwritable }
 
 -- the result of a session's lines; so many reads of its source failed, and memory ran out for so many
-pub record HoldsLines (images certificates : List ℕ → List ℕ → Type 0) (unreadable : Type 0)
+pub record HoldsLines (images certificates : List ℕ → List ℕ → Type 0) (unreadable unwritable : Type 0)
     (told : List Report → Type 0) (limits : Limits) (binding : Bound) (bytes before : List ℕ) (now : Option (List ℕ))
     (end : ScriptEnd) : Type 0 where
   pub failed : ℕ
   pub short : ℕ
-  pub held : HasHeld images certificates (IsUnreadAt unreadable failed short) (fault_count 0 0 failed short) told limits
-      binding bytes before now end
+  pub held : HasHeld images certificates (session_causes (IsUnreadAt unreadable failed short) unwritable)
+      (fault_count 0 0 failed short) told limits binding bytes before now end
 
 -- a script's fault that isn't a file's, and isn't out of memory
 abbrev pub IsOfScript : ScriptFault → Type 0

@@ -14,7 +14,8 @@ use Rattle.jc_run.specs.Answer.{Answered, Cells, Installed, Loaded, NotInstalled
 use Rattle.jc_run.specs.Answer.{WasReset}
 use Rattle.jc_run.specs.Reports.{AnsweredLine, RefusedLine, Report}
 use Rattle.jc_run.specs.declared.refusal.LineRefusal.{LineRefusal}
-use Rattle.jc_run.specs.declared.refusal.LineRefusal.TheVariants.{Bad, Memory, Source}
+use Rattle.jc_run.specs.declared.refusal.LineRefusal.TheVariants.{Bad, Unread}
+use Rattle.jc_source.specs.declared.source.SourceFault.TheVariants.{Failed, Memory}
 use Rattle.jc_script.specs.Faults.{fault_text}
 use Rattle.jc_script.specs.declared.fault.LineFault.{LineFault}
 use Rattle.jc_telling.specs.Explanation.{cause_text}
@@ -46,8 +47,8 @@ short_line number = error_at number ++ codes ": out of memory"
 
 abbrev pub refusal_line : ℕ → LineRefusal → Option (List ℕ)
 refusal_line number (Bad fault) = Some (bad_line number fault)
-refusal_line number Source = None
-refusal_line number Memory = Some (short_line number)
+refusal_line number (Unread Failed) = None
+refusal_line number (Unread Memory) = Some (short_line number)
 
 -- why a call of an applet didn't end normally, if it didn't
 abbrev pub install_cause : InstallFault → Option Cause

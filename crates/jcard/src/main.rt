@@ -11,7 +11,7 @@ use jc_host::{
     CardJob, HostFiles, HostScripts, Patient, Reply, RunJob, Said, ShownName, VerifyJob,
     WholeLines, end_with, older_stays, refused_folder, said_of_job, said_to, said_without_words,
 };
-use jc_streams::CountedInput;
+use jc_streams::{CountedInput, CountedOutput};
 use play::PlayFault;
 use ran::{run, session};
 use std::io::{Stderr, Write};
@@ -66,7 +66,7 @@ fn run_job(rt: &HostRuntime, job: &RunJob) -> Result<(), PlayFault> {
         &HostFiles::new(rt),
         &mut HostScripts::new(rt),
         rt.alloc(),
-        &mut Patient::new(io::writer(rt), rt),
+        &mut CountedOutput::new(Patient::new(io::writer(rt), rt)),
         &mut teller_for(rt, &job.card),
         job,
     )
@@ -83,7 +83,7 @@ fn session_job(rt: &HostRuntime, job: &CardJob) -> Result<(), PlayFault> {
         &HostFiles::new(rt),
         rt.alloc(),
         &mut CountedInput::new(rt.stdin()),
-        &mut Patient::new(io::writer(rt), rt),
+        &mut CountedOutput::new(Patient::new(io::writer(rt), rt)),
         &mut teller_for(rt, job),
         job,
     )

@@ -5,12 +5,12 @@ ghost use Rattle.jc_run.specs.End.{end_of_fault};
 ghost use Rattle.jc_run.specs.Performs.{HasRun};
 ghost use Rattle.jc_run.specs.Play.{failures_at};
 ghost use Rattle.jc_run.specs.Reports.{AreTold};
-ghost use Rattle.jc_run.specs.ScriptReads.{IsUnreadable};
+ghost use Rattle.jc_run.specs.EndCauses.{IsUnreadable, IsUnwritable};
 ghost use Rattle.jc_host.specs.FileSource.{HoldsCertificate, IsFaultOf, IsKeptOf, IsSourceFault, IsToldOfSome};
 ghost use Rattle.jc_host.specs.FileSource.{TellsAll};
 ghost use Rattle.jc_host.specs.Folders.{IsImage};
 ghost use Rattle.jcard.specs.Play.{HoldsLines, IsTold, IsToldOfSession, end_of_play, end_of_told, fault_of_end};
-ghost use Rattle.jcard.specs.Play.{fault_of_told, told_reads};
+ghost use Rattle.jcard.specs.Play.{fault_of_told, told_causes};
 ghost use Rattle.jcard.specs.PrivatePlay.{IsToldAt};
 ghost use Rattle.jcard.specs.Telling.{Tells};
 
@@ -19,7 +19,7 @@ use jc_api::Binding;
 use jc_host::{Faults, FileFault, FileSource, Files, ReadFault};
 use jc_machine::Limits;
 use jc_run::{ScriptFault, run_script, run_session};
-use jc_streams::Input;
+use jc_streams::{Input, Output};
 use std::alloc::Global;
 use std::fmt;
 use std::io::Write;
@@ -67,7 +67,7 @@ impl fmt::Display for PlayFault {
 }
 
 /// Plays a script on a new card with these limits.
-pub fn play_script<F: Files, R: Input, W: Write, E: Write>(
+pub fn play_script<F: Files, R: Input, W: Output, E: Write>(
     files: &F,
     alloc: Global,
     reader: &mut R,
@@ -79,7 +79,9 @@ pub fn play_script<F: Files, R: Input, W: Write, E: Write>(
     ensures played { (bytes before : List ℕ) → R.remaining reader.old ≡ Some bytes
         → W.contents writer.old ≡ Some before
         → HasRun (IsImage (F.holds files.now)) (HoldsCertificate (F.holds files.now))
-        (told_reads (fault_of_end (IsFaultOf (F.holds files.now)) result))
+        (told_causes (fault_of_end (IsFaultOf (F.holds files.now)) result)
+        (IsUnreadable (R.calls reader.old) (R.calls reader.new) (R.faults reader.old) (R.faults reader.new))
+        (IsUnwritable (W.calls writer.old) (W.calls writer.new) (W.faults writer.old) (W.faults writer.new)))
         (AreTold (Tells E.contents) teller.old teller.new) limits binding.now bytes before (W.contents writer.new)
         (end_of_play result) }
     ensures told { IfErr result (IsTold (IsSourceFault (F.holds files.now))) }
@@ -88,7 +90,7 @@ pub fn play_script<F: Files, R: Input, W: Write, E: Write>(
 }
 
 // Plays a script, with faults of these kinds reported.
-fn play_telling<F: Files, R: Input, W: Write, E: Write, T: Faults>(
+fn play_telling<F: Files, R: Input, W: Output, E: Write, T: Faults>(
     files: &F,
     alloc: Global,
     reader: &mut R,
@@ -101,8 +103,11 @@ fn play_telling<F: Files, R: Input, W: Write, E: Write, T: Faults>(
     ensures played { (bytes before : List ℕ) → R.remaining reader.old ≡ Some bytes
         → W.contents writer.old ≡ Some before
         → HasRun (IsImage (F.holds files.now)) (HoldsCertificate (F.holds files.now))
-        (told_reads (fault_of_end T.tells result)) (AreTold (Tells E.contents) teller.old teller.new) limits
-        binding.now bytes before (W.contents writer.new) (end_of_play result) }
+        (told_causes (fault_of_end T.tells result)
+        (IsUnreadable (R.calls reader.old) (R.calls reader.new) (R.faults reader.old) (R.faults reader.new))
+        (IsUnwritable (W.calls writer.old) (W.calls writer.new) (W.faults writer.old) (W.faults writer.new)))
+        (AreTold (Tells E.contents) teller.old teller.new) limits binding.now bytes before (W.contents writer.new)
+        (end_of_play result) }
     ensures told { IfErr result (IsTold (IsToldOfSome T.tells)) }
 {
     let mut source: FileSource<'_, F, T> = FileSource::new(files);
@@ -113,7 +118,7 @@ fn play_telling<F: Files, R: Input, W: Write, E: Write, T: Faults>(
 }
 
 /// Answers the lines of a session on a new card with these limits.
-pub fn hold_session<F: Files, R: Input, W: Write, E: Write>(
+pub fn hold_session<F: Files, R: Input, W: Output, E: Write>(
     files: &F,
     alloc: Global,
     reader: &mut R,
@@ -125,6 +130,7 @@ pub fn hold_session<F: Files, R: Input, W: Write, E: Write>(
     ensures held { (bytes before : List ℕ) → R.remaining reader.old ≡ Some bytes → W.contents writer.old ≡ Some before
         → HoldsLines (IsImage (F.holds files.now)) (HoldsCertificate (F.holds files.now))
         (IsUnreadable (R.calls reader.old) (R.calls reader.new) (R.faults reader.old) (R.faults reader.new))
+        (IsUnwritable (W.calls writer.old) (W.calls writer.new) (W.faults writer.old) (W.faults writer.new))
         (AreTold (Tells E.contents) teller.old teller.new) limits binding.now bytes before (W.contents writer.new)
         (end_of_play result) }
     ensures told { IfErr result IsToldOfSession }

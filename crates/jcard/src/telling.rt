@@ -5,7 +5,8 @@ ghost use Rattle.std.specs.Fmt.{decimal};
 ghost use Rattle.jc_run.specs.Answer.{shown};
 ghost use Rattle.jc_telling.specs.Explanation.{cause_text};
 ghost use Rattle.jcard.specs.Telling.{IsLineSaid, IsSaid, answer_cause, bad_line, cause_line, install_cause};
-ghost use Rattle.jcard.specs.Telling.{short_line};
+ghost use Rattle.jc_run.specs.declared.refusal.LineRefusal.TheVariants.{Unread};
+ghost use Rattle.jcard.specs.Telling.{refusal_line, short_line};
 
 use jc_card::{Cause, InstallFault};
 use jc_firewall::Denial;
@@ -14,6 +15,7 @@ use jc_interp::ShownFrame;
 use jc_machine::Limits;
 use jc_run::{CommandAnswer, LineRefusal, Teller};
 use jc_script::LineFault;
+use jc_source::SourceFault;
 use jc_telling::Explanation;
 use std::fmt;
 use std::io::{self, Write};
@@ -103,6 +105,23 @@ impl<E: Write> LineTeller<E> {
         self.keep(&written);
     }
 
+    // Reports why a load's files aren't read.
+    fn tell_unread<F: Files, T: Faults>(
+        &mut self,
+        number: u64,
+        fault: SourceFault,
+        source: &FileSource<'_, F, T>,
+    )
+        ensures limits { self.new.limits ≡ self.old.limits }
+        ensures explains { self.new.explains ≡ self.old.explains }
+        ensures said { IsSaid E.contents self.old self.new (refusal_line number (Unread fault)) }
+    {
+        match fault {
+            SourceFault::Failed => self.tell_source(number, source),
+            SourceFault::Memory => self.tell_memory(number),
+        }
+    }
+
     // Reports why a call of a line didn't end normally, and the frame in which it stopped.
     fn explain(
         &mut self,
@@ -171,7 +190,8 @@ struct ShortLine {
 
 impl fmt::Display for ShortLine {
     ghost use Rattle.std.specs.Prelude.{Some};
-    ghost use Rattle.jcard.specs.Telling.{short_line};
+    ghost use Rattle.jc_run.specs.declared.refusal.LineRefusal.TheVariants.{Unread};
+    ghost use Rattle.jcard.specs.Telling.{refusal_line, short_line};
 
     ghost output = { λ line. Some (short_line line.number) };
 
@@ -233,8 +253,7 @@ impl<'a, F: Files, T: Faults, E: Write> Teller<FileSource<'a, F, T>> for LineTel
     fn refused(&mut self, number: u64, refusal: &LineRefusal, source: &FileSource<'a, F, T>) {
         match refusal {
             LineRefusal::Bad(fault) => self.tell_fault(number, *fault),
-            LineRefusal::Source => self.tell_source(number, source),
-            LineRefusal::Memory => self.tell_memory(number),
+            LineRefusal::Unread(fault) => self.tell_unread(number, *fault, source),
         }
     }
 }

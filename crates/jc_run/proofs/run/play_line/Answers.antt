@@ -8,4 +8,4 @@ returns-in-Skipped-clause-done g c = λ t before h known.
 
 pub returns-in-Bad-clause-ended : goal.returns-in-Bad-clause-ended
 returns-in-Bad-clause-ended g c = λ t before h known.
-    rw c.fault_in.ensures (bad_end _ _ _ _ t c.args.number _ _ before _ c.in-Bad.ensures known)
+    rw c.fault_in.ensures (bad_end _ _ _ _ _ t c.args.number _ _ before _ c.in-Bad.ensures known)

@@ -3,8 +3,8 @@ use Rattle.jc_run.proofs.Conversing.{at_end, begun, converses_from_as, none_coun
 use Rattle.jc_run.proofs.Ending.{none_told}
 use Rattle.jc_run.proofs.Holding.{held_on}
 use Rattle.jc_run.proofs.Playing.{handed_end, same_self, same_through}
-use Rattle.jc_run.proofs.Unread.{calls_on, unread_at, unreadable}
-use Rattle.jc_run.specs.ScriptReads.IsUnreadAt.{last, source}
+use Rattle.jc_run.proofs.Unread.{calls_on, unread_at, unreadable, unwritable_later}
+use Rattle.jc_run.specs.EndCauses.IsUnreadAt.{last, source}
 use Rattle.jc_run.specs.Session.{ConversesOn}
 use Rattle.jc_script.specs.Reading.{pending}
 use Rattle.jc_run.proofs.session.converse.Goals as goal
@@ -16,6 +16,8 @@ loop-number-init g c = (
   same_self _,
   refl,
   sym (ap (λ n. g.R.Input.calls c.args.reader.now + n) c.new-lines.ensures.calls ∙ add-zero _),
+  refl,
+  omega arith,
   λ t bytes before h is known. begun _ _ _ _ _ t bytes before _ _ _ _ (none_counted refl refl) h
       (rw (c.new-lines.ensures.unread, is) refl) known,
 )
@@ -29,8 +31,10 @@ loop-number-preserved g c =
       same_through _ _ _ v.2 p.same_certificates,
       p.working ∙ v.3,
       calls_on _ _ _ _ _ v.4 p.called,
+      p.written ∙ v.5,
+      omega (arith, v.6, p.writes),
       λ t bytes before h is known.
-          let so_far = v.5 t bytes before h is known in
+          let so_far = v.7 t bytes before h is known in
           one_more _ _ _ _ _ t bytes before
           {rest = pending c.converse_next.new.lines.unread (g.R.Input.remaining c.converse_next.new.reader)} so_far
           (turn_as _ _ _ _ v.1 v.2 ((rw c.if-not-branch.false at p.done)
@@ -39,8 +43,9 @@ loop-number-preserved g c =
 
 pub returns-then-has_most_faults-clause-held : goal.returns-then-has_most_faults-clause-held
 returns-then-has_most_faults-clause-held g c = λ t bytes before h is known.
-    let so_far = c.loop-number.invariant.5 t bytes before h is known in
-    held_on _ _ _ (at_end _ _ _ _ _ t bytes before c.loop-number.source c.loop-number.reader so_far
+    let so_far = c.loop-number.invariant.7 t bytes before h is known in
+    held_on _ _ _ (at_end _ _ _ _ _ t bytes before c.loop-number.source c.loop-number.reader
+    c.loop-number.writer so_far
     (not_read _ _ _ _ _ so_far.card _ so_far.rest _ _ (none_counted refl refl) (none_told refl)
     (source (c.has_most_faults.ensures.most c.if-has_most_faults.true)) so_far.now_is))
 
@@ -48,9 +53,11 @@ pub returns-then-not-branch-clause-held : goal.returns-then-not-branch-clause-he
 returns-then-not-branch-clause-held g c = λ t bytes before h is known.
     let v = c.loop-number.invariant in
     let p = c.in_ok-converse_next.ensures in
-    let so_far = v.5 t bytes before h is known in
-    held_on _ _ _ (at_end _ _ _ _ _ t bytes before c.converse_next.new.source c.converse_next.new.reader so_far
+    let so_far = v.7 t bytes before h is known in
+    held_on _ _ _ (at_end _ _ _ _ _ t bytes before c.converse_next.new.source c.converse_next.new.reader
+    c.converse_next.new.writer so_far
     (converses_from_as _ _ _ _ v.1 v.2 (λ n why. unread_at n (unreadable _ _ _ _ _ _ _ _ v.4 p.called v.3 why))
+    (unwritable_later _ _ _ _ _ _ v.6 v.5)
     ((rw c.if-not-branch.true at p.done)
     so_far.card so_far.rest (before ++ so_far.written) so_far.holds so_far.left_is so_far.now_is)))
 
@@ -58,15 +65,18 @@ pub returns-in_err-converse_next-clause-held : goal.returns-in_err-converse_next
 returns-in_err-converse_next-clause-held g c = λ t bytes before h is known.
     let v = c.loop-number.invariant in
     let p = c.in_err-converse_next.ensures in
-    let so_far = v.5 t bytes before h is known in
+    let so_far = v.7 t bytes before h is known in
     handed_end _ _ (ConversesOn _ _ _ _ _ bytes t before _) c.from_residual.ensures.1
-    (held_on _ _ _ (at_end _ _ _ _ _ t bytes before c.converse_next.new.source c.converse_next.new.reader so_far
+    (held_on _ _ _ (at_end _ _ _ _ _ t bytes before c.converse_next.new.source c.converse_next.new.reader
+    c.converse_next.new.writer so_far
     (converses_from_as _ _ _ _ v.1 v.2 (λ n why. unread_at n (unreadable _ _ _ _ _ _ _ _ v.4 p.called v.3 why))
+    (unwritable_later _ _ _ _ _ _ v.6 v.5)
     (p.ended so_far.card so_far.rest (before ++ so_far.written) so_far.holds so_far.left_is so_far.now_is))))
 
 pub returns-clause-held : goal.returns-clause-held
 returns-clause-held g c = λ t bytes before h is known.
-    let so_far = c.loop-number.invariant.5 t bytes before h is known in
-    held_on _ _ _ (at_end _ _ _ _ _ t bytes before c.loop-number.source c.loop-number.reader so_far
+    let so_far = c.loop-number.invariant.7 t bytes before h is known in
+    held_on _ _ _ (at_end _ _ _ _ _ t bytes before c.loop-number.source c.loop-number.reader
+    c.loop-number.writer so_far
     (not_read _ _ _ _ _ so_far.card _ so_far.rest _ _ (none_counted refl refl) (none_told refl)
     (last (omega (arith, c.loop-number.invariant.0, c.loop-number-test.false))) so_far.now_is))

@@ -3,7 +3,7 @@ use Rattle.jc_card.specs.Card.{CardState}
 use Rattle.jc_card.specs.Reads.{Holds}
 use Rattle.jc_source.specs.Source.{HoldSame}
 use Rattle.jc_run.specs.PrivateSession.{HasConversed}
-use Rattle.jc_run.specs.ScriptReads.{IsUnreadAt, IsUnreadable}
+use Rattle.jc_run.specs.EndCauses.{IsUnreadAt, IsUnreadable, IsUnwritable, session_causes}
 use Rattle.jc_run.specs.Session.{fault_count}
 use Rattle.jc_script.specs.Reading.{pending}
 use Rattle.jc_run.proofs.session.converse.Given as goal
@@ -15,14 +15,18 @@ invariant-loop-number g l =
     × HoldSame (g.S.PackageSource.holds_certificate l.fn.source) (g.S.PackageSource.holds_certificate l.source)
     × (g.R.Input.faults l.reader ≡ g.R.Input.faults l.fn.reader)
     × (g.R.Input.calls l.reader ≡ g.R.Input.calls l.fn.reader + l.lines.calls)
+    × (g.W.Output.faults l.writer ≡ g.W.Output.faults l.fn.writer)
+    × (g.W.Output.calls l.fn.writer ≤ g.W.Output.calls l.writer)
     × ((c : CardState) (bytes before : List ℕ) → Holds l.fn.card c → g.R.Input.remaining l.fn.reader ≡ Some bytes
-    → g.W.Write.contents l.fn.writer ≡ Some before
+    → g.W.Output.contents l.fn.writer ≡ Some before
     → HasConversed (g.S.PackageSource.holds_image l.fn.source) (g.S.PackageSource.holds_certificate l.fn.source)
-    (λ s r. IsUnreadAt (IsUnreadable (g.R.Input.calls l.fn.reader) (g.R.Input.calls r) (g.R.Input.faults l.fn.reader)
-    (g.R.Input.faults r)) (g.S.PackageSource.failed s) (g.S.PackageSource.short s))
+    (λ s r w. session_causes (IsUnreadAt (IsUnreadable (g.R.Input.calls l.fn.reader) (g.R.Input.calls r)
+    (g.R.Input.faults l.fn.reader) (g.R.Input.faults r)) (g.S.PackageSource.failed s) (g.S.PackageSource.short s))
+    (IsUnwritable (g.W.Output.calls l.fn.writer) (g.W.Output.calls w) (g.W.Output.faults l.fn.writer)
+    (g.W.Output.faults w)))
     (fault_count (g.S.PackageSource.failed l.fn.source) (g.S.PackageSource.short l.fn.source)
     (g.S.PackageSource.failed l.source) (g.S.PackageSource.short l.source)) g.T.Teller.tells l.fn.teller c bytes before
-    l.number l.card l.teller (pending l.lines.unread (g.R.Input.remaining l.reader)) (g.W.Write.contents l.writer))
+    l.number l.card l.teller (pending l.lines.unread (g.R.Input.remaining l.reader)) (g.W.Output.contents l.writer))
 
 abbrev pub decreases-loop-number : goal.decreases-loop-number
 decreases-loop-number g l = 18446744073709551615 - l.number

@@ -5,9 +5,8 @@ use Rattle.jc_run.proofs.session.converse_command.Goals as goal
 pub returns-in-Err-clause-done : goal.returns-in-Err-clause-done
 returns-in-Err-clause-done g c = λ fault t before h known.
     load_refused _ _ _ _ t c.args.number fault _ _ before _ _
-    (refusal_counted _ _ _ c.in-Err.ensures.counted c.in-Err.ensures.counted_short c.refusal_of.ensures.failures
-    c.refusal_of.ensures.shortages)
-    (one_told _ c.refused.ensures) c.refusal_of.ensures.of_load c.in-Err.ensures.failed
+    (refusal_counted _ _ c.in-Err.ensures.counted c.in-Err.ensures.counted_short)
+    (one_told _ c.refused.ensures) c.in-Err.ensures.failed
     (rw c.in-Err.ensures.kept h) known
 
 pub returns-in-Ok-write_answer-clause-done : goal.returns-in-Ok-write_answer-clause-done
@@ -18,4 +17,5 @@ returns-in-Ok-write_answer-clause-done g c = λ fault t before h known.
 
 pub returns-in-Err-write_answer-clause-ended : goal.returns-in-Err-write_answer-clause-ended
 returns-in-Err-write_answer-clause-ended g c = λ t before h known.
-    command_not_written _ _ t _ _ _ _ _ before (c.in-Ok.ensures.done t h) known c.in-Err-write_answer.ensures.part
+    command_not_written _ _ _ t _ _ _ _ _ before c.in-Err-write_answer.ensures.unwritable (c.in-Ok.ensures.done t h)
+    known c.in-Err-write_answer.ensures.part

@@ -1,8 +1,14 @@
-use Rattle.std.proofs.Common.{take, length, ◌≤◌}
+use Rattle.std.proofs.Common.{◌≡◌, ◌+◌, ◌-◌, take, length, ◌≤◌}
 use Rattle.std.specs.Io.KnownBytes.{Appends}
 use Rattle.jc_run.proofs.writing.write_whole.Given as goal
 
-abbrev pub invariant-loop : goal.invariant-loop
-invariant-loop g l =
+abbrev pub invariant-loop-calls : goal.invariant-loop-calls
+invariant-loop-calls g l =
     (l.done ≤ length l.bytes)
-    × Appends (g.W.Write.contents l.fn.writer) (g.W.Write.contents l.writer) (take l.done l.bytes)
+    × Appends (g.W.Output.contents l.fn.writer) (g.W.Output.contents l.writer) (take l.done l.bytes)
+    × (l.calls ≤ 16777216)
+    × (g.W.Output.calls l.writer ≡ g.W.Output.calls l.fn.writer + l.calls)
+    × (g.W.Output.faults l.writer ≡ g.W.Output.faults l.fn.writer)
+
+abbrev pub decreases-loop-calls : goal.decreases-loop-calls
+decreases-loop-calls g l = 16777216 - l.calls

@@ -8,7 +8,7 @@ pub returns-in_err-binding : goal.returns-in_err-binding
 returns-in_err-binding g c =
     let told = err_from_is_err_and c.from_residual.result c.from_residual.ensures.1 in
     rw (told.1, told.2) (session_unbound (g.F.Files.holds c.args.files.now) g.R.Input.remaining _ c.args.reader.now _
-    g.W.Write.contents c.args.writer.now c.args.job.now c.in_err-binding.field-0.0 (none _)
+    g.W.Output.contents _ c.args.writer.now c.args.job.now c.in_err-binding.field-0.0 (none _)
     c.in_err-binding.ensures.faults)
 
 pub returns : goal.returns

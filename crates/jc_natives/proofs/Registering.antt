@@ -135,7 +135,7 @@ still_may before call after (as_they_were e f) (remembered.one_more register has
 still_may before call after (one_more j i was waited owner is now) (remembered.one_more register has) =
     grind (arith, has.was, has.waited, now)
 
-pub members_register : ((w : World) (call : NativeCall Kept) → IsRemembered w call (meaning.answer w call))
+pub members_register : ((w : World) (call : NativeCall Kept) → IsRemembered call (meaning.answer w call))
     → (before : Kept) → MembersKeep (registers before) meaning
 members_register remember before w call kept =
     let after = (meaning.answer w call).runtime in

@@ -340,8 +340,8 @@ module _ (w : World) (call : NativeCall Kept) where
       (λ b. record { iso = tt; system = tt; apdu = tt; buffer = tt; registers = λ e i f g. tt; reason = λ e n f. tt })
       (λ native e j place way f g n is. tt)
 
-  remembered : ((world : List Shape) → IsBuilt world → StandsOnApi world) → IsRemembered w call (answer_of w call)
-  remembered on_api = record {
+  pub answers_remembered : IsRemembered call (answer_of w call)
+  answers_remembered = record {
     instances = good.kept.instances;
     numbers = good.kept.numbers;
     incoming = good.kept.incoming;
@@ -357,10 +357,10 @@ module _ (w : World) (call : NativeCall Kept) where
         (gives_reference (OfSystem system.GetPreviousAid) (aid_of_owner call.runtime call.previous) refl
         (ap (numbered natives) e) value f) (tells_previous call.runtime call.previous);
     asks_as = λ callback e. subst (AsksAs w call Any) e good.asks;
-    aids = λ built own active.
-        answer_keeps_aids w call own (applet_is call.active active) (on_api w.shapes built);
   }
 
-pub answers_remembered : ((world : List Shape) → IsBuilt world → StandsOnApi world) → (w : World)
-    → (call : NativeCall Kept) → IsRemembered w call (answer_of w call)
-answers_remembered on_api w call = remembered w call on_api
+pub answers_keep_aids : ((world : List Shape) → IsBuilt world → StandsOnApi world) → (w : World) → IsBuilt w.shapes
+    → (call : NativeCall Kept) → HasRuntimeObjects call.heap → is_applets call.active ≡ true
+    → KeepsAids call (answer_of w call).heap
+answers_keep_aids on_api w built call own active =
+    answer_keeps_aids w call own (applet_is call.active active) (on_api w.shapes built)

@@ -3,11 +3,8 @@
 use Rattle.std.specs.Prelude.{◌≡◌, ◌≢◌, ◌⊎◌, ℕ, ◌+◌, ◌==◌, ◌&&◌, ◌||◌, Bool, true, false, [], ◌∷◌, ◌++◌, Option}
 use Rattle.std.specs.Prelude.{Some, None, nat_le, nat_lt, slice_get}
 use Rattle.std.specs.List.{AllByRecursion}
-use Rattle.jc_link.specs.Built.{IsBuilt}
-use Rattle.jc_link.specs.Linked.{World}
-use Rattle.jc_machine.specs.Apart.{is_applets}
 use Rattle.jc_machine.specs.Machine.{Callback, Calls, Gives, NativeAnswer, NativeCall}
-use Rattle.jc_machine.specs.Runtime.{HasRuntimeObjects, first_aid_object, most_instances}
+use Rattle.jc_machine.specs.Runtime.{first_aid_object, most_instances}
 use Rattle.jc_names.specs.declared.owner.Owner.{Owner}
 use Rattle.jc_natives.specs.Kept.{Kept, aid_object}
 use Rattle.jc_natives.specs.declared.kept.Installing.{Installing}
@@ -104,9 +101,8 @@ KeepsAids call after = (number : ℕ) (o p : Object TaggedValue) → is_aid_obje
 -- the runtime's state after a call: the instances; how many numbers were assigned; the data of the command, its Le, and
 -- whether it is the SELECT that selected; and the exchange, which only members of APDU change. And the AIDs: getAID
 -- returns that of the active owner, and getPreviousContextAID that of the owner before it; an applet that is asked for
--- a shareable object gets that of the active owner. And in a built world with the runtime's own objects, a call by an
--- applet leaves the AID objects unchanged, except with register
-pub record IsRemembered (w : World) (call : NativeCall Kept) (a : NativeAnswer Kept) : Type 0 where
+-- a shareable object gets that of the active owner
+pub record IsRemembered (call : NativeCall Kept) (a : NativeAnswer Kept) : Type 0 where
   pub instances : KeepsInstances call a.runtime
   pub numbers : a.runtime.numbers ≡ call.runtime.numbers
   pub incoming : a.runtime.incoming ≡ call.runtime.incoming
@@ -119,4 +115,3 @@ pub record IsRemembered (w : World) (call : NativeCall Kept) (a : NativeAnswer K
       → TellsPreviousAid call.runtime call.previous value
   pub asks_as : (callback : Callback) → a.ends ≡ Calls callback → (value : TaggedValue)
       → slice_get callback.arguments 0 ≡ Some value → TellsAid call.runtime call.active value
-  pub aids : IsBuilt w.shapes → HasRuntimeObjects call.heap → is_applets call.active ≡ true → KeepsAids call a.heap

@@ -10,6 +10,7 @@ ghost use Rattle.jc_machine.specs.Unseen.{AreNativesBlind};
 ghost use Rattle.jc_machine.specs.Calls.{type_of_member};
 ghost use Rattle.jc_machine.specs.Machine.{NativeCall, Surroundings};
 ghost use Rattle.jc_machine.specs.Natives.{IsGuardedAnswer, KeepsObjects};
+ghost use Rattle.jc_machine.specs.Runtime.{HasRuntimeObjects};
 ghost use Rattle.jc_machine.specs.Step.{Start, runtime_call};
 ghost use Rattle.jc_names.specs.declared.owner.Owner.{Owner};
 ghost use Rattle.jc_natives.specs.Apart.{names_applets};
@@ -19,7 +20,7 @@ ghost use Rattle.jc_natives.specs.Kept.{Kept, after_install, are_bytes, is_aid, 
 ghost use Rattle.jc_natives.specs.Kept.{with_command, with_install, without_command};
 ghost use Rattle.jc_natives.specs.Meaning.{meaning};
 ghost use Rattle.jc_natives.specs.Registered.{LeavesInstances};
-ghost use Rattle.jc_natives.specs.Remembered.{IsRemembered};
+ghost use Rattle.jc_natives.specs.Remembered.{IsRemembered, KeepsAids};
 ghost use Rattle.jc_store.specs.Heap.{Heap};
 ghost use Rattle.jc_machine.specs.Storable.{HoldStorable};
 ghost use Rattle.jc_natives.specs.Cells.{put_all};
@@ -136,7 +137,9 @@ pub fn members_are_declared()
 /// applet leaves the AID objects unchanged, except if register is called for that of the instance that is being
 /// installed and hasn't registered. It does nothing.
 pub fn members_keep_what_is_kept()
-    ensures { (w : World) (call : NativeCall Kept) → IsRemembered w call (meaning.answer w call) }
+    ensures remembered { (w : World) (call : NativeCall Kept) → IsRemembered call (meaning.answer w call) }
+    ensures aids { (w : World) → IsBuilt w.shapes → (call : NativeCall Kept) → HasRuntimeObjects call.heap
+        → is_applets call.active ≡ true → KeepsAids call (meaning.answer w call).heap }
 {
     built_worlds_stand_on_the_api();
 }

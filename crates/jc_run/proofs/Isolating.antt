@@ -12,13 +12,16 @@ use Rattle.jc_card.specs.Install.{install_command}
 use Rattle.jc_card.specs.Load.{IsLoad}
 use Rattle.jc_card.specs.Parts.{Left}
 use Rattle.jc_card.specs.Unseen.{IsDoneAlike, IsLoadedAlike, SeesNothing, with_objects}
+use Rattle.jc_link.specs.Built.{IsBuilt}
 use Rattle.jc_link.specs.Linked.{World}
 use Rattle.jc_machine.proofs.AlikeLaws.{as_large, as_long}
+use Rattle.jc_machine.specs.Apart.{is_applets}
 use Rattle.jc_machine.specs.Machine.{NativeCall, Touch}
+use Rattle.jc_machine.specs.Runtime.{HasRuntimeObjects}
 use Rattle.jc_machine.specs.Unseen.{AreAlike, stays_out}
 use Rattle.jc_natives.specs.Kept.{Kept}
 use Rattle.jc_natives.specs.Meaning.{meaning}
-use Rattle.jc_natives.specs.Remembered.{IsRemembered}
+use Rattle.jc_natives.specs.Remembered.{IsRemembered, KeepsAids}
 use Rattle.jc_store.specs.Heap.{Heap}
 use Rattle.jc_words.specs.Values.{TaggedValue}
 use Rattle.jc_run.specs.Answer as answers
@@ -42,7 +45,9 @@ pub record Laws : Type 0 where
   pub load : (c after : CardState) (image certificate : List ℕ) (result : Result ℕ LoadFault)
       → IsLoad c image certificate result after → (context : ℕ) (heap : Heap TaggedValue)
       → AreAlike context c.heap heap → IsLoadedAlike context c image certificate result after heap
-  pub members : (w : World) (call : NativeCall Kept) → IsRemembered w call (meaning.answer w call)
+  pub members : (w : World) (call : NativeCall Kept) → IsRemembered call (meaning.answer w call)
+  pub aids : (w : World) → IsBuilt w.shapes → (call : NativeCall Kept) → HasRuntimeObjects call.heap
+      → is_applets call.active ≡ true → KeepsAids call (meaning.answer w call).heap
   pub answered : AreAnswered
   pub keep : KeepLaws
 
@@ -215,6 +220,7 @@ module _ (laws : Laws) (images certificates : List ℕ → List ℕ → Type 0)
     kept = λ context commands c answers touches ran after p run out.
         runs_keep laws.keep images certificates guarded context run p out;
     members = laws.members;
+    aids = λ c p call own active. laws.aids c.world p.packages call own active;
     answers = laws.answered;
     between = λ commands c answers touches ran after idle run. runs_idle laws.answered images certificates run idle;
   }

@@ -7,11 +7,13 @@ use Rattle.jc_card.specs.Answering.{AreAnswered}
 use Rattle.jc_card.specs.Card.{CardState, with_heap}
 use Rattle.jc_card.specs.Unseen.{KeepsContents}
 use Rattle.jc_link.specs.Linked.{World}
+use Rattle.jc_machine.specs.Apart.{is_applets}
 use Rattle.jc_machine.specs.Machine.{NativeCall, Touch}
+use Rattle.jc_machine.specs.Runtime.{HasRuntimeObjects}
 use Rattle.jc_machine.specs.Unseen.{AreAlike, stays_out}
 use Rattle.jc_natives.specs.Kept.{Kept}
 use Rattle.jc_natives.specs.Meaning.{meaning}
-use Rattle.jc_natives.specs.Remembered.{IsRemembered}
+use Rattle.jc_natives.specs.Remembered.{IsRemembered, KeepsAids}
 use Rattle.jc_store.specs.Heap.{Heap}
 use Rattle.jc_words.specs.Values.{TaggedValue}
 use Rattle.jc_run.specs.Answer.{Answered}
@@ -31,7 +33,8 @@ pub record RunsAlike (loading : Loading) (context : ℕ) (commands : List Script
 -- for each context, and each run none of whose steps runs in it, from a card that is apart: on each card that differs
 -- only in components of the context's plain objects it runs alike; and after it those of these objects that no event
 -- clears have the components that they had. Native members change of the runtime's state, and return as AIDs, only what
--- jc_natives Remembered states. An answer has what this command's call of process sent. Only installs that succeed
+-- jc_natives Remembered states; and where the runtime's own objects are there, a call by an applet leaves the AID objects
+-- unchanged, except with register. An answer has what this command's call of process sent. Only installs that succeed
 -- change the registered instances, and between commands none is being installed
 pub record AreIsolated (apart : CardState → Type 0) (loading : Loading) : Type 0 where
   pub unseen : (context : ℕ) (commands : List ScriptCommand) (c : CardState) (answers : List Answered)
@@ -43,7 +46,9 @@ pub record AreIsolated (apart : CardState → Type 0) (loading : Loading) : Type
       (touches : List Touch) (ran : List ℕ) (after : CardState) → apart c
       → IsCardRun loading commands c answers touches ran after → stays_out context ran ≡ true
       → KeepsContents context c.heap after.heap
-  pub members : (w : World) (call : NativeCall Kept) → IsRemembered w call (meaning.answer w call)
+  pub members : (w : World) (call : NativeCall Kept) → IsRemembered call (meaning.answer w call)
+  pub aids : (c : CardState) → apart c → (call : NativeCall Kept) → HasRuntimeObjects call.heap
+      → is_applets call.active ≡ true → KeepsAids call (meaning.answer c.world call).heap
   pub answers : AreAnswered
   pub between : (commands : List ScriptCommand) (c : CardState) (answers : List Answered) (touches : List Touch)
       (ran : List ℕ) (after : CardState) → c.kept.installing ≡ None

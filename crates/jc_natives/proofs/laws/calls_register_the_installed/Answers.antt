@@ -12,4 +12,4 @@ returns c = λ s is steps start.
     (c.calls_keep_what_members_keep.ensures (registers before) s
     (subst AreNativesGuarded (sym is) c.members_are_guarded.ensures)
     (subst (MembersKeep (registers before)) (sym is)
-    (members_register c.members_keep_what_is_kept.ensures before)) steps start (registers_itself before))
+    (members_register c.members_keep_what_is_kept.ensures.remembered before)) steps start (registers_itself before))

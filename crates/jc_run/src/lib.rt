@@ -15,7 +15,7 @@ mod writing;
 pub use answer::CommandAnswer;
 pub use command::perform;
 pub use fault::ScriptFault;
-pub use lawful::commands_that_go_on_are_answered;
+pub use lawful::{commands_that_go_on_are_answered, early_ends_have_causes};
 pub use refusal::LineRefusal;
 pub use run::{play, run_script};
 pub use session::{converse, run_session};

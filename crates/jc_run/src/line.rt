@@ -3,7 +3,6 @@
 ghost use Rattle.std.specs.Prelude.{◌≡◌, ◌+◌, ◌≤◌, ◌++◌, [], codes, length};
 ghost use Rattle.std.specs.Fmt.{decimal};
 ghost use Rattle.arrayvec.specs.ArrayVec.{array_vec_len};
-ghost use Rattle.hex.specs.Hex.{encode_upper};
 ghost use Rattle.jc_base.specs.Fault.{words_of};
 ghost use Rattle.jc_base.specs.declared.fault.LoadFault.TheVariants.{MethodRefused};
 ghost use Rattle.jc_run.specs.Answer.{install_words, line_of, response_line, shown, status_text};

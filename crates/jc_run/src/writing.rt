@@ -1,6 +1,6 @@
 //! Writing the lines of answers.
 
-ghost use Rattle.std.specs.Prelude.{◌≡◌, ◌≤◌, suc, length, take, IfOk, OnOk, OnErr};
+ghost use Rattle.std.specs.Prelude.{◌≡◌, ◌≤◌, ◌<◌, suc, length, take, IfOk, OnOk, OnErr};
 ghost use Rattle.std.specs.Io.KnownBytes.{Appends, Keeps};
 ghost use Rattle.jc_run.specs.Answer.{shown};
 ghost use Rattle.jc_run.specs.EndCauses.{IsUnwritable};
@@ -57,7 +57,7 @@ fn write_whole<W: Output>(writer: &mut W, bytes: &[u8]) -> io::Result<()>
 /// Flushes a writer.
 fn flush<W: Output>(writer: &mut W) -> io::Result<()>
     ensures kept { Keeps (W.contents writer.old) (W.contents writer.new) }
-    ensures called { W.calls writer.old ≤ W.calls writer.new }
+    ensures called { W.calls writer.old < W.calls writer.new }
     ensures working { OnOk result (W.faults writer.new ≡ W.faults writer.old) }
     ensures unwritable { OnErr result
         (IsUnwritable (W.calls writer.old) (W.calls writer.new) (W.faults writer.old) (W.faults writer.new)) }

@@ -1,11 +1,12 @@
 //! Scripts in memory on a new card.
 
-ghost use Rattle.std.specs.Prelude.{◌≡◌, ◌<◌, ◌++◌, ◌^◌, OnOk};
-ghost use Rattle.jc_memory.specs.Memory.{Holds, missing_causes, unheard};
+ghost use Rattle.std.specs.Prelude.{◌≡◌, ◌<◌, ◌++◌, ◌^◌, OnErr, OnOk};
+ghost use Rattle.jc_memory.specs.Memory.{Holds, IsMissing, missing_causes, unheard};
 ghost use Rattle.jc_run.specs.End.{end_of};
-ghost use Rattle.jc_run.specs.Performs.{asked_by};
+ghost use Rattle.jc_run.specs.Performs.{IsFailingOf, asked_by};
 ghost use Rattle.jc_run.specs.Runs.{IsSimulated};
 ghost use Rattle.jc_script.specs.Shown.{shown_command};
+ghost use Rattle.jc_source.specs.Source.{IfFailed};
 
 use crate::source::{MemorySource, NamedBytes};
 use jc_api::Binding;
@@ -77,7 +78,8 @@ pub fn play_in_memory(
 }
 
 /// Performs a command on a card, with packages and certificates in memory. It reads what the command names and nothing
-/// else: a load's image, and then its certificate.
+/// else: a load's image, and then its certificate. It fails only if nothing is under one of these names, or memory runs
+/// out; then the card stays as it is.
 pub fn perform_in_memory(
     alloc: Global,
     card: &mut Card,
@@ -86,7 +88,10 @@ pub fn perform_in_memory(
 ) -> Result<CommandAnswer, SourceFault>
     requires few { source.old.failures < 2 ^ 31 }
     requires few_short { source.old.shortages < 2 ^ 31 }
-    ensures { OnOk result (source.new.asked ≡ source.old.asked ++ asked_by (shown_command command.now)) }
+    ensures asks { OnOk result (source.new.asked ≡ source.old.asked ++ asked_by (shown_command command.now)) }
+    ensures failing { IfFailed result (IsFailingOf (IsMissing source.new.images source.new.certificates)
+        (shown_command command.now)) }
+    ensures kept { OnErr result (card.new ≡ card.old) }
 {
     perform(card, alloc, source, command)
 }

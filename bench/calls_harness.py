@@ -259,13 +259,13 @@ pub extern "C" fn calls_run(alloc: Global, images: &[u8], call: &Call, ended: &m
     }
     let _ = card
         .machine
-        .run(&mut natives, &card.world, &card.program, None, 1000, &mut None, &mut stopped);
+        .run(&mut natives, &card.world, &card.program, None, 1000, &mut stopped);
     if !begin(&mut card, place, &[call.argument]) {
         return;
     }
     let end = card
         .machine
-        .run(&mut natives, &card.world, &card.program, Some(2), call.steps, &mut None, &mut stopped);
+        .run(&mut natives, &card.world, &card.program, Some(2), call.steps, &mut stopped);
     match end {
         RunEnd::Gave(None) => ended.how = 1,
         RunEnd::Gave(Some(word)) => {

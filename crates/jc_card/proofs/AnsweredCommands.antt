@@ -10,6 +10,7 @@ use Rattle.jc_machine.specs.Machine.{Touch}
 use Rattle.jc_machine.specs.Runtime.{apdu_buffer}
 use Rattle.jc_machine.specs.Step.{CallEnd, Called}
 use Rattle.jc_machine.specs.declared.stop.CodePoint.{CodePoint}
+use Rattle.jc_machine.specs.declared.stop.DeniedAccess.{DeniedAccess}
 use Rattle.jc_names.specs.declared.name.MethodName.{MethodName}
 use Rattle.jc_names.specs.declared.name.ClassName.TheVariants.{Api}
 use Rattle.jc_names.specs.declared.owner.Owner.{Owner}
@@ -28,30 +29,30 @@ use Rattle.jc_card.specs.Commands.{Response, status_alone, status_of_thrown}
 use Rattle.jc_card.specs.Parts.{Ended, Left, Normally, OutOfBudget, Uncaught, and_then, behind, call_selected, clear}
 use Rattle.jc_card.specs.Parts.{arguments_of, call_applet, call_method, ended_call, gives, write}
 use Rattle.jc_card.specs.declared.calls.AppletCall.{AppletCall}
-use Rattle.jc_card.specs.declared.calls.AppletCall.TheVariants.{Deselect, Process, Select}
+use Rattle.jc_card.specs.declared.calls.AppletCall.TheVariants.{Process, Select}
 
 -- ---- statuses
 
-pub thrown_has : (c : CardState) (done number : ℕ) (at : Option CodePoint)
-    → HasStatus c done (Uncaught number at)
+pub thrown_has : (c : CardState) (done number : ℕ) (at : Option CodePoint) (denied : Option DeniedAccess)
+    → HasStatus c done (Uncaught number at denied)
     (option_map_or (status_of_thrown c) (object_at c.heap number) unknown_error)
-thrown_has c done number at = by_object (object_at c.heap number) refl
+thrown_has c done number at denied = by_object (object_at c.heap number) refl
   where
     by_class : (o : Object TaggedValue) → object_at c.heap number ≡ Some o → (b : Bool)
         → is_of_class c.world.shapes (Api IsoException) o.kind.object_type ≡ b
-        → HasStatus c done (Uncaught number at) (cond b (reason_of o) unknown_error)
-    by_class o e true f = by_reason number at o e f
-    by_class o e false f = by_another number at o e f
+        → HasStatus c done (Uncaught number at denied) (cond b (reason_of o) unknown_error)
+    by_class o e true f = by_reason number at denied o e f
+    by_class o e false f = by_another number at denied o e f
 
     by_object : (o : Option (Object TaggedValue)) → object_at c.heap number ≡ o
-        → HasStatus c done (Uncaught number at) (option_map_or (status_of_thrown c) o unknown_error)
-    by_object None e = by_none number at e
+        → HasStatus c done (Uncaught number at denied) (option_map_or (status_of_thrown c) o unknown_error)
+    by_object None e = by_none number at denied e
     by_object (Some o) e = by_class o e (is_of_class c.world.shapes (Api IsoException) o.kind.object_type) refl
 
 status_has : (c : CardState) (k : Kept) (ended : Ended)
     → HasStatus c 0x9000 ended (commands.status_of (with_kept c k) ended)
 status_has c k (Normally value) = by_itself value
-status_has c k (Uncaught number at) = thrown_has c 0x9000 number at
+status_has c k (Uncaught number at denied) = thrown_has c 0x9000 number at denied
 status_has c k (OutOfBudget spent at) = by_budget spent at
 
 -- ---- a call selects nobody else

@@ -12,7 +12,7 @@ use Rattle.jc_machine.specs.Calls.{frame_of, has_room, native_may_begin}
 use Rattle.jc_machine.specs.Guarded.{KeepsPlain, machine_of}
 use Rattle.jc_machine.specs.Lookup.{declared_at}
 use Rattle.jc_machine.specs.Machine.{Ends, Frame, Machine, MethodPlace, NativeEnd, Next, Outcome, Stuck}
-use Rattle.jc_machine.specs.Machine.{Surroundings, Throws, UsedUp}
+use Rattle.jc_machine.specs.Machine.{Surroundings, Throws, UsedUp, last_denied}
 use Rattle.jc_machine.specs.Natives.{KeepsObjects}
 use Rattle.jc_machine.specs.Step.{CallEnd, Called, Gave, RanOut, Start, Threw, WasStuck, after_first_native, begun}
 use Rattle.jc_machine.specs.Step.{begun_by, continued, defensive_step, ended_by, first_answer, may_begin, native_called}
@@ -21,6 +21,7 @@ use Rattle.jc_machine.specs.Step.{started, started_by, steps_of}
 use Rattle.jc_machine.specs.Unseen.{is_hidden, is_plain, stays_out}
 use Rattle.jc_machine.specs.declared.stop.Budget.{Budget}
 use Rattle.jc_machine.specs.declared.stop.CodePoint.{CodePoint}
+use Rattle.jc_machine.specs.declared.stop.DeniedAccess.{DeniedAccess}
 use Rattle.jc_names.specs.declared.name.MethodName.{MethodName}
 use Rattle.jc_names.specs.declared.name.MethodName.TheVariants.{Api, Loaded}
 use Rattle.jc_names.specs.declared.owner.Owner.{Owner}
@@ -112,13 +113,13 @@ module _ (laws : StepsGuarded) (context : ℕ) (c : CardState) (owner : Owner) (
 
   abbrev pub EndKeeps : Heap TaggedValue → CallEnd Kept → Type 0
   EndKeeps heap (Gave m value) = KeepsHeap context heap m.heap
-  EndKeeps heap (Threw m object at) = KeepsHeap context heap m.heap
+  EndKeeps heap (Threw m object at denied) = KeepsHeap context heap m.heap
   EndKeeps heap (RanOut m spent at) = KeepsHeap context heap m.heap
   EndKeeps heap WasStuck = Unit {0}
 
   end_behind : (a b : Heap TaggedValue) (e : CallEnd Kept) → KeepsHeap context a b → EndKeeps b e → EndKeeps a e
   end_behind a b (Gave m value) k l = heap_both context a b m.heap k l
-  end_behind a b (Threw m object at) k l = heap_both context a b m.heap k l
+  end_behind a b (Threw m object at denied) k l = heap_both context a b m.heap k l
   end_behind a b (RanOut m spent at) k l = heap_both context a b m.heap k l
   end_behind a b WasStuck k l = tt
 
@@ -137,20 +138,21 @@ module _ (laws : StepsGuarded) (context : ℕ) (c : CardState) (owner : Owner) (
     next_apart after e =
         (laws.apart_steps s laws.members laws.apart_members (laws.api c.world.shapes p.packages) m a).after after e
 
-    by_outcome : (go : Machine Kept → Called Kept) (lacking : Budget) (at : Option CodePoint) (o : Outcome Kept)
-        → (defensive_step s m).outcome ≡ o → stays_out context (continued lacking at go o).ran ≡ true
+    by_outcome : (go : Machine Kept → Called Kept) (lacking : Budget) (at : Option CodePoint)
+        (denied : Option DeniedAccess) (o : Outcome Kept)
+        → (defensive_step s m).outcome ≡ o → stays_out context (continued lacking at denied go o).ran ≡ true
         → ((next : Machine Kept) → IsApart names_applets next → stays_out context (go next).ran ≡ true
-        → EndKeeps next.heap (go next).ends) → EndKeeps m.heap (continued lacking at go o).ends
-    by_outcome go lacking at (Next next) e f rest =
+        → EndKeeps next.heap (go next).ends) → EndKeeps m.heap (continued lacking at denied go o).ends
+    by_outcome go lacking at denied (Next next) e f rest =
         let left = ap (λ (x : Outcome Kept). machine_of x) e in
         end_behind m.heap next.heap (go next).ends (step_keeps next left) (rest next (next_apart next left) f)
-    by_outcome go lacking at (Throws after object) e f rest =
+    by_outcome go lacking at denied (Throws after object) e f rest =
         step_keeps after (ap (λ (x : Outcome Kept). machine_of x) e)
-    by_outcome go lacking at (Ends after value) e f rest =
+    by_outcome go lacking at denied (Ends after value) e f rest =
         step_keeps after (ap (λ (x : Outcome Kept). machine_of x) e)
-    by_outcome go lacking at (UsedUp after) e f rest =
+    by_outcome go lacking at denied (UsedUp after) e f rest =
         step_keeps after (ap (λ (x : Outcome Kept). machine_of x) e)
-    by_outcome go lacking at Stuck e f rest = tt
+    by_outcome go lacking at denied Stuck e f rest = tt
 
   steps_keep : (n : ℕ) (m : Machine Kept) → IsApart names_applets m → stays_out context (steps_of s n m).ran ≡ true
       → EndKeeps m.heap (steps_of s n m).ends
@@ -159,7 +161,7 @@ module _ (laws : StepsGuarded) (context : ℕ) (c : CardState) (owner : Owner) (
   steps_keep (suc n) m a out =
       let parts = and_parts (not (m.top.active.context == context)) _ out in
       by_outcome m a parts.0 (steps_of s n) (room_lacking s (m.top ∷ m.waiting)) (Some (point_of m.top))
-      (defensive_step s m).outcome refl parts.1 (steps_keep n)
+      (last_denied (defensive_step s m).touches) (defensive_step s m).outcome refl parts.1 (steps_keep n)
 
   -- ---- a call of the runtime's
 
@@ -210,14 +212,14 @@ module _ (laws : StepsGuarded) (context : ℕ) (c : CardState) (owner : Owner) (
     gave_keeps m value true k = k
     gave_keeps m value false k = tt
 
-    threw_keeps : (m : Machine Kept) (object : ℕ) (b : Bool) → KeepsHeap context c.heap m.heap
-        → EndKeeps c.heap (cond b (Threw m object None) WasStuck)
-    threw_keeps m object true k = k
-    threw_keeps m object false k = tt
+    threw_keeps : (m : Machine Kept) (object : ℕ) (denied : Option DeniedAccess) (b : Bool)
+        → KeepsHeap context c.heap m.heap → EndKeeps c.heap (cond b (Threw m object None denied) WasStuck)
+    threw_keeps m object denied true k = k
+    threw_keeps m object denied false k = tt
 
-    ended_keeps : (m : Machine Kept) (member : ℕ) (ends : NativeEnd) → KeepsHeap context c.heap m.heap
-        → EndKeeps c.heap (native_ended s m member ends)
-    ended_keeps m member ends k = grind (arith, gave_keeps, threw_keeps)
+    ended_keeps : (m : Machine Kept) (member : ℕ) (denied : Option DeniedAccess) (ends : NativeEnd)
+        → KeepsHeap context c.heap m.heap → EndKeeps c.heap (native_ended s m member denied ends)
+    ended_keeps m member denied ends k = grind (arith, gave_keeps, threw_keeps)
 
     native_out : (member : ℕ) → Out (native_called s start member (first_answer s start member))
     native_out member = λ out.
@@ -225,7 +227,7 @@ module _ (laws : StepsGuarded) (context : ℕ) (c : CardState) (owner : Owner) (
         let a = meaning.answer c.world call in
         let guarded = laws.members c.world call in
         let apart = laws.apart_members c.world call p.objects whose p.instances in
-        ended_keeps (after_first_native start a) member a.ends (record {
+        ended_keeps (after_first_native start a) member (last_denied a.touches) a.ends (record {
           objects = guarded.kept;
           contents =
               plain_contents context owner.context c.heap a.heap

@@ -22,7 +22,7 @@ use Rattle.jc_machine.specs.Guarded.{machine_of}
 use Rattle.jc_machine.specs.Storable.{FieldsHoldStorable}
 use Rattle.jc_machine.specs.Lookup.{declared_at}
 use Rattle.jc_machine.specs.Machine.{Frame, Machine, MethodPlace, NativeAnswer, NativeCall}
-use Rattle.jc_machine.specs.Machine.{NativeEnd, Next, Outcome, Surroundings, Touch}
+use Rattle.jc_machine.specs.Machine.{NativeEnd, Next, Outcome, Surroundings, Touch, last_denied}
 use Rattle.jc_machine.specs.Natives.{IsGuardedAnswer}
 use Rattle.jc_machine.specs.Step.{Called, CallEnd, Gave, RanOut, Start, Threw, WasStuck, after_first_native, begun}
 use Rattle.jc_machine.specs.Step.{begun_by, called_so_far, continued, defensive_step, ended_by, first_answer, may_begin}
@@ -30,6 +30,7 @@ use Rattle.jc_machine.specs.Step.{native_called, native_ended, native_started, n
 use Rattle.jc_machine.specs.Step.{runtime_call, started, started_by, steps_of}
 use Rattle.jc_machine.specs.declared.stop.Budget.{Budget}
 use Rattle.jc_machine.specs.declared.stop.CodePoint.{CodePoint}
+use Rattle.jc_machine.specs.declared.stop.DeniedAccess.{DeniedAccess}
 use Rattle.jc_names.specs.declared.name.MethodName.{MethodName}
 use Rattle.jc_names.specs.declared.name.MethodName.TheVariants.{Api, Loaded}
 use Rattle.jc_names.specs.declared.owner.Owner.{Owner}
@@ -61,7 +62,7 @@ module _ (laws : StepsGuarded) (c : CardState) (owner : Owner) where
 
   abbrev led_end : ℕ → Machine Kept → List Touch → CallEnd Kept → Type 0
   led_end n m touches (Gave after value) = AreLed n m touches after
-  led_end n m touches (Threw after object at) = AreLed n m touches after
+  led_end n m touches (Threw after object at denied) = AreLed n m touches after
   led_end n m touches (RanOut after lack at) = AreLed n m touches after
   led_end n m touches WasStuck = Unit {0}
 
@@ -113,18 +114,19 @@ module _ (laws : StepsGuarded) (c : CardState) (owner : Owner) where
         → led_end (suc n) m ((defensive_step s m).touches ++ more) ends
     end_joined more ends h1 = grind (arith, led_on)
 
-  by_outcome : (n : ℕ) (m : Machine Kept) (lacking : Budget) (at : Option CodePoint) (o : Outcome Kept)
-      → (defensive_step s m).outcome ≡ o → ((next : Machine Kept) → leads_to n next (steps_of s n next))
+  by_outcome : (n : ℕ) (m : Machine Kept) (lacking : Budget) (at : Option CodePoint) (denied : Option DeniedAccess)
+      (o : Outcome Kept) → (defensive_step s m).outcome ≡ o
+      → ((next : Machine Kept) → leads_to n next (steps_of s n next))
       → leads_to (suc n) m
-      (called_so_far (defensive_step s m).touches (continued lacking at (steps_of s n) o))
-  by_outcome n m lacking at o h1 h2 = grind (arith, end_joined, end_led)
+      (called_so_far (defensive_step s m).touches (continued lacking at denied (steps_of s n) o))
+  by_outcome n m lacking at denied o h1 h2 = grind (arith, end_joined, end_led)
 
   steps_lead : (n : ℕ) (m : Machine Kept) → leads_to n m (steps_of s n m)
   unfolding steps_of
   steps_lead zero m = record { steps = spent m; fit = λ p. p; plain = λ p. spent m }
   steps_lead (suc n) m =
-      by_outcome n m (room_lacking s (m.top ∷ m.waiting)) (Some (point_of m.top)) (defensive_step s m).outcome refl
-      (steps_lead n)
+      by_outcome n m (room_lacking s (m.top ∷ m.waiting)) (Some (point_of m.top))
+      (last_denied (defensive_step s m).touches) (defensive_step s m).outcome refl (steps_lead n)
 
   -- ---- a call
 
@@ -148,7 +150,7 @@ module _ (laws : StepsGuarded) (c : CardState) (owner : Owner) where
   module _ (arguments : List TaggedValue) (name : MethodName) where
     abbrev call_end : List Touch → CallEnd Kept → Type 0
     call_end touches (Gave after value) = IsCallLed arguments name touches after
-    call_end touches (Threw after object at) = IsCallLed arguments name touches after
+    call_end touches (Threw after object at denied) = IsCallLed arguments name touches after
     call_end touches (RanOut after lack at) = IsCallLed arguments name touches after
     call_end touches WasStuck = Unit {0}
 
@@ -210,15 +212,15 @@ module _ (laws : StepsGuarded) (c : CardState) (owner : Owner) where
         → IsCallLed arguments called touches m → call_end arguments called touches (cond b (Gave m value) WasStuck)
     gave_leads called touches m value b h1 = grind arith
 
-    threw_leads : (called : MethodName) (touches : List Touch) (m : Machine Kept) (object : ℕ) (b : Bool)
-        → IsCallLed arguments called touches m
-        → call_end arguments called touches (cond b (Threw m object None) WasStuck)
-    threw_leads called touches m object b h1 = grind arith
+    threw_leads : (called : MethodName) (touches : List Touch) (m : Machine Kept) (object : ℕ)
+        (denied : Option DeniedAccess) (b : Bool) → IsCallLed arguments called touches m
+        → call_end arguments called touches (cond b (Threw m object None denied) WasStuck)
+    threw_leads called touches m object denied b h1 = grind arith
 
-    native_ended_leads : (touches : List Touch) (m : Machine Kept) (member : ℕ) (ends : NativeEnd)
-        → IsCallLed arguments (Api member) touches m
-        → call_end arguments (Api member) touches (native_ended s m member ends)
-    native_ended_leads touches m member ends h1 = grind (arith, gave_leads, threw_leads)
+    native_ended_leads : (touches : List Touch) (m : Machine Kept) (member : ℕ) (denied : Option DeniedAccess)
+        (ends : NativeEnd) → IsCallLed arguments (Api member) touches m
+        → call_end arguments (Api member) touches (native_ended s m member denied ends)
+    native_ended_leads touches m member denied ends h1 = grind (arith, gave_leads, threw_leads)
 
     -- behind a native member
     module _ (member : ℕ) where
@@ -254,7 +256,8 @@ module _ (laws : StepsGuarded) (c : CardState) (owner : Owner) where
       }
 
       native_leads : from arguments (Api member) (native_called s start member a)
-      native_leads = native_ended_leads a.touches (after_first_native start a) member a.ends member_led
+      native_leads =
+          native_ended_leads a.touches (after_first_native start a) member (last_denied a.touches) a.ends member_led
 
     native_started_leads : (steps member : ℕ) → from arguments (Api member) (native_started s steps start member)
     native_started_leads zero member = none_led arguments (Api member) (no_frame owner) refl
@@ -305,7 +308,8 @@ module _ (laws : StepsGuarded) (c : CardState) (owner : Owner) where
           → ((p : IsApartCard c) (context : ℕ) → stays_out context ended.ran ≡ true
           → EndKeeps laws context c owner p c.heap ends) → IfSome (ended_call c ended ends) (IsPart order c)
       ended_part ended (Gave m value) h keeps = left_apart ended m (Normally value) h keeps
-      ended_part ended (Threw m object at) h keeps = left_apart ended m (Uncaught object at) h keeps
+      ended_part ended (Threw m object at denied) h keeps =
+          left_apart ended m (Uncaught object at denied) h keeps
       ended_part ended (RanOut m lack at) h keeps = left_apart ended m (OutOfBudget lack at) h keeps
       ended_part ended WasStuck h keeps = tt
 

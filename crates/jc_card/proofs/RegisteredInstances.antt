@@ -160,7 +160,7 @@ ended_registers c called e h = grind arith
 
 failure_has : (c : CardState) (ended : Ended) → HasStatus c 0x6F00 ended (installs.failure_of c ended).status
 failure_has c (Normally value) = by_itself value
-failure_has c (Uncaught number at) = thrown_has c 0x6F00 number at
+failure_has c (Uncaught number at denied) = thrown_has c 0x6F00 number at denied
 failure_has c (OutOfBudget spent at) = by_budget spent at
 
 take_front : {A : Type 0} (xs ys : List A) → take (length xs) (xs ++ ys) ≡ xs
@@ -225,8 +225,9 @@ module _ (c : CardState) where
         → has_registered k ≡ false → Settled ended
     by_same (Normally value) e same unmet =
         fails (Normally value) e unmet (ap (λ (b : Bool). kept_instances k.instances (b && true)) unmet ∙ same) (λ v f. same)
-    by_same (Uncaught number at) e same unmet =
-        fails (Uncaught number at) e refl (ap (λ (b : Bool). kept_instances k.instances (b && true)) unmet ∙ same)
+    by_same (Uncaught number at denied) e same unmet =
+        fails (Uncaught number at denied) e refl
+        (ap (λ (b : Bool). kept_instances k.instances (b && true)) unmet ∙ same)
         (λ v f. same)
     by_same (OutOfBudget spent at) e same unmet =
         fails (OutOfBudget spent at) e refl (ap (λ (b : Bool). kept_instances k.instances (b && true)) unmet ∙ same)
@@ -246,7 +247,8 @@ module _ (c : CardState) where
           succeeded call value instance (sym e)
           (ap (answer_if (Normally value)) met ∙ ap HasNumber (sym number))
           (ap (λ (b : Bool). kept_instances k.instances (b && not b)) met ∙ more) refl
-      by_more (Uncaught number at) e is = fails (Uncaught number at) e refl without_it (λ v f. absurd cc)
+      by_more (Uncaught number at denied) e is =
+          fails (Uncaught number at denied) e refl without_it (λ v f. absurd cc)
       by_more (OutOfBudget spent at) e is = fails (OutOfBudget spent at) e refl without_it (λ v f. absurd cc)
 
     settled_so : MayRegister call.before.kept k → Settled call.called.value

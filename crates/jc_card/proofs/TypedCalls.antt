@@ -45,7 +45,7 @@ use Rattle.jc_card.specs.declared.calls.AppletCall.TheVariants.{Select, Deselect
 ended_typed : (c : CardState) → IsTypedCard c → (selected : Option ℕ) (called : Called Kept)
     (e : CallEnd Kept) → EndsTyped (around c selected) e → GivesTyped (ended_call c called e)
 ended_typed c t selected called (Gave m value) e = left_typed c t selected m e.beside
-ended_typed c t selected called (Threw m object at) e = left_typed c t selected m e
+ended_typed c t selected called (Threw m object at denied) e = left_typed c t selected m e
 ended_typed c t selected called (RanOut m spent at) e = left_typed c t selected m e
 ended_typed c t selected touches WasStuck e = absurd e
 

@@ -2,7 +2,7 @@
 use Rattle.std.proofs.Common.{◌≡◌, ◌⊎◌, inl, inr, ℕ, suc, ◌==◌, ◌&&◌, Bool, true, false, not, List, [], ◌∷◌, ◌++◌}
 use Rattle.std.proofs.Common.{length, nat_le}
 use Rattle.std.proofs.Common.{Option, Some, None, IfSome, is_some, refl, sym, ap, ◌∙◌, subst, Result, Ok, Err, nat_lt}
-use Rattle.std.specs.Option.{option_map, option_map_or}
+use Rattle.std.specs.Option.{option_map_or}
 use Rattle.jc_base.specs.declared.fault.LoadFault.{LoadFault}
 use Rattle.jc_link.specs.Linked.{Linked, most_in_world}
 use Rattle.jc_machine.proofs.AlikeLaws.{alike_itself, as_large, as_long}
@@ -23,7 +23,8 @@ use Rattle.jc_card.proofs.LeadingWrites.{write_part}
 use Rattle.jc_card.proofs.Owners.{buffer_is_global, install_is_global, next_number_fits, not_refused_few}
 use Rattle.jc_card.proofs.Owners.{place_has_number}
 use Rattle.jc_card.proofs.UnseenParts.{Any, Thrown, Unseen, call_unseen, clear_unseen, gives_unseen, if_unseen}
-use Rattle.jc_card.proofs.UnseenParts.{known_unseen, same_seen, selected_unseen, then_unseen, write_unseen}
+use Rattle.jc_card.proofs.UnseenParts.{known_unseen, same_cause, same_seen, selected_unseen, then_unseen}
+use Rattle.jc_card.proofs.UnseenParts.{write_unseen}
 use Rattle.jc_card.proofs.Worlds.{StaysIn, deselect_stays}
 use Rattle.jc_card.specs.Accesses.{IsApartCard}
 use Rattle.jc_card.specs.Card.{CardState, selected_instance, with_heap, with_kept, with_selected}
@@ -55,7 +56,7 @@ module _ (context : ℕ) where
     status_same : (ended : Ended) → Thrown context c ended
         → commands.status_of (with_heap c heap) ended ≡ commands.status_of c ended
     status_same (Normally value) known = refl
-    status_same (Uncaught number at) known =
+    status_same (Uncaught number at denied) known =
         ap (λ (o : Option (Object TaggedValue)). option_map_or (commands.status_of_thrown c) o unknown_error)
         (same_seen context c.heap heap alike number known)
     status_same (OutOfBudget spent at) known = refl
@@ -63,19 +64,21 @@ module _ (context : ℕ) where
     cause_same : (ended : Ended) → Thrown context c ended
         → causes.cause_of (with_heap c heap) ended ≡ causes.cause_of c ended
     cause_same (Normally value) known = refl
-    cause_same (Uncaught number at) known =
-        ap (λ (o : Option (Object TaggedValue)). option_map (causes.thrown_cause at) o)
-        (same_seen context c.heap heap alike number known)
+    cause_same (Uncaught number at denied) known = same_cause context c.heap heap alike number at denied known
     cause_same (OutOfBudget spent at) known = refl
 
     installed_same : (owner : Owner) (ended : Ended) → Thrown context c ended
         → installs.installed (with_heap c heap) owner ended ≡ installs.installed c owner ended
     installed_same owner (Normally value) known = refl
-    installed_same owner (Uncaught number at) known =
-        ap (λ (o : Option (Object TaggedValue)). installs.Refused (faults.InstallFailed (record {
-          status = option_map_or (commands.status_of_thrown c) o unknown_error;
-          cause = option_map (causes.thrown_cause at) o;
-        }))) (same_seen context c.heap heap alike number known)
+    installed_same owner (Uncaught number at denied) known =
+        ap (λ (status : ℕ). installs.Refused (faults.InstallFailed (record {
+          status = status;
+          cause = causes.uncaught_cause heap number at denied;
+        }))) (status_same (Uncaught number at denied) known)
+        ∙ ap (λ (cause : Option Cause). installs.Refused (faults.InstallFailed (record {
+          status = commands.status_of c (Uncaught number at denied);
+          cause = cause;
+        }))) (cause_same (Uncaught number at denied) known)
     installed_same owner (OutOfBudget spent at) known = refl
 
   -- ---- selection
@@ -126,7 +129,7 @@ module _ (context : ℕ) where
           thrown_still : (ended : Ended) → Thrown context c ended
               → Thrown context (with_kept c (without_command c.kept)) ended
           thrown_still (Normally value) known = tt
-          thrown_still (Uncaught number at) known = known
+          thrown_still (Uncaught number at denied) known = known
           thrown_still (OutOfBudget spent at) known = tt
 
       process_unseen : (c : CardState) (heap : Heap TaggedValue) → AreAlike context c.heap heap → IsApartCard c

@@ -5,12 +5,15 @@ use Rattle.std.proofs.Common.{Option, Some, None, refl, sym, ap, ◌∙◌, subs
 use Rattle.std.proofs.lemmas.List.{length-map}
 use Rattle.std.proofs.lemmas.Option.{same_Some}
 use Rattle.std.specs.Option.{option_and_then, option_map, option_map_or}
+use Rattle.jc_firewall.specs.declared.access.Denial.{Denial}
 use Rattle.jc_machine.proofs.AlikeLaws.{AlikeAt, as_cells, at_alike, with_cells}
 use Rattle.jc_machine.specs.Apart.{is_applets}
 use Rattle.jc_machine.specs.Machine.{Touch}
 use Rattle.jc_machine.specs.Step.{CallEnd, Called, Gave, RanOut, Start, Threw, WasStuck, runtime_call}
 use Rattle.jc_machine.specs.Unseen as unseen
 use Rattle.jc_machine.specs.Unseen.{AreAlike, CallsAlike, EndsAlike, IsAlike, IsSeen, from_objects, stays_out}
+use Rattle.jc_machine.specs.declared.stop.CodePoint.{CodePoint}
+use Rattle.jc_machine.specs.declared.stop.DeniedAccess.{DeniedAccess}
 use Rattle.jc_names.specs.declared.name.MethodName.{MethodName}
 use Rattle.jc_names.specs.declared.owner.Owner.{Owner}
 use Rattle.jc_natives.proofs.AlikeLaws.{put_all_both}
@@ -27,6 +30,7 @@ use Rattle.jc_card.proofs.ContentsKept.{both_out}
 use Rattle.jc_card.proofs.Owners.{selected_owner}
 use Rattle.jc_card.specs.Accesses.{IsApartCard}
 use Rattle.jc_card.specs.Card.{CardState, around, left_by, selected_instance, with_heap}
+use Rattle.jc_card.specs.Causes.{denial_in, denial_of, thrown_cause, uncaught_cause}
 use Rattle.jc_card.specs.Parts.{Ended, Left, Normally, OutOfBudget, Uncaught, and_then, arguments_of, behind, start_on}
 use Rattle.jc_card.specs.Parts.{call_applet}
 use Rattle.jc_card.specs.Parts.{call_method, call_on, call_selected, clear, clearing_touches, ended_call, gives}
@@ -47,6 +51,32 @@ same_seen context H K alike n seen = by_objects (object_at H n) (object_at K n) 
     by_objects None (Some p) e a = absurd a
     by_objects (Some o) None e a = absurd a
 
+-- a denial names its object's owner, which isn't hidden
+same_owner : (context : ℕ) (denied : DeniedAccess) (x y : Option (Object TaggedValue)) → AlikeAt context x y
+    → option_map (denial_of denied) y ≡ option_map (denial_of denied) x
+same_owner context denied None None a = refl
+same_owner context denied (Some o) (Some p) a =
+    ap (λ (q : Object TaggedValue). Some (denial_of denied q)) (as_cells context o p a)
+same_owner context denied None (Some p) a = absurd a
+same_owner context denied (Some o) None a = absurd a
+
+same_denial : (context : ℕ) (H K : Heap TaggedValue) → AreAlike context H K → (denied : Option DeniedAccess)
+    → option_and_then (denial_in K) denied ≡ option_and_then (denial_in H) denied
+same_denial context H K alike None = refl
+same_denial context H K alike (Some denied) =
+    same_owner context denied (object_at H denied.object) (object_at K denied.object)
+    (at_alike context H K alike denied.object)
+
+-- the same cause, if what nothing caught isn't hidden
+pub same_cause : (context : ℕ) (H K : Heap TaggedValue) → AreAlike context H K → (number : ℕ) (at : Option CodePoint)
+    (denied : Option DeniedAccess) → IsSeen context H number
+    → uncaught_cause K number at denied ≡ uncaught_cause H number at denied
+same_cause context H K alike number at denied seen =
+    ap (λ (o : Option (Object TaggedValue)). option_map (thrown_cause at (option_and_then (denial_in K) denied)) o)
+    (same_seen context H K alike number seen)
+    ∙ ap (λ (d : Option Denial). option_map (thrown_cause at d) (object_at H number))
+    (same_denial context H K alike denied)
+
 module _ (context : ℕ) where
   -- another one is left, of which this is known
   pub record Like {A : Type 0} (Known : CardState → A → Type 0) (l : Left A) (other : Option (Left A)) : Type 0 where
@@ -66,7 +96,7 @@ module _ (context : ℕ) where
   -- what nothing caught isn't hidden
   abbrev pub Thrown : CardState → Ended → Type 0
   Thrown c (Normally value) = ⊤
-  Thrown c (Uncaught object at) = IsSeen context c.heap object
+  Thrown c (Uncaught object at denied) = IsSeen context c.heap object
   Thrown c (OutOfBudget spent at) = ⊤
 
   -- ---- one part after the other
@@ -220,9 +250,9 @@ module _ (context : ℕ) where
     ends_unseen called other e f (unseen.gave m heap2 value a) same ran =
         known_unseen Thrown _ _ heap2 a
         (left_both called other same ran (with_heap (left_by c m) heap2) (Normally value)) tt
-    ends_unseen called other e f (unseen.threw m heap2 object at a seen) same ran =
+    ends_unseen called other e f (unseen.threw m heap2 object at denied a seen) same ran =
         known_unseen Thrown _ _ heap2 a
-        (left_both called other same ran (with_heap (left_by c m) heap2) (Uncaught object at)) seen
+        (left_both called other same ran (with_heap (left_by c m) heap2) (Uncaught object at denied)) seen
     ends_unseen called other e f (unseen.ran_out m heap2 spent at a) same ran =
         known_unseen Thrown _ _ heap2 a
         (left_both called other same ran (with_heap (left_by c m) heap2) (OutOfBudget spent at)) tt
@@ -231,7 +261,7 @@ module _ (context : ℕ) where
     ran_of : (called : Called Kept) (ends : CallEnd Kept) (l : Left Ended) → ended_call c called ends ≡ Some l
         → called.ran ≡ l.ran
     ran_of called (Gave m value) l e = ap (λ (z : Left Ended). z.ran) (same_Some _ l e)
-    ran_of called (Threw m object at) l e = ap (λ (z : Left Ended). z.ran) (same_Some _ l e)
+    ran_of called (Threw m object at denied) l e = ap (λ (z : Left Ended). z.ran) (same_Some _ l e)
     ran_of called (RanOut m spent at) l e = ap (λ (z : Left Ended). z.ran) (same_Some _ l e)
     ran_of called WasStuck l e = absurd cc
 

@@ -6,6 +6,7 @@ use Rattle.jc_machine.specs.Lookup.{is_of_class}
 use Rattle.jc_machine.specs.Machine.{Touch}
 use Rattle.jc_machine.specs.declared.stop.Budget.{Budget}
 use Rattle.jc_machine.specs.declared.stop.CodePoint.{CodePoint}
+use Rattle.jc_machine.specs.declared.stop.DeniedAccess.{DeniedAccess}
 use Rattle.jc_names.specs.declared.name.ClassName.TheVariants.{Api}
 use Rattle.jc_names.specs.declared.owner.Owner.{Owner}
 use Rattle.jc_natives.specs.Kept.{without_command}
@@ -31,14 +32,14 @@ use Rattle.jc_card.specs.declared.places.AppletPlace.{AppletPlace}
 -- for another object, and for a spent budget, it is 6F00, without a precise diagnosis
 pub data HasStatus (c : CardState) (done : ℕ) : Ended → ℕ → Type 0 where
   by_itself : (value : Option TaggedValue) → HasStatus c done (Normally value) done
-  by_reason : (number : ℕ) (at : Option CodePoint) (o : Object TaggedValue) → object_at c.heap number ≡ Some o
-      → is_of_class c.world.shapes (Api IsoException) o.kind.object_type ≡ true
-      → HasStatus c done (Uncaught number at) (reason_of o)
-  by_another : (number : ℕ) (at : Option CodePoint) (o : Object TaggedValue) → object_at c.heap number ≡ Some o
-      → is_of_class c.world.shapes (Api IsoException) o.kind.object_type ≡ false
-      → HasStatus c done (Uncaught number at) 0x6F00
-  by_none : (number : ℕ) (at : Option CodePoint) → object_at c.heap number ≡ None
-      → HasStatus c done (Uncaught number at) 0x6F00
+  by_reason : (number : ℕ) (at : Option CodePoint) (denied : Option DeniedAccess) (o : Object TaggedValue)
+      → object_at c.heap number ≡ Some o → is_of_class c.world.shapes (Api IsoException) o.kind.object_type ≡ true
+      → HasStatus c done (Uncaught number at denied) (reason_of o)
+  by_another : (number : ℕ) (at : Option CodePoint) (denied : Option DeniedAccess) (o : Object TaggedValue)
+      → object_at c.heap number ≡ Some o → is_of_class c.world.shapes (Api IsoException) o.kind.object_type ≡ false
+      → HasStatus c done (Uncaught number at denied) 0x6F00
+  by_none : (number : ℕ) (at : Option CodePoint) (denied : Option DeniedAccess) → object_at c.heap number ≡ None
+      → HasStatus c done (Uncaught number at denied) 0x6F00
   by_budget : (spent : Budget) (at : Option CodePoint) → HasStatus c done (OutOfBudget spent at) 0x6F00
 
 -- ---- a command

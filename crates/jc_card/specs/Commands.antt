@@ -41,7 +41,8 @@ status_of_thrown c object =
 
 abbrev pub status_of : CardState → Ended → ℕ
 status_of c (Normally value) = normal
-status_of c (Uncaught number at) = option_map_or (status_of_thrown c) (object_at c.heap number) unknown_error
+status_of c (Uncaught number at denied) =
+    option_map_or (status_of_thrown c) (object_at c.heap number) unknown_error
 status_of c (OutOfBudget spent at) = unknown_error
 
 -- ---- selection
@@ -59,7 +60,7 @@ deselect c = and_then (call_selected c Deselect) (λ c ended. unselect c)
 -- an applet agrees to be selected if its select method returns a word that isn't 0
 abbrev pub agrees : Ended → Bool
 agrees (Normally value) = option_map_or (λ v. not (bits v == 0)) value false
-agrees (Uncaught object at) = false
+agrees (Uncaught object at denied) = false
 agrees (OutOfBudget spent at) = false
 
 -- ---- the selected applet gets the command

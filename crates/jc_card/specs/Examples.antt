@@ -1,6 +1,6 @@
 -- A card for examples, with a small package. Its applet registers when it is installed, and answers each command with
 -- no data and the normal status.
-use Rattle.std.specs.Prelude.{ℕ, List, [], ◌∷◌, Option, map}
+use Rattle.std.specs.Prelude.{ℕ, List, [], ◌∷◌, Option, None, map}
 use Rattle.std.specs.Option.{option_and_then, option_map}
 use Rattle.jc_api.specs.Bound.{default_binding}
 use Rattle.jc_machine.specs.Machine.{Touch}
@@ -11,6 +11,10 @@ use Rattle.jc_card.specs.Install.{Installed, install_command}
 use Rattle.jc_card.specs.New.{new_card}
 use Rattle.jc_card.specs.Parts.{Left}
 use Rattle.jc_machine.specs.declared.limits.Limits.{Limits}
+use Rattle.jc_store.specs.Heap.{Object}
+use Rattle.jc_store.specs.declared.kind.Mark.TheVariants.{Plain}
+use Rattle.jc_store.specs.declared.kind.ObjectType.TheVariants.{ShortArray}
+use Rattle.jc_words.specs.Values.{TaggedValue, Word}
 
 -- ---- the card
 
@@ -38,6 +42,16 @@ select_of aid = 0x00 ∷ 0xA4 ∷ 0x04 ∷ 0x00 ∷ 6 ∷ aid
 -- a command of a header alone
 abbrev pub header_alone : List ℕ
 header_alone = 0x80 ∷ 0x01 ∷ 0x00 ∷ 0x00 ∷ []
+
+-- ---- objects
+
+-- an array of shorts of an owner, with one component
+abbrev pub held_by : ℕ → ℕ → ℕ → Object TaggedValue
+held_by context instance word = record {
+  kind = record { object_type = ShortArray; mark = Plain; clears = None };
+  owner = record { context = context; instance = instance };
+  cells = Word word ∷ [];
+}
 
 -- ---- the results that are shown
 

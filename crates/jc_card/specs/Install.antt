@@ -80,13 +80,14 @@ pub data Installed : Type 0 where
 -- whether the method ended, and the instance registered
 abbrev pub succeeds : CardState → Ended → Bool
 succeeds c (Normally value) = has_registered c.kept
-succeeds c (Uncaught object at) = false
+succeeds c (Uncaught object at denied) = false
 succeeds c (OutOfBudget spent at) = false
 
 -- the status of an install that failed: that of an ISOException that nothing caught, if there was one
 abbrev pub failure_status : CardState → Ended → ℕ
 failure_status c (Normally value) = unknown_error
-failure_status c (Uncaught number at) = option_map_or (status_of_thrown c) (object_at c.heap number) unknown_error
+failure_status c (Uncaught number at denied) =
+    option_map_or (status_of_thrown c) (object_at c.heap number) unknown_error
 failure_status c (OutOfBudget spent at) = unknown_error
 
 -- the failure of an install: its status and cause

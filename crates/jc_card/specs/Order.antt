@@ -9,7 +9,7 @@ use Rattle.jc_cap.specs.declared.method_header.MethodHeader.{MethodHeader}
 use Rattle.jc_classes.specs.Members.{DeclaredMethod}
 use Rattle.jc_firewall.specs.Verdict.{runtime_context, verdict_of}
 use Rattle.jc_link.specs.Linked.{World}
-use Rattle.jc_machine.specs.Calls.{frame_of}
+use Rattle.jc_machine.specs.Calls.{frame_of, native_call}
 use Rattle.jc_machine.specs.Going.{facts_for}
 use Rattle.jc_machine.specs.Guarded.{ChangesAccessed, are_allowed, asked_by}
 use Rattle.jc_machine.specs.Lookup.{declared_at}
@@ -31,7 +31,8 @@ use Rattle.jc_store.specs.Heap.{Heap, Object, is_cleared_by, object_at}
 use Rattle.jc_store.specs.declared.kind.ClearingEvent.{ClearingEvent}
 use Rattle.jc_store.specs.declared.kind.ClearingEvent.TheVariants as events
 use Rattle.jc_words.specs.Values.{Ref, TaggedValue, Word}
-use Rattle.jc_card.specs.Card.{CardState, around, left_by, selected_instance, with_heap, with_kept, with_selected}
+use Rattle.jc_card.specs.Card.{CardState, around, beside, left_by, selected_instance, with_heap, with_kept}
+use Rattle.jc_card.specs.Card.{with_selected}
 use Rattle.jc_card.specs.Command.{Command, command_of}
 use Rattle.jc_card.specs.Commands.{selected_by}
 use Rattle.jc_card.specs.Install.{applet_of, next_owner}
@@ -121,16 +122,8 @@ machine_with c f = record { heap = c.heap; statics = c.statics; runtime = c.kept
 
 -- the call of a native member as an owner, with no previous owner
 abbrev pub call_as : CardState → Owner → ℕ → List TaggedValue → NativeCall Kept
-call_as c owner member arguments = record {
-  member = member;
-  arguments = arguments;
-  active = owner;
-  previous = None;
-  heap = c.heap;
-  runtime = c.kept;
-  selected = Some owner.context;
-  limits = c.limits;
-}
+call_as c owner member arguments =
+    native_call (around c (Some owner.context)) (beside c owner) owner None member arguments
 
 -- a call of a method as an owner, whose context counts as the selected one: the steps of a package's method, from the
 -- frame at its start; no step, if there is no room for that frame or no step is left; or a native member

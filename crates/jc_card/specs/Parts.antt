@@ -7,6 +7,7 @@ use Rattle.jc_machine.specs.Runtime.{apdu_object}
 use Rattle.jc_machine.specs.Step.{Called, CallEnd, Gave, RanOut, Start, Threw, WasStuck, runtime_call}
 use Rattle.jc_machine.specs.declared.stop.Budget.{Budget}
 use Rattle.jc_machine.specs.declared.stop.CodePoint.{CodePoint}
+use Rattle.jc_machine.specs.declared.stop.DeniedAccess.{DeniedAccess}
 use Rattle.jc_names.specs.declared.name.MethodName.{MethodName}
 use Rattle.jc_names.specs.declared.owner.Owner.{Owner}
 use Rattle.jc_natives.specs.Cells.{put_all}
@@ -47,11 +48,11 @@ and_then (Some l) next = option_map (behind l.touches l.ran) (next l.card l.valu
 
 -- ---- calls
 
--- the end of a call of the runtime: what nothing caught, and where it was thrown; what is spent, and where a frame
--- stood
+-- the end of a call of the runtime: what nothing caught, where it was thrown, and the last access of that step or
+-- member, if it was denied; what is spent, and where a frame stood
 pub data Ended : Type 0 where
   Normally : (value : Option TaggedValue) → Ended
-  Uncaught : (object : ℕ) (at : Option CodePoint) → Ended
+  Uncaught : (object : ℕ) (at : Option CodePoint) (denied : Option DeniedAccess) → Ended
   OutOfBudget : (spent : Budget) (at : Option CodePoint) → Ended
 
 abbrev pub left_so : CardState → Called Kept → Machine Kept → Ended → Option (Left Ended)
@@ -60,7 +61,7 @@ left_so c called m value =
 
 abbrev pub ended_call : CardState → Called Kept → CallEnd Kept → Option (Left Ended)
 ended_call c called (Gave m value) = left_so c called m (Normally value)
-ended_call c called (Threw m object at) = left_so c called m (Uncaught object at)
+ended_call c called (Threw m object at denied) = left_so c called m (Uncaught object at denied)
 ended_call c called (RanOut m spent at) = left_so c called m (OutOfBudget spent at)
 ended_call c called WasStuck = None
 

@@ -73,14 +73,15 @@ pub record GaveSo (word : Option ℕ) (value : Option TaggedValue) : Type 0 wher
 
 abbrev pub ReadsEnded : RunEnd → Ended → Type 0
 ReadsEnded (Gave word) (Normally value) = GaveSo word value
-ReadsEnded (Threw object point) (Uncaught number at) = (object ≡ number) × (point ≡ at)
+ReadsEnded (Threw object point found) (Uncaught number at denied) =
+    (object ≡ number) × (point ≡ at) × (found ≡ denied)
 ReadsEnded (RanOut budget point) (OutOfBudget spent at) = (budget ≡ spent) × (point ≡ at)
-ReadsEnded (Gave word) (Uncaught number at) = ⊥
+ReadsEnded (Gave word) (Uncaught number at denied) = ⊥
 ReadsEnded (Gave word) (OutOfBudget spent at) = ⊥
-ReadsEnded (Threw object point) (Normally value) = ⊥
-ReadsEnded (Threw object point) (OutOfBudget spent at) = ⊥
+ReadsEnded (Threw object point found) (Normally value) = ⊥
+ReadsEnded (Threw object point found) (OutOfBudget spent at) = ⊥
 ReadsEnded (RanOut budget point) (Normally value) = ⊥
-ReadsEnded (RanOut budget point) (Uncaught number at) = ⊥
+ReadsEnded (RanOut budget point) (Uncaught number at denied) = ⊥
 
 -- no result
 abbrev pub GivesNothing : Unit {0} → Type 0

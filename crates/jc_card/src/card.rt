@@ -1,6 +1,5 @@
 //! The card.
 
-use jc_firewall::Denial;
 use jc_interp::{ShownFrame, WordMachine};
 use jc_link::World;
 use jc_names::Owner;
@@ -20,8 +19,6 @@ pub struct Card {
     pub(crate) most_objects: u16,
     pub(crate) most_cells: u16,
     pub(crate) steps: u32,
-    /// The firewall's denial of the SecurityException with which the last call ended.
-    pub(crate) denial: Option<Denial>,
     /// The frame in which the last call stopped, if it didn't end normally.
     pub(crate) stopped: ShownFrame,
 }

@@ -143,7 +143,6 @@ impl Card {
             selected,
             self.steps,
             &first,
-            &mut self.denial,
             &mut self.stopped,
         )
     }

@@ -34,7 +34,7 @@ pub use answer::{Answer, MOST_SENT};
 pub use answers::commands_are_answered;
 pub use card::Card;
 pub use cause::Cause;
-pub use examples::{applets_are_installed, applets_are_selected};
+pub use examples::{applets_are_installed, applets_are_selected, denials_name_the_owner};
 pub use fault::{CardFault, Failure, InstallFault};
 pub use laws::bytes_are_low;
 pub use typed::commands_are_never_stuck;

@@ -56,7 +56,6 @@ impl Card {
             most_objects: limits.objects,
             most_cells: limits.cells,
             steps: limits.steps,
-            denial: None,
             stopped: ShownFrame::none(),
         })
     }

@@ -37,7 +37,7 @@ use Rattle.jc_loop.specs.Words.{Continues, Divides, Outcome as WordOutcome, Word
 use Rattle.jc_loop.specs.Words as words
 use Rattle.jc_loop.specs.declared.environment.FrameEnvironment.{FrameEnvironment}
 use Rattle.jc_machine.specs.Going.{StepContext, check, moved, on_some, with_top}
-use Rattle.jc_machine.specs.Machine.{Frame, Machine, Next, Outcome, Stepped, Stuck, Throws, Ends}
+use Rattle.jc_machine.specs.Machine.{Frame, Machine, Next, Outcome, Stepped, Stuck, Throws, Ends, last_denied}
 use Rattle.jc_machine.specs.Returns.{returns_to, returns_value}
 use Rattle.jc_machine.specs.Runtime.{arithmetic_exception}
 use Rattle.jc_machine.specs.Step.{CallEnd, continued}
@@ -221,10 +221,12 @@ module _ (code : List ℕ) (typing : Typing) (t : IsTyping word_rules (word_meth
     place = here_alone before stands.instr.instr
 
     step_ends : (o : Outcome ⊤) → (alone_step listing before).outcome ≡ o
-        → (continued FrameWords None (alone_steps listing left) o).ends ≡ end
+        → (continued FrameWords None (last_denied (alone_step listing before).touches) (alone_steps listing left) o).ends
+        ≡ end
     unfolding alone_steps
-    step_ends o is = sym (ap (λ (x : Outcome ⊤). (continued FrameWords None (alone_steps listing left) x).ends) is) ∙
-        g.rest
+    step_ends o is =
+        sym (ap (λ (x : Outcome ⊤). (continued FrameWords None (last_denied (alone_step listing before).touches)
+        (alone_steps listing left) x).ends) is) ∙ g.rest
 
     goes_on : (v : WordFrame) (operation : WordOperation) → alone_step listing before ≡ act_word place operation
         → GoesAlong place (act_word place operation) v → GoesWith v left end
@@ -304,7 +306,7 @@ module _ (code : List ℕ) (typing : Typing) (t : IsTyping word_rules (word_meth
         divided : EndsAs ends.Divided end
         divided =
             subst (EndsAs ends.Divided)
-            (step_ends (Throws before arithmetic_exception) (ap (λ (x : Stepped ⊤). x.outcome) acts_are ∙ comes)) refl
+            (step_ends (Throws before arithmetic_exception) (ap (λ (x : Stepped ⊤). x.outcome) (acts_are ∙ comes))) refl
 
         divides : (it : WordOperation) → done_by w.pc place.next_pc it w ≡ Divides
             → EndsAs (if is_end_of (operations.Word it) then ends.Gave (slice_index w.operands 0) else ends.Divided) end

@@ -21,12 +21,13 @@ use Rattle.jc_types.specs.State.{Types, all_below}
 use Rattle.jc_types.specs.declared.ty.Ty.TheVariants as types
 use Rattle.jc_words.specs.Values.{TaggedValue, Unset, Word}
 use Rattle.jc_machine.specs.Going.{StepContext, check, jumps, moved, on_some, with_top}
-use Rattle.jc_machine.specs.Machine.{Ends, Frame, Machine, Next, Outcome, Stepped, Stuck, Throws, UsedUp}
+use Rattle.jc_machine.specs.Machine.{Ends, Frame, Machine, Next, Outcome, Stepped, Stuck, Throws, UsedUp, last_denied}
 use Rattle.jc_machine.specs.Returns.{returns_to, returns_value}
 use Rattle.jc_machine.specs.Step.{Called, continued}
 use Rattle.jc_machine.specs.TypedWords.{LeavesTyped, KeepWordsTyped, branching, going, returning, throwing}
 use Rattle.jc_machine.specs.Words.{act_word}
 use Rattle.jc_machine.specs.declared.stop.Budget.TheVariants.{FrameWords}
+use Rattle.jc_machine.specs.declared.stop.DeniedAccess.{DeniedAccess}
 use Rattle.jc_eval.specs.Alone.{act_alone, alone_call, alone_method, alone_step, alone_steps, first_machine, here_alone}
 use Rattle.jc_eval.specs.Alone.{nothing_around}
 use Rattle.jc_eval.specs.TypedCode.{EndsTypedAlone, GoesOnTyped, IsTypedAlone, StandsAt, StepsTyped}
@@ -151,28 +152,29 @@ module _ (laws : ListingLaws word_instr_at) (words : KeepWordsTyped ⊤) (code :
 
   -- ---- many steps
 
-  goes_on_safely : (m : Machine ⊤) → IsTypedAlone typing m → (go : Machine ⊤ → Called ⊤) (outcome : Outcome ⊤)
+  goes_on_safely : (m : Machine ⊤) → IsTypedAlone typing m → (go : Machine ⊤ → Called ⊤)
+      (denied : Option DeniedAccess) (outcome : Outcome ⊤)
       → ((after : Machine ⊤) → IsTypedAlone typing after → EndsTypedAlone typing (go after).ends)
-      → StepsTyped typing m outcome → EndsTypedAlone typing (continued FrameWords None go outcome).ends
-  goes_on_safely m typed go (Next after) each h = each after h.typed
-  goes_on_safely m typed go (Throws after object) each h =
+      → StepsTyped typing m outcome → EndsTypedAlone typing (continued FrameWords None denied go outcome).ends
+  goes_on_safely m typed go denied (Next after) each h = each after h.typed
+  goes_on_safely m typed go denied (Throws after object) each h =
       record { typed = subst (λ (x : Machine ⊤). IsTypedAlone typing x) (sym h.same) typed; arithmetic = h.arithmetic }
-  goes_on_safely m typed go (Ends after value) each h = record {
+  goes_on_safely m typed go denied (Ends after value) each h = record {
     typed = subst (λ (x : Machine ⊤). IsTypedAlone typing x) (sym h.same) typed;
     word = h.word;
     small = h.small;
     is = h.is;
   }
-  goes_on_safely m typed go (UsedUp after) each h = absurd h
-  goes_on_safely m typed go Stuck each h = absurd h
+  goes_on_safely m typed go denied (UsedUp after) each h = absurd h
+  goes_on_safely m typed go denied Stuck each h = absurd h
 
   pub runs_safely : (n : ℕ) (m : Machine ⊤) → IsTypedAlone typing m
       → EndsTypedAlone typing (alone_steps t.listing n m).ends
   unfolding alone_steps
   runs_safely zero m typed = typed
   runs_safely (suc n) m typed =
-      goes_on_safely m typed (alone_steps t.listing n) (alone_step t.listing m).outcome (runs_safely n)
-      (steps_safely m typed)
+      goes_on_safely m typed (alone_steps t.listing n) (last_denied (alone_step t.listing m).touches)
+      (alone_step t.listing m).outcome (runs_safely n) (steps_safely m typed)
 
 -- ---- the first machine
 

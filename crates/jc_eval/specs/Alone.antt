@@ -105,21 +105,21 @@ alone_call listing steps = alone_steps listing steps first_machine
 -- it returns this word
 abbrev pub GivesWord : ℕ → CallEnd ⊤ → Type 0
 GivesWord word (Gave m value) = value ≡ Some (Word word)
-GivesWord word (Threw m object at) = ⊥
+GivesWord word (Threw m object at denied) = ⊥
 GivesWord word (RanOut m spent at) = ⊥
 GivesWord word WasStuck = ⊥
 
 -- it throws the exception of a division by zero
 abbrev pub ThrowsArithmetic : CallEnd ⊤ → Type 0
 ThrowsArithmetic (Gave m value) = ⊥
-ThrowsArithmetic (Threw m object at) = object ≡ arithmetic_exception
+ThrowsArithmetic (Threw m object at denied) = object ≡ arithmetic_exception
 ThrowsArithmetic (RanOut m spent at) = ⊥
 ThrowsArithmetic WasStuck = ⊥
 
 -- it has no step left
 abbrev pub UsesUp : CallEnd ⊤ → Type 0
 UsesUp (Gave m value) = ⊥
-UsesUp (Threw m object at) = ⊥
+UsesUp (Threw m object at denied) = ⊥
 UsesUp (RanOut m spent at) = ⊤
 UsesUp WasStuck = ⊥
 

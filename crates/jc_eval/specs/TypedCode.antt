@@ -74,6 +74,6 @@ pub record ThrewArithmetic (typing : Typing) (m : Machine ⊤) (object : ℕ) : 
 -- never stuck: it returns a word, throws that exception, or uses up its steps
 abbrev pub EndsTypedAlone : Typing → CallEnd ⊤ → Type 0
 EndsTypedAlone typing (Gave m value) = GaveWord typing m value
-EndsTypedAlone typing (Threw m object at) = ThrewArithmetic typing m object
+EndsTypedAlone typing (Threw m object at denied) = ThrewArithmetic typing m object
 EndsTypedAlone typing (RanOut m spent at) = IsTypedAlone typing m
 EndsTypedAlone typing WasStuck = ⊥

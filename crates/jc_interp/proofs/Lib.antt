@@ -4,6 +4,7 @@ mod ClassEntries
 mod LoadedMethods
 mod ShortPcs
 mod Footing
+mod LastDenied
 mod Matching
 mod Judging
 mod Tables

@@ -19,7 +19,7 @@ use Rattle.jc_interp.specs.declared.ends.RunEnd.TheVariants as runs
 use Rattle.jc_interp.specs.declared.entering.Owners.{Owners}
 use Rattle.jc_interp.specs.declared.machine.WordMachine.{WordMachine}
 use Rattle.jc_machine.specs.declared.natives.WordOutcome.{WordOutcome}
-use Rattle.jc_machine.specs.declared.natives.WordOutcome.TheVariants.{CallsBack, Returned, Thrown}
+use Rattle.jc_machine.specs.declared.natives.WordOutcome.TheVariants.{AccessDenied, CallsBack, Returned, Thrown}
 use Rattle.jc_machine.specs.declared.stop.Budget.TheVariants.{Steps}
 
 -- the machine without its frames
@@ -40,7 +40,8 @@ EntersFirst p number call u d = (m : LoadedMethod) → slice_get p.methods numbe
 -- how a native member ends a call. It may make none itself
 abbrev pub first_end : WordOutcome → RunEnd
 first_end (Returned value) = runs.Gave value
-first_end (Thrown object) = runs.Threw object None
+first_end (Thrown object) = runs.Threw object None None
+first_end (AccessDenied denied) = runs.Threw 7 None (Some denied)
 first_end (CallsBack callback) = runs.RanOut Steps None
 
 -- what the class of an object has at a token

@@ -9,14 +9,13 @@ ghost use Rattle.jc_interp.specs.Showing.{ShowsCall};
 ghost use Rattle.jc_interp.specs.PrivateCalling.{EntersFirst, called_for, called_on, first_end};
 ghost use Rattle.jc_interp.specs.PrivateDone.{done};
 
-use crate::ends::{RunEnd, StepEnd};
+use crate::ends::{RunEnd, SECURITY_EXCEPTION, StepEnd};
 use crate::entering::{Owners, header_of, size_of};
 use crate::machine::WordMachine;
 use crate::seen::look_at;
 use crate::shown::ShownFrame;
 use crate::step::tables_are_known;
 use jc_entries::{Called, MethodNumber};
-use jc_firewall::Denial;
 use jc_link::World;
 use jc_machine::{Budget, Natives, WordCall, WordOutcome};
 use jc_names::Owner;
@@ -47,7 +46,16 @@ fn native_end(outcome: WordOutcome) -> RunEnd
 {
     match outcome {
         WordOutcome::Returned(value) => RunEnd::Gave(value),
-        WordOutcome::Thrown(object) => RunEnd::Threw { object, at: None },
+        WordOutcome::Thrown(object) => RunEnd::Threw {
+            object,
+            at: None,
+            denied: None,
+        },
+        WordOutcome::AccessDenied(denied) => RunEnd::Threw {
+            object: SECURITY_EXCEPTION,
+            at: None,
+            denied: Some(denied),
+        },
         WordOutcome::CallsBack(_) => NO_STEP,
     }
 }
@@ -123,7 +131,6 @@ impl WordMachine {
         steps: u32,
         call: &FirstCall<'_>,
         number: MethodNumber,
-        denial: &mut Option<Denial>,
         shown: &mut ShownFrame,
     ) -> RunEnd
         requires may_call { MayCall world.now program.now N.meaning selected call.now
@@ -139,8 +146,8 @@ impl WordMachine {
         natives.law();
         accepted_packages_are_type_safe(natives);
         match self.enter_first(program, number, call) {
-            StepEnd::GoesOn => { self.run(natives, world, program, selected, steps, denial, shown) }
-            StepEnd::Throws(_) | StepEnd::Gives(_) | StepEnd::UsedUp => {
+            StepEnd::GoesOn => { self.run(natives, world, program, selected, steps, shown) }
+            StepEnd::Throws(_) | StepEnd::AccessDenied(_) | StepEnd::Gives(_) | StepEnd::UsedUp => {
                 shown.is_there = false;
                 RunEnd::RanOut {
                     spent: self.lacking(),
@@ -192,7 +199,6 @@ impl WordMachine {
         selected: Option<u8>,
         steps: u32,
         call: &FirstCall<'_>,
-        denial: &mut Option<Denial>,
         shown: &mut ShownFrame,
     ) -> RunEnd
         requires may_call { MayCall world.now program.now N.meaning selected call.now
@@ -206,7 +212,7 @@ impl WordMachine {
         tables_are_known(program);
         match call.called {
             Called::Method(number) => self.call_method(
-                natives, world, program, selected, steps, call, number, denial, shown,
+                natives, world, program, selected, steps, call, number, shown,
             ),
             Called::NativeMethod { member } => {
                 shown.is_there = false;
@@ -223,8 +229,7 @@ impl WordMachine {
     /// ends; a native member is one step. It drops all frames, earlier ones too. It is for calls that read a call of
     /// the defensive machine that can begin in an accepted world. The call ends as each such call ends, and what both
     /// machines keep besides their frames agrees again. `selected` is the context of the selected applet, if one is. If
-    /// the call ends with the runtime's SecurityException, `denial` reports what the firewall denied, if that is known.
-    /// If nothing caught what code threw, or the steps are spent, `shown` has the frame in which that happened.
+    /// nothing caught what code threw, or the steps are spent, `shown` has the frame in which that happened.
     pub fn call<N: Natives>(
         &mut self,
         natives: &mut N,
@@ -233,7 +238,6 @@ impl WordMachine {
         selected: Option<u8>,
         steps: u32,
         call: &FirstCall<'_>,
-        denial: &mut Option<Denial>,
         shown: &mut ShownFrame,
     ) -> RunEnd
         requires may_call { MayCall world.now program.now N.meaning selected call.now
@@ -245,10 +249,7 @@ impl WordMachine {
             (record { machine = self.old; kept = N.kept natives.old }) shown.new) }
         ensures dropped { self.new.frames.frames ≡ [] }
     {
-        *denial = None;
-        let end = self.make_call(
-            natives, world, program, selected, steps, call, denial, shown,
-        );
+        let end = self.make_call(natives, world, program, selected, steps, call, shown);
         self.frames.clear();
         end
     }

@@ -7,13 +7,14 @@ ghost use Rattle.jc_interp.specs.PrivateCasts.{passes};
 ghost use Rattle.jc_interp.specs.PrivateCasts.{test_of};
 ghost use Rattle.jc_interp.specs.PrivateDone.{done, operand};
 
-use crate::ends::{CLASS_CAST_EXCEPTION, SECURITY_EXCEPTION, StepEnd};
+use crate::ends::{CLASS_CAST_EXCEPTION, StepEnd};
 use crate::machine::WordMachine;
-use crate::seen::{Seen, class_named, is_below, look_at, verdict};
+use crate::seen::{Seen, class_named, denied_by, is_below, look_at, verdict};
 use crate::step_context::WordStepContext;
 use jc_api::ApiClass;
 use jc_code::{TestedType, WordKind};
-use jc_firewall::{Access, Verdict};
+use jc_firewall::Access;
+use jc_machine::DeniedAccess;
 use jc_names::ClassName;
 use jc_program::Program;
 use jc_store::{ObjectType, Store};
@@ -34,13 +35,13 @@ pub(crate) enum Cast {
     /// Whether the object is of the type.
     OfObject(bool),
     /// The firewall denies the access.
-    Denied,
+    Denied(DeniedAccess),
     /// The instruction names no type.
     OfNoType,
 }
 
 /// Whether a class is the interface Shareable, or an interface that extends it.
-pub(crate) fn is_shared_interface(program: &Program, class: ClassName) -> bool
+fn is_shared_interface(program: &Program, class: ClassName) -> bool
     ensures { result ≡ is_shared_interface program.now class }
 {
     match program.classes.number_of(class) {
@@ -52,7 +53,7 @@ pub(crate) fn is_shared_interface(program: &Program, class: ClassName) -> bool
     }
 }
 
-pub(crate) fn test_of(here: &WordStepContext<'_>, type_: TestedType) -> Option<TypeTest>
+fn test_of(here: &WordStepContext<'_>, type_: TestedType) -> Option<TypeTest>
     ensures { result ≡ test_of here.now type_ }
 {
     match type_ {
@@ -111,7 +112,7 @@ fn passes(here: &WordStepContext<'_>, test: TypeTest, object: Seen) -> bool
     }
 }
 
-pub(crate) fn is_shared(here: &WordStepContext<'_>, test: TypeTest) -> bool
+fn is_shared(here: &WordStepContext<'_>, test: TypeTest) -> bool
     ensures { result ≡ is_shared here.now test }
 {
     match test {
@@ -132,9 +133,10 @@ fn cast_by(
     let Some(object) = look_at(store, word) else {
         return Cast::OfNull;
     };
-    match verdict(here, access, object, None, is_shared(here, test)) {
-        Verdict::Allowed | Verdict::AllowedSwitch(_) => Cast::OfObject(passes(here, test, object)),
-        Verdict::Denied(_) => Cast::Denied,
+    let verdict = verdict(here, access, object, None, is_shared(here, test));
+    match denied_by(access, word, verdict) {
+        None => Cast::OfObject(passes(here, test, object)),
+        Some(denied) => Cast::Denied(denied),
     }
 }
 
@@ -170,7 +172,7 @@ impl WordMachine {
         match cast_of(here, &self.store, Access::CheckCast, type_, word) {
             Cast::OfNull | Cast::OfObject(true) => self.gives(here, 1, word),
             Cast::OfObject(false) => StepEnd::Throws(CLASS_CAST_EXCEPTION),
-            Cast::Denied => StepEnd::Throws(SECURITY_EXCEPTION),
+            Cast::Denied(denied) => StepEnd::AccessDenied(denied),
             Cast::OfNoType => StepEnd::UsedUp,
         }
     }
@@ -183,7 +185,7 @@ impl WordMachine {
         match cast_of(here, &self.store, Access::InstanceOf, type_, word) {
             Cast::OfNull => self.gives(here, 1, 0),
             Cast::OfObject(truth) => self.gives(here, 1, bit(truth)),
-            Cast::Denied => StepEnd::Throws(SECURITY_EXCEPTION),
+            Cast::Denied(denied) => StepEnd::AccessDenied(denied),
             Cast::OfNoType => StepEnd::UsedUp,
         }
     }

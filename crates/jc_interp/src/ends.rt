@@ -1,6 +1,6 @@
 //! How a step ends.
 
-use jc_machine::{Budget, CodePoint};
+use jc_machine::{Budget, CodePoint, DeniedAccess};
 
 /// How a step ends.
 #[derive(Clone, Copy, Debug, PartialEq, Eq)]
@@ -9,6 +9,8 @@ pub enum StepEnd {
     GoesOn,
     /// The object with this number is thrown.
     Throws(u16),
+    /// The firewall denied an access. The runtime's SecurityException is thrown.
+    AccessDenied(DeniedAccess),
     /// The first frame's method returns a word, or none.
     Gives(Option<u16>),
     /// The call is used up: a frame has no room.
@@ -19,10 +21,12 @@ pub enum StepEnd {
 #[derive(Clone, Copy, Debug, PartialEq, Eq)]
 pub enum RunEnd {
     /// The object with this number was thrown, and no frame caught it. It was thrown at a point in a loaded package's
-    /// code, or by a native member that the runtime called.
+    /// code, or by a native member that the runtime called. If it was thrown because the firewall denied an access, this
+    /// is that access.
     Threw {
         object: u16,
         at: Option<CodePoint>,
+        denied: Option<DeniedAccess>,
     },
     /// The first frame's method returned a word, or none.
     Gave(Option<u16>),

@@ -3,17 +3,18 @@
 
 ghost use Rattle.std.specs.Prelude.{◌≡◌};
 ghost use Rattle.jc_interp.specs.PrivateDone.{done, operand};
-ghost use Rattle.jc_interp.specs.PrivateFields.{do_field, do_get, do_instance, do_put, do_put_static, do_static};
-ghost use Rattle.jc_interp.specs.PrivateFields.{holder_word, may_put_static, putting, stored_mark};
+ghost use Rattle.jc_interp.specs.PrivateFields.{denied_static, do_field, do_get, do_instance, do_put, do_put_static};
+ghost use Rattle.jc_interp.specs.PrivateFields.{do_static, holder_word, putting, stored_mark};
 
 use crate::arrays::{loaded, stored};
-use crate::ends::{NULL_POINTER_EXCEPTION, SECURITY_EXCEPTION, StepEnd};
+use crate::ends::{NULL_POINTER_EXCEPTION, StepEnd};
 use crate::machine::WordMachine;
-use crate::seen::{allows, cell, look_at, mark_of, put};
+use crate::seen::{cell, denied_on, look_at, mark_of, put};
 use crate::step_context::WordStepContext;
 use jc_code::{FieldAccess, FieldAction, Form, Holder};
 use jc_entries::Entry;
 use jc_firewall::Access;
+use jc_machine::DeniedAccess;
 use jc_store::{Mark, Store};
 
 /// The access that a write to a field makes.
@@ -38,21 +39,22 @@ pub(crate) fn stored_mark(store: &Store, form: Form, word: u16) -> Option<Mark>
     }
 }
 
-/// Whether a word may be put into a static field.
-fn may_put_static(here: &WordStepContext<'_>, store: &Store, form: Form, word: u16) -> bool
-    ensures { result ≡ may_put_static here.now store.now form word }
+/// The access to the object whose reference is put into a static field, if the firewall denies it.
+fn denied_static(
+    here: &WordStepContext<'_>,
+    store: &Store,
+    form: Form,
+    word: u16,
+) -> Option<DeniedAccess>
+    ensures { result ≡ denied_static here.now store.now form word }
 {
     match form {
-        Form::Byte | Form::Short => true,
-        Form::Reference => match look_at(store, word) {
-            Some(object) => allows(
-                here,
-                Access::PutStaticReference,
-                object,
-                Some(object.kind.mark),
-            ),
-            None => true,
-        },
+        Form::Byte | Form::Short => None,
+        Form::Reference => {
+            let object = look_at(store, word)?;
+            let mark = Some(object.kind.mark);
+            denied_on(here, Access::PutStaticReference, word, object, mark)
+        }
     }
 }
 
@@ -69,8 +71,8 @@ impl WordMachine {
             ≡ do_put_static here.now form «package» offset (operand self.old 0) self.old }
     {
         let word = self.operand(0);
-        if !may_put_static(here, &self.store, form, word) {
-            return StepEnd::Throws(SECURITY_EXCEPTION);
+        if let Some(denied) = denied_static(here, &self.store, form, word) {
+            return StepEnd::AccessDenied(denied);
         }
         self.statics.set(package, offset, stored(form, word));
         self.leaves(here, 1)
@@ -120,8 +122,8 @@ impl WordMachine {
         let Some(object) = look_at(&self.store, number) else {
             return StepEnd::Throws(NULL_POINTER_EXCEPTION);
         };
-        if !allows(here, Access::GetField, object, None) {
-            return StepEnd::Throws(SECURITY_EXCEPTION);
+        if let Some(denied) = denied_on(here, Access::GetField, number, object, None) {
+            return StepEnd::AccessDenied(denied);
         }
         let word = cell(&self.store, number, cell_index as usize);
         self.gives(here, count, loaded(form, word))
@@ -143,8 +145,8 @@ impl WordMachine {
             return StepEnd::Throws(NULL_POINTER_EXCEPTION);
         };
         let mark = stored_mark(&self.store, form, word);
-        if !allows(here, putting(form), object, mark) {
-            return StepEnd::Throws(SECURITY_EXCEPTION);
+        if let Some(denied) = denied_on(here, putting(form), number, object, mark) {
+            return StepEnd::AccessDenied(denied);
         }
         put(
             &mut self.store,

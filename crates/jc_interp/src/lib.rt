@@ -6,7 +6,6 @@ mod call;
 mod calls;
 mod casts;
 mod creation;
-mod denied;
 mod ends;
 mod entering;
 mod fetch;

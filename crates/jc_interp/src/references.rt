@@ -4,9 +4,9 @@ ghost use Rattle.std.specs.Prelude.{◌≡◌};
 ghost use Rattle.jc_interp.specs.PrivateDone.{done, operand};
 ghost use Rattle.jc_interp.specs.PrivateObjects.{do_throw};
 
-use crate::ends::{NULL_POINTER_EXCEPTION, SECURITY_EXCEPTION, StepEnd};
+use crate::ends::{NULL_POINTER_EXCEPTION, StepEnd};
 use crate::machine::WordMachine;
-use crate::seen::{allows, look_at};
+use crate::seen::{denied_on, look_at};
 use crate::step_context::WordStepContext;
 use jc_firewall::Access;
 
@@ -19,10 +19,9 @@ impl WordMachine {
         let Some(object) = look_at(&self.store, number) else {
             return StepEnd::Throws(NULL_POINTER_EXCEPTION);
         };
-        if allows(here, Access::Throw, object, None) {
-            StepEnd::Throws(number)
-        } else {
-            StepEnd::Throws(SECURITY_EXCEPTION)
+        match denied_on(here, Access::Throw, number, object, None) {
+            Some(denied) => StepEnd::AccessDenied(denied),
+            None => StepEnd::Throws(number),
         }
     }
 }

@@ -1,12 +1,14 @@
 //! What an instruction sees of an object, and the firewall's verdict on an access to it.
 
 ghost use Rattle.std.specs.Prelude.{◌≡◌, true, false, None};
-ghost use Rattle.jc_interp.specs.PrivateSeen.{allows, cell_in, class_in, class_named, facts_seen, is_array, is_below};
+ghost use Rattle.jc_interp.specs.PrivateSeen.{cell_in, class_in, class_named, denied_on, facts_seen, is_array, is_below};
 ghost use Rattle.jc_interp.specs.PrivateSeen.{mark_of, seen_of, verdict_on, with_put};
+ghost use Rattle.jc_machine.specs.Machine.{denied_by};
 
 use crate::step_context::WordStepContext;
 use jc_entries::Entry;
 use jc_firewall::{Access, Facts, Verdict, decide};
+use jc_machine::DeniedAccess;
 use jc_names::{ClassName, Owner};
 use jc_program::{ClassNumber, Program};
 use jc_store::{Mark, ObjectKind, ObjectType, Store};
@@ -160,18 +162,31 @@ pub(crate) fn verdict(
     )
 }
 
-/// Whether the firewall allows an access that is no call and no cast.
+/// An access to the object with a number, if the verdict on it denies it.
 #[inline]
-pub(crate) fn allows(
+pub(crate) fn denied_by(access: Access, number: u16, verdict: Verdict) -> Option<DeniedAccess>
+    ensures { result ≡ denied_by access number verdict }
+{
+    match verdict {
+        Verdict::Allowed | Verdict::AllowedSwitch(_) => None,
+        Verdict::Denied(rule) => Some(DeniedAccess {
+            access,
+            object: number,
+            rule,
+        }),
+    }
+}
+
+/// An access to the object with a number, if the firewall denies it. It is no call and no cast.
+#[inline]
+pub(crate) fn denied_on(
     here: &WordStepContext<'_>,
     access: Access,
+    number: u16,
     object: Seen,
     stored: Option<Mark>,
-) -> bool
-    ensures { result ≡ allows here.now access object stored }
+) -> Option<DeniedAccess>
+    ensures { result ≡ denied_on here.now access number object stored }
 {
-    match verdict(here, access, object, stored, false) {
-        Verdict::Allowed | Verdict::AllowedSwitch(_) => true,
-        Verdict::Denied(_) => false,
-    }
+    denied_by(access, number, verdict(here, access, object, stored, false))
 }

@@ -4,12 +4,13 @@ use Rattle.jc_cap.specs.declared.method_header.MethodHeader.{MethodHeader}
 use Rattle.jc_classes.specs.Members.{DeclaredMethod}
 use Rattle.jc_machine.specs.Guarded.{machine_of}
 use Rattle.jc_machine.specs.Keeping.{LeavesKept, MembersKeep}
-use Rattle.jc_machine.specs.Machine.{Machine, MethodPlace, NativeEnd, Outcome, Surroundings}
+use Rattle.jc_machine.specs.Machine.{Machine, MethodPlace, NativeEnd, Outcome, Surroundings, last_denied}
 use Rattle.jc_machine.specs.Natives.{AreNativesGuarded}
 use Rattle.jc_machine.specs.Step.{CallEnd, Called, Start, begun, begun_by, continued, defensive_step, native_ended}
 use Rattle.jc_machine.specs.Step.{native_started, point_of, room_lacking, runtime_call, started, started_by, steps_of}
 use Rattle.jc_machine.specs.declared.stop.Budget.{Budget}
 use Rattle.jc_machine.specs.declared.stop.CodePoint.{CodePoint}
+use Rattle.jc_machine.specs.declared.stop.DeniedAccess.{DeniedAccess}
 use Rattle.jc_names.specs.declared.name.MethodName.{MethodName}
 use Rattle.jc_machine.proofs.GuardingSteps.{steps_keep_kept}
 
@@ -19,17 +20,17 @@ module _ {C : Type 0} (keeps : C → Bool) (s : Surroundings C) (natives : AreNa
 
   continued_keeps : (n : ℕ)
       → ((m : Machine C) → keeps m.runtime ≡ true → LeavesKept keeps (steps_of s n m).ends)
-      → (lacking : Budget) (at : Option CodePoint) (o : Outcome C)
+      → (lacking : Budget) (at : Option CodePoint) (denied : Option DeniedAccess) (o : Outcome C)
       → ((after : Machine C) → machine_of o ≡ Some after → keeps after.runtime ≡ true)
-      → LeavesKept keeps (continued lacking at (steps_of s n) o).ends
-  continued_keeps n h1 lacking at o h2 = grind arith
+      → LeavesKept keeps (continued lacking at denied (steps_of s n) o).ends
+  continued_keeps n h1 lacking at denied o h2 = grind arith
 
   steps_keep : (n : ℕ) (m : Machine C) → keeps m.runtime ≡ true → LeavesKept keeps (steps_of s n m).ends
   unfolding steps_of
   steps_keep zero m now = now
   steps_keep (suc n) m now =
       continued_keeps n (steps_keep n) (room_lacking s (m.top ∷ m.waiting)) (Some (point_of m.top))
-      (defensive_step s m).outcome (steps_keep_kept keeps s natives members m now)
+      (last_denied (defensive_step s m).touches) (defensive_step s m).outcome (steps_keep_kept keeps s natives members m now)
 
   -- ---- a call
 
@@ -53,9 +54,9 @@ module _ {C : Type 0} (keeps : C → Bool) (s : Surroundings C) (natives : AreNa
         → LeavesKept keeps (started s steps start place found).ends
     started_keeps place found = grind (arith, begun_by_keeps)
 
-    native_ended_keeps : (m : Machine C) → keeps m.runtime ≡ true → (member : ℕ) (ends : NativeEnd)
-        → LeavesKept keeps (native_ended s m member ends)
-    native_ended_keeps m h1 member ends = grind (arith, either_end)
+    native_ended_keeps : (m : Machine C) → keeps m.runtime ≡ true → (member : ℕ) (denied : Option DeniedAccess)
+        (ends : NativeEnd) → LeavesKept keeps (native_ended s m member denied ends)
+    native_ended_keeps m h1 member denied ends = grind (arith, either_end)
 
     native_started_keeps : (steps member : ℕ) → LeavesKept keeps (native_started s steps start member).ends
     native_started_keeps steps member = grind (arith, either_called, native_ended_keeps)

@@ -18,7 +18,7 @@ use Rattle.jc_machine.specs.Going.{with_heap}
 use Rattle.jc_machine.specs.Guarded.{machine_of}
 use Rattle.jc_machine.specs.Lookup.{declared_at, is_given, is_throwable, may_begin_with}
 use Rattle.jc_machine.specs.Machine.{Calls, Frame, Gives, IsStuck, Machine, MethodPlace, NativeAnswer, NativeEnd, Next}
-use Rattle.jc_machine.specs.Machine.{Outcome, Surroundings, ThrowsObject, Touch}
+use Rattle.jc_machine.specs.Machine.{Outcome, Surroundings, ThrowsObject, Touch, last_denied}
 use Rattle.jc_machine.specs.Natives.{AreNativesGuarded}
 use Rattle.jc_machine.specs.Step.{Called, Gave, RanOut, Start, Threw, WasStuck, after_first_native, begun, begun_by}
 use Rattle.jc_machine.specs.Step.{called_so_far, continued, defensive_step, ended_by, first_answer, first_native_call}
@@ -31,6 +31,7 @@ use Rattle.jc_machine.specs.Unseen.{StepsAlike, from_objects, next, stays_out, s
 use Rattle.jc_machine.specs.declared.stop.Budget.{Budget}
 use Rattle.jc_machine.specs.declared.stop.Budget.TheVariants as budgets
 use Rattle.jc_machine.specs.declared.stop.CodePoint.{CodePoint}
+use Rattle.jc_machine.specs.declared.stop.DeniedAccess.{DeniedAccess}
 use Rattle.jc_words.specs.Values.{Ref, TaggedValue}
 use Rattle.jc_machine.proofs.GuardingSteps.{steps_stay_apart}
 use Rattle.jc_machine.proofs.AlikeLaws.{begins_both, given_both, leads_both, native_begins_both}
@@ -54,19 +55,23 @@ module _ {C : Type 0} (context : ℕ) (s : Surroundings C) (guarded : AreNatives
     ends = k.ends;
   }
 
-  continued_both : (go : Machine C → Called C) (lacking : Budget) (at : Option CodePoint) (o p : Outcome C)
+  continued_both : (go : Machine C → Called C) (lacking : Budget) (at : Option CodePoint) (d e : Option DeniedAccess)
+      → d ≡ e → (o p : Outcome C)
       → ComesAlike context o p
       → ((m : Machine C) (heap : Heap TaggedValue) → AreAlike context m.heap heap → o ≡ Next m
       → CallsAlike context (go m) (go (with_heap m heap)))
-      → CallsAlike context (continued lacking at go o) (continued lacking at go p)
-  continued_both go lacking at o p (next m heap a) k = k m heap a refl
-  continued_both go lacking at o p (unseen.throws m heap object a seen) k =
-      record { touches = refl; ran = refl; ends = unseen.threw m heap object at a seen }
-  continued_both go lacking at o p (unseen.ends m heap value a) k =
+      → CallsAlike context (continued lacking at d go o) (continued lacking at e go p)
+  continued_both go lacking at d e same o p (next m heap a) k = k m heap a refl
+  continued_both go lacking at d e same o p (unseen.throws m heap object a seen) k =
+      subst (λ (x : Option DeniedAccess). CallsAlike context (ended_by (Threw m object at d))
+      (ended_by (Threw (with_heap m heap) object at x))) same
+      (record { touches = refl; ran = refl; ends = unseen.threw m heap object at d a seen })
+  continued_both go lacking at d e same o p (unseen.ends m heap value a) k =
       record { touches = refl; ran = refl; ends = unseen.gave m heap value a }
-  continued_both go lacking at o p (unseen.used_up m heap a) k =
+  continued_both go lacking at d e same o p (unseen.used_up m heap a) k =
       record { touches = refl; ran = refl; ends = unseen.ran_out m heap lacking at a }
-  continued_both go lacking at o p stuck_both k = record { touches = refl; ran = refl; ends = unseen.were_stuck }
+  continued_both go lacking at d e same o p stuck_both k =
+      record { touches = refl; ran = refl; ends = unseen.were_stuck }
 
   -- behind a step
   ran_both : (active : ℕ) (c d : Called C) → CallsAlike context c d
@@ -95,16 +100,17 @@ module _ {C : Type 0} (context : ℕ) (s : Surroundings C) (guarded : AreNatives
       ran_both m.top.active.context _ _
       (far_both (defensive_step s m).touches (defensive_step s (with_heap m heap)).touches _ _ k.touches
       (continued_both (steps_of s n) (room_lacking s (m.top ∷ m.waiting)) (Some (point_of m.top))
-      (defensive_step s m).outcome (defensive_step s (with_heap m heap)).outcome k.outcome
+      (last_denied (defensive_step s m).touches) (last_denied (defensive_step s (with_heap m heap)).touches)
+      (ap last_denied k.touches) (defensive_step s m).outcome (defensive_step s (with_heap m heap)).outcome k.outcome
       (λ m2 heap2 alike2 e.
       steps_alike n m2 heap2 alike2 (stays.after m2 (ap machine_of e)) (out_behind e parts.1))))
     where
       out_behind : {m2 : Machine C} → (defensive_step s m).outcome ≡ Next m2
-          → stays_out context (continued (room_lacking s (m.top ∷ m.waiting)) (Some (point_of m.top)) (steps_of s n)
-          (defensive_step s m).outcome).ran ≡ true → stays_out context (steps_of s n m2).ran ≡ true
+          → stays_out context (continued (room_lacking s (m.top ∷ m.waiting)) (Some (point_of m.top))
+          (last_denied (defensive_step s m).touches) (steps_of s n) (defensive_step s m).outcome).ran ≡ true → stays_out context (steps_of s n m2).ran ≡ true
       out_behind e f =
           subst (λ (o : Outcome C). stays_out context (continued (room_lacking s (m.top ∷ m.waiting))
-          (Some (point_of m.top)) (steps_of s n) o).ran ≡ true) e f
+          (Some (point_of m.top)) (last_denied (defensive_step s m).touches) (steps_of s n) o).ran ≡ true) e f
 
 -- ---- a call of the runtime's
 
@@ -206,29 +212,30 @@ module _ {C : Type 0} (context : ℕ) (s : Surroundings C) (guarded : AreNatives
       by_type (Some signature) =
           by_given _ _ (given_both context m.heap heap2 alike2 s.world.shapes signature.result value)
 
-  threw_both : (m : Machine C) (heap2 : Heap TaggedValue) (object : ℕ) → AreAlike context m.heap heap2
-      → IsSeen context m.heap object
-      → EndsAlike context (native_threw s m object) (native_threw s (with_heap m heap2) object)
-  threw_both m heap2 object alike2 seen =
-      subst (λ (x : Bool). EndsAlike context (native_threw s m object)
-      (cond x (Threw (with_heap m heap2) object None) WasStuck))
+  threw_both : (m : Machine C) (heap2 : Heap TaggedValue) (denied : Option DeniedAccess) (object : ℕ)
+      → AreAlike context m.heap heap2 → IsSeen context m.heap object
+      → EndsAlike context (native_threw s m denied object) (native_threw s (with_heap m heap2) denied object)
+  threw_both m heap2 denied object alike2 seen =
+      subst (λ (x : Bool). EndsAlike context (native_threw s m denied object)
+      (cond x (Threw (with_heap m heap2) object None denied) WasStuck))
       (leads_both context m.heap heap2 alike2 (is_throwable s.world.shapes) (Ref object))
       (by_one (option_map_or (λ o. is_throwable s.world.shapes o.kind.object_type) (object_at m.heap object) false))
     where
       by_one : (x : Bool)
-          → EndsAlike context (cond x (Threw m object None) WasStuck) (cond x (Threw (with_heap m heap2) object None)
-          WasStuck)
-      by_one true = unseen.threw m heap2 object None alike2 seen
+          → EndsAlike context (cond x (Threw m object None denied) WasStuck)
+          (cond x (Threw (with_heap m heap2) object None denied) WasStuck)
+      by_one true = unseen.threw m heap2 object None denied alike2 seen
       by_one false = unseen.were_stuck
 
-  ended_both : (m : Machine C) (heap2 : Heap TaggedValue) (member : ℕ) (ends : NativeEnd)
-      → AreAlike context m.heap heap2
+  ended_both : (m : Machine C) (heap2 : Heap TaggedValue) (member : ℕ) (denied : Option DeniedAccess)
+      (ends : NativeEnd) → AreAlike context m.heap heap2
       → ((number : ℕ) → ends ≡ ThrowsObject number → IsSeen context m.heap number)
-      → EndsAlike context (native_ended s m member ends) (native_ended s (with_heap m heap2) member ends)
-  ended_both m heap2 member (Gives value) alike2 seen = gave_both m heap2 member value alike2
-  ended_both m heap2 member (ThrowsObject object) alike2 seen = threw_both m heap2 object alike2 (seen object refl)
-  ended_both m heap2 member (Calls callback) alike2 seen = unseen.were_stuck
-  ended_both m heap2 member IsStuck alike2 seen = unseen.were_stuck
+      → EndsAlike context (native_ended s m member denied ends) (native_ended s (with_heap m heap2) member denied ends)
+  ended_both m heap2 member denied (Gives value) alike2 seen = gave_both m heap2 member value alike2
+  ended_both m heap2 member denied (ThrowsObject object) alike2 seen =
+      threw_both m heap2 denied object alike2 (seen object refl)
+  ended_both m heap2 member denied (Calls callback) alike2 seen = unseen.were_stuck
+  ended_both m heap2 member denied IsStuck alike2 seen = unseen.were_stuck
 
   answered_both : (member : ℕ) → IsBlindAnswer context (a member) (b member)
       → CallsAlike context (native_called s start member (a member)) (native_called s other member (b member))
@@ -237,18 +244,23 @@ module _ {C : Type 0} (context : ℕ) (s : Surroundings C) (guarded : AreNatives
     ran = refl;
     ends =
         subst (λ (r : C). EndsAlike context (native_ended s (after_first_native start (a member)) member
-        (a member).ends)
+        (last_denied (a member).touches) (a member).ends)
         (native_ended s (after_first_native start (record {
           touches = (b member).touches;
           heap = (b member).heap;
           runtime = r;
           ends = (b member).ends;
-        })) member (b member).ends)) same.runtime
+        })) member (last_denied (b member).touches) (b member).ends)) same.runtime
+        (subst (λ (ts : List Touch). EndsAlike context
+        (native_ended s (after_first_native start (a member)) member (last_denied (a member).touches) (a member).ends)
+        (native_ended s (with_heap (after_first_native start (a member)) (b member).heap) member (last_denied ts)
+        (b member).ends)) same.touches
         (subst (λ (e : NativeEnd). EndsAlike context
-        (native_ended s (after_first_native start (a member)) member (a member).ends)
-        (native_ended s (with_heap (after_first_native start (a member)) (b member).heap) member e)) same.ends
-        (ended_both (after_first_native start (a member)) (b member).heap member (a member).ends same.heap
-        same.thrown));
+        (native_ended s (after_first_native start (a member)) member (last_denied (a member).touches) (a member).ends)
+        (native_ended s (with_heap (after_first_native start (a member)) (b member).heap) member
+        (last_denied (a member).touches) e)) same.ends
+        (ended_both (after_first_native start (a member)) (b member).heap member (last_denied (a member).touches)
+        (a member).ends same.heap same.thrown)));
   }
 
   native_both_calls : (steps member : ℕ) → Both (native_started s steps start member)

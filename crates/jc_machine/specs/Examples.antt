@@ -26,6 +26,7 @@ use Rattle.jc_store.specs.declared.kind.ObjectType.TheVariants.{ReferenceArray}
 use Rattle.jc_names.specs.declared.owner.Owner.{Owner}
 use Rattle.jc_firewall.specs.declared.access.Access.{Access}
 use Rattle.jc_firewall.specs.declared.access.Access.TheVariants.{InvokeVirtual}
+use Rattle.jc_firewall.specs.declared.access.Rule.{Rule}
 use Rattle.jc_firewall.specs.declared.access.Verdict.{Verdict}
 use Rattle.jc_firewall.specs.declared.access.Verdict.TheVariants.{Allowed}
 use Rattle.jc_machine.specs.Lookup.{fields_of}
@@ -123,16 +124,18 @@ abbrev pub start_of : Heap TaggedValue → Owner → MethodName → List TaggedV
 start_of heap of method arguments =
     record { heap = heap; statics = [] ∷ [] ∷ []; runtime = tt; owner = of; method = method; arguments = arguments }
 
--- how a call ends
+-- how a call ends; of a throw the access that was denied, if one was
 pub data End : Type 0 where
   a_value : Option TaggedValue → End
   an_object : ℕ → End
+  denied_access : (thrown : ℕ) (access : Access) (object : ℕ) (rule : Rule) → End
   used_up : End
   stuck : End
 
 abbrev pub end_of : CallEnd (Unit {0}) → End
 end_of (Gave m value) = a_value value
-end_of (Threw m object at) = an_object object
+end_of (Threw m object at None) = an_object object
+end_of (Threw m object at (Some denied)) = denied_access object denied.access denied.object denied.rule
 end_of (RanOut m spent at) = used_up
 end_of WasStuck = stuck
 

@@ -12,6 +12,6 @@ MembersKeep {C} keeps natives =
 -- what the runtime keeps after a call passes the test, unless the machine got stuck
 abbrev pub LeavesKept : {C : Type 0} → (C → Bool) → CallEnd C → Type 0
 LeavesKept keeps (Gave m value) = keeps m.runtime ≡ true
-LeavesKept keeps (Threw m object at) = keeps m.runtime ≡ true
+LeavesKept keeps (Threw m object at denied) = keeps m.runtime ≡ true
 LeavesKept keeps (RanOut m spent at) = keeps m.runtime ≡ true
 LeavesKept keeps WasStuck = ⊤

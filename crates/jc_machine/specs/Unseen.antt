@@ -17,6 +17,7 @@ use Rattle.jc_machine.specs.Runtime.{HasRuntimeObjects}
 use Rattle.jc_machine.specs.Step.{CallEnd, Called, Gave, RanOut, Start, Threw, WasStuck}
 use Rattle.jc_machine.specs.declared.stop.Budget.{Budget}
 use Rattle.jc_machine.specs.declared.stop.CodePoint.{CodePoint}
+use Rattle.jc_machine.specs.declared.stop.DeniedAccess.{DeniedAccess}
 use Rattle.jc_words.specs.Values.{TaggedValue}
 
 -- ---- objects
@@ -103,9 +104,9 @@ stays_out context ran = list_all (λ n. not (n == context)) ran
 pub data EndsAlike {C : Type 0} (context : ℕ) : CallEnd C → CallEnd C → Type 0 where
   gave : (m : Machine C) (heap : Heap TaggedValue) (value : Option TaggedValue) → AreAlike context m.heap heap
       → EndsAlike context (Gave m value) (Gave (with_heap m heap) value)
-  threw : (m : Machine C) (heap : Heap TaggedValue) (object : ℕ) (at : Option CodePoint)
+  threw : (m : Machine C) (heap : Heap TaggedValue) (object : ℕ) (at : Option CodePoint) (denied : Option DeniedAccess)
       → AreAlike context m.heap heap → IsSeen context m.heap object
-      → EndsAlike context (Threw m object at) (Threw (with_heap m heap) object at)
+      → EndsAlike context (Threw m object at denied) (Threw (with_heap m heap) object at denied)
   ran_out : (m : Machine C) (heap : Heap TaggedValue) (spent : Budget) (at : Option CodePoint)
       → AreAlike context m.heap heap → EndsAlike context (RanOut m spent at) (RanOut (with_heap m heap) spent at)
   were_stuck : EndsAlike context WasStuck WasStuck

@@ -7,15 +7,17 @@ use Rattle.jc_store.specs.Store.{Store, class_number_at}
 use Rattle.jc_machine.specs.Accepted.{IsAccepted}
 use Rattle.jc_machine.specs.Lookup.{is_array}
 use Rattle.jc_machine.specs.Machine.{Callback, NativeAnswer, NativeCall, Natives}
-use Rattle.jc_machine.specs.Machine.{Calls, Gives, IsStuck, NativeEnd, ThrowsObject}
+use Rattle.jc_machine.specs.Machine.{Calls, Gives, IsStuck, NativeEnd, ThrowsObject, last_denied}
 use Rattle.jc_machine.specs.Natives.{IsFitCall}
 use Rattle.jc_machine.specs.Reading.{HeapReads, Pointwise, Reads, ReadsResult}
+use Rattle.jc_machine.specs.Runtime.{security_exception}
 use Rattle.jc_machine.specs.declared.natives.AtOnce.{AtOnce}
 use Rattle.jc_machine.specs.declared.natives.AtOnce.TheVariants as at_once
 use Rattle.jc_machine.specs.declared.natives.WordCall.{WordCall}
 use Rattle.jc_machine.specs.declared.natives.WordCallback.{WordCallback}
 use Rattle.jc_machine.specs.declared.natives.WordOutcome.{WordOutcome}
-use Rattle.jc_machine.specs.declared.natives.WordOutcome.TheVariants.{CallsBack, Returned, Thrown}
+use Rattle.jc_machine.specs.declared.natives.WordOutcome.TheVariants.{AccessDenied, CallsBack, Returned, Thrown}
+use Rattle.jc_machine.specs.declared.stop.DeniedAccess.{DeniedAccess}
 
 -- the state before and after native members on words: the objects, and what the runtime keeps
 pub record WordState (C : Type 0) : Type 0 where
@@ -51,16 +53,29 @@ ReadsEnd (Thrown number) (ThrowsObject object) = number ≡ object
 ReadsEnd (Thrown number) (Gives value) = ⊥
 ReadsEnd (Thrown number) (Calls callback) = ⊥
 ReadsEnd (Thrown number) IsStuck = ⊥
+ReadsEnd (AccessDenied denied) (ThrowsObject object) = object ≡ security_exception
+ReadsEnd (AccessDenied denied) (Gives value) = ⊥
+ReadsEnd (AccessDenied denied) (Calls callback) = ⊥
+ReadsEnd (AccessDenied denied) IsStuck = ⊥
 ReadsEnd (CallsBack word) (Calls callback) = ReadsCallback word callback
 ReadsEnd (CallsBack word) (Gives value) = ⊥
 ReadsEnd (CallsBack word) (ThrowsObject object) = ⊥
 ReadsEnd (CallsBack word) IsStuck = ⊥
 
--- the objects, what the runtime keeps and the outcome are those of the tagged answer. Its accesses leave no trace
+-- the access that was denied, if the outcome tells one
+abbrev pub denied_of : WordOutcome → Option DeniedAccess
+denied_of (Returned word) = None
+denied_of (Thrown number) = None
+denied_of (AccessDenied denied) = Some denied
+denied_of (CallsBack word) = None
+
+-- the objects, what the runtime keeps and the outcome are those of the tagged answer. Of its accesses the outcome tells
+-- the last one, if it was denied
 pub record AnswerAgrees {C : Type 0} (state : WordState C) (outcome : WordOutcome) (a : NativeAnswer C) : Type 0 where
   pub heap : HeapReads state.store.objects a.heap
   pub runtime : state.runtime ≡ a.runtime
   pub ends : ReadsEnd outcome a.ends
+  pub denied : denied_of outcome ≡ last_denied a.touches
 
 -- the effect on words conforms to the members' meaning, for each valid call that the words represent, in an accepted
 -- world

@@ -12,8 +12,8 @@ ghost use Rattle.jc_firewall.specs.declared.access.Rule.TheVariants.{Fields};
 ghost use Rattle.jc_firewall.specs.declared.access.Verdict.TheVariants.{Allowed, AllowedSwitch, Denied};
 ghost use Rattle.jc_machine.specs.Arrays.{loaded_as, stored_as};
 ghost use Rattle.jc_machine.specs.ExamplePackages.{asker, client, probe, server};
-ghost use Rattle.jc_machine.specs.Examples.{a_value, an_object, asking, exceptions, have_their_sizes, is_stuck_with};
-ghost use Rattle.jc_machine.specs.Examples.{owner, probed, probed_on, probed_with, run, run_with, served_run};
+ghost use Rattle.jc_machine.specs.Examples.{a_value, an_object, asking, denied_access, exceptions, have_their_sizes};
+ghost use Rattle.jc_machine.specs.Examples.{is_stuck_with, owner, probed, probed_on, probed_with, run, run_with, served_run};
 ghost use Rattle.jc_machine.specs.Examples.{shown, start_of, stuck, touch, untouched, used_up, with_served};
 ghost use Rattle.jc_machine.specs.Examples.{handler_from};
 ghost use Rattle.jc_machine.specs.Idle.{idle};
@@ -55,7 +55,7 @@ pub fn calls_run()
     ensures a_field_is_read { served_run 10 30 (owner 1 1) (Loaded 1 100)
         ≡ shown (touch 1 GetField 11 Allowed ∷ []) (a_value (Some (Word 7))) }
     ensures a_field_is_denied_across_contexts { served_run 10 30 (owner 2 1) (Loaded 2 40)
-        ≡ shown (touch 2 GetField 11 (Denied Fields) ∷ []) (an_object 7) }
+        ≡ shown (touch 2 GetField 11 (Denied Fields) ∷ []) (denied_access 7 GetField 11 Fields) }
     ensures an_exception_passes_two_frames_and_a_switch { served_run 20 50 (owner 2 1) (Loaded 2 20)
         ≡ shown (touch 2 InvokeInterface 11 (AllowedSwitch (owner 1 1)) ∷ []) (a_value (Some (Word 5))) }
     ensures a_service_is_run_by_its_owner { served_run 10 90 (owner 2 1) (Loaded 2 1)
@@ -63,7 +63,7 @@ pub fn calls_run()
         (a_value (Some (Word 7))) }
     ensures what_catches_is_run_by_its_owner { served_run 20 50 (owner 2 1) (Loaded 2 60)
         ≡ shown (touch 2 InvokeInterface 11 (AllowedSwitch (owner 1 1)) ∷ touch 2 GetField 11 (Denied Fields) ∷ [])
-        (an_object 7) }
+        (denied_access 7 GetField 11 Fields) }
     ensures an_uncaught_exception_ends_a_call { served_run 20 50 (owner 2 1) (Loaded 2 1)
         ≡ shown (touch 2 InvokeInterface 11 (AllowedSwitch (owner 1 1)) ∷ []) (an_object 1) }
     ensures null_has_no_method { run (server ∷ client ∷ []) 10

@@ -7,7 +7,6 @@ use crate::member::member_with;
 use crate::natives::{AtOnce, Natives, WordCall, WordOutcome};
 use jc_api::ApiClass;
 use jc_base::ReturnType;
-use jc_firewall::Denial;
 use jc_link::World;
 use jc_store::Store;
 
@@ -57,10 +56,6 @@ impl Natives for IdleNatives {
         _context: u8,
     ) -> AtOnce {
         AtOnce::NotAtOnce
-    }
-
-    fn denial(&self, _store: &Store, _call: &WordCall<'_>) -> Option<Denial> {
-        None
     }
 
     fn law(&self) {}

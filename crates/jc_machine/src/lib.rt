@@ -24,4 +24,4 @@ pub use laws::{
 };
 pub use limits::Limits;
 pub use natives::{AtOnce, MOST_ARGUMENTS, Natives, WordCall, WordCallback, WordOutcome};
-pub use stop::{Budget, CodePoint};
+pub use stop::{Budget, CodePoint, DeniedAccess};

@@ -1,4 +1,6 @@
-//! Where a call that doesn't end normally stops, and which budget it used up.
+//! Where a call that doesn't end normally stops, which budget it used up, and which access was denied.
+
+use jc_firewall::{Access, Rule};
 
 /// A place in the code of a loaded package.
 #[derive(Clone, Copy, Debug, PartialEq, Eq)]
@@ -20,4 +22,14 @@ pub enum Budget {
     Frames,
     /// Words of the frames' locals and operands.
     FrameWords,
+}
+
+/// An access that the firewall denied.
+#[derive(Clone, Copy, Debug, PartialEq, Eq)]
+pub struct DeniedAccess {
+    pub access: Access,
+    /// The number of the object.
+    pub object: u16,
+    /// The rule that denies it.
+    pub rule: Rule,
 }

@@ -11,7 +11,6 @@ ghost use Rattle.jc_source.specs.Source.{IfFailed};
 use crate::source::{MemorySource, NamedBytes};
 use jc_api::Binding;
 use jc_card::Card;
-use jc_firewall::Denial;
 use jc_interp::ShownFrame;
 use jc_machine::Limits;
 use jc_run::{CommandAnswer, LineRefusal, ScriptFault, Teller, perform, run_script};
@@ -36,13 +35,7 @@ impl<S> Teller<S> for Silence {
 
     ghost tells = { λ before report after. ⊤ };
 
-    fn answered(
-        &mut self,
-        _number: u64,
-        _answer: &CommandAnswer,
-        _denial: Option<Denial>,
-        _stopped: Option<&ShownFrame>,
-    ) {}
+    fn answered(&mut self, _number: u64, _answer: &CommandAnswer, _stopped: Option<&ShownFrame>) {}
 
     fn refused(&mut self, _number: u64, _refusal: &LineRefusal, _source: &S) {}
 }

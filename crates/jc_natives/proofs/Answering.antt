@@ -33,10 +33,11 @@ use Rattle.jc_store.specs.Heap.{Heap, Object, object_at, with_new}
 use Rattle.jc_words.specs.Values.{TaggedValue, Word, Ref}
 use Rattle.jc_machine.specs.Machine.{Gives, NativeAnswer}
 use Rattle.jc_natives.proofs.Alike.{IsLike, alike, answers_alike, stops}
-use Rattle.jc_natives.proofs.Guarding.{ArePlaced, IsPlaced, IsUse, Refuses, all_both, all_replicate, allowed_both}
+use Rattle.jc_natives.proofs.Guarding.{ArePlaced, IsPlaced, IsUse, all_both, all_replicate}
 use Rattle.jc_natives.proofs.Guarding.{changes_accessed, got_front, keeps_itself, keeps_new, keeps_written, made_within}
 use Rattle.jc_natives.proofs.Guarding.{natives_of, own_allowed, own_natives, same_found, tested_uses, written_as_large}
 use Rattle.jc_natives.proofs.Reaching.{row_reaches}
+use Rattle.jc_natives.proofs.Refusing.{Refuses, allowed_both, tested_decided}
 use Rattle.jc_natives.proofs.Spared.{IsApartWork, SparesOwn, all_throw_own, throws_own, work_apart}
 use Rattle.jc_natives.specs.declared.native.AppletNative.TheVariants as applets
 use Rattle.jc_natives.specs.declared.native.Native.TheVariants.{OfApplet}
@@ -219,7 +220,7 @@ module _ (w : World) (call : NativeCall Kept) where
     by_thrown None e (inr refuses) = absurd (none-some security_exception (sym e ∙ refuses.1))
 
     native_fine : IsFine w call (begun_on_words w call (Some native))
-    native_fine = by_thrown t.thrown refl (tested_uses w call args (row_of native)).verdicts
+    native_fine = by_thrown t.thrown refl (tested_decided s args (row_of native)).verdicts
 
   begun_fine : (number : ℕ) (o : Option Native) → numbered natives number ≡ o → IsFine w call (begun_on_words w call o)
   begun_fine number None e = unchanged_fine [] IsStuck tt (allowed refl) (λ callback f. absurd cc)

@@ -1,5 +1,5 @@
 -- What is done at once is what members mean on tagged values, and leaves classes and limits as a call of them does.
-use Rattle.std.proofs.Common.{◌≡◌, ℕ, List, [], Some, None, length, refl, sym, subst, arith}
+use Rattle.std.proofs.Common.{◌≡◌, ℕ, List, [], Option, Some, None, length, refl, sym, subst, arith}
 use Rattle.jc_api.specs.Numbered.{numbered}
 use Rattle.jc_link.specs.Linked.{World}
 use Rattle.jc_machine.specs.Accepted.{IsAccepted}
@@ -18,9 +18,9 @@ use Rattle.jc_natives.specs.Members.{natives}
 use Rattle.jc_natives.specs.PrivateAtOnce.{WorksAtOnce}
 use Rattle.jc_natives.specs.PrivateMeaning.{answer_on_words}
 use Rattle.jc_natives.specs.PrivateSeen.{NativeInput}
-use Rattle.jc_natives.specs.PrivateWords.{Done, done_of, seen_in, word_work}
-use Rattle.jc_natives.specs.Work.{NoResult, Work, gives}
+use Rattle.jc_natives.specs.PrivateWords.{Done, seen_in, word_done}
 use Rattle.jc_natives.specs.declared.ended.Ended.TheVariants as ends
+use Rattle.jc_natives.specs.declared.native.Native.{Native}
 use Rattle.jc_store.specs.Store.{Store}
 
 -- what members mean of a call that fits is what they mean on words
@@ -31,9 +31,8 @@ MeanTheSame = (w : World) (call : NativeCall Kept) → IsAccepted w → IsFitCal
 module _ (before after : Store) (k : Kept) (member : ℕ) (arguments : List ℕ) (context : ℕ) where
   -- what the code left is what a call of the member comes to
   done_by_call : (d : Done) (word : WordCall) → word.member ≡ member → word.arguments.now ≡ arguments
-      → d ≡ done_of word.active before k (word_work (seen_in before word) k arguments (numbered natives member))
-      → d ≡ done_of word.active before k
-      (word_work (seen_in before word) k word.arguments.now (numbered natives word.member))
+      → d ≡ word_done word.active before k (seen_in before word) arguments (numbered natives member)
+      → d ≡ word_done word.active before k (seen_in before word) word.arguments.now (numbered natives word.member)
   done_by_call d word is same e = grind arith
 
   pub answered_at_once : (given : AtOnce) → MeanTheSame
@@ -64,27 +63,28 @@ module _ (before after : Store) (k : Kept) (member : ℕ) (arguments : List ℕ)
     most_cells = before.most_cells;
   }
 
-  -- what holds behind each work holds behind what was done at once
+  -- what holds behind each member holds behind what was done at once
   behind : (P : Store → Type 0)
-      → ((work : Work) (d : Done) → d ≡ done_of any_seen.active before k work → P d.store) → (given : AtOnce)
+      → ((native : Option Native) (d : Done) → d ≡ word_done any_seen.active before k any_seen arguments native
+      → P d.store) → (given : AtOnce)
       → WorksAtOnce (numbered natives member) arguments context before after given
       → (given ≡ NotAtOnce → after ≡ before) → P after
   behind P holds (Gives v) works left =
-      holds (word_work any_seen k arguments (numbered natives member))
-      (record { store = after; kept = k; ended = ends.Returned (Some v) }) (works any_seen k refl refl)
+      holds (numbered natives member) (record { store = after; kept = k; ended = ends.Returned (Some v) })
+      (works any_seen k refl refl)
   behind P holds GivesNothing works left =
-      holds (word_work any_seen k arguments (numbered natives member))
-      (record { store = after; kept = k; ended = ends.Returned None }) (works any_seen k refl refl)
+      holds (numbered natives member) (record { store = after; kept = k; ended = ends.Returned None })
+      (works any_seen k refl refl)
   behind P holds NotAtOnce works left =
-      subst P (sym (left refl))
-      (holds (gives k NoResult) (record { store = before; kept = k; ended = ends.Returned None }) refl)
+      subst P (sym (left refl)) (holds None (record { store = before; kept = k; ended = ends.Returned None }) refl)
 
   pub numbers_at_once : (given : AtOnce) → length before.objects ≡ length before.classes
       → WorksAtOnce (numbered natives member) arguments context before after given
       → (given ≡ NotAtOnce → after ≡ before) → NumbersArrays before after
   numbers_at_once given sized =
-      behind (NumbersArrays before) (λ work d is. numbers_arrays any_seen.active before k work d sized is) given
+      behind (NumbersArrays before)
+      (λ native d is. numbers_arrays any_seen.active before k any_seen arguments native d sized is) given
 
   pub limits_at_once : (given : AtOnce) → WorksAtOnce (numbered natives member) arguments context before after given
       → (given ≡ NotAtOnce → after ≡ before) → KeepsLimits before after
-  limits_at_once = behind (KeepsLimits before) (keeps_limits any_seen.active before k)
+  limits_at_once = behind (KeepsLimits before) (keeps_limits any_seen.active before k any_seen arguments)

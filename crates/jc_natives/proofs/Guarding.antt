@@ -15,14 +15,14 @@ use Rattle.jc_firewall.specs.declared.access.Verdict.TheVariants.{Allowed, Allow
 use Rattle.jc_link.specs.Linked.{World}
 use Rattle.jc_machine.specs.Going.{facts_in}
 use Rattle.jc_machine.specs.Guarded.{ChangesAccessed, IsAccessed, are_allowed, is_allowed}
-use Rattle.jc_machine.specs.Guarded.{IsJudged, is_last_denied, is_runtimes, may_change}
+use Rattle.jc_machine.specs.Guarded.{IsJudged, is_runtimes, may_change}
 use Rattle.jc_machine.specs.Lookup.{is_array}
 use Rattle.jc_machine.specs.Machine.{By, ByCode, ByRuntime, Limits, NativeCall, Touch}
 use Rattle.jc_machine.specs.Natives.{IsStill, IsWithin, KeepsObjects, setting_for}
-use Rattle.jc_machine.specs.Runtime.{security_exception}
 use Rattle.jc_natives.proofs.Bare.{bare_object, both}
 use Rattle.jc_natives.proofs.Getting.{new_object, other_object}
 use Rattle.jc_natives.proofs.Putting.{put_none, put_some, same_or_not}
+use Rattle.jc_natives.proofs.Refusing.{allowed_both}
 use Rattle.jc_natives.specs.Cells.{Write, has_room, put, put_all, written}
 use Rattle.jc_natives.specs.Checks.{access_of}
 use Rattle.jc_natives.specs.Kept.{Kept}
@@ -41,21 +41,6 @@ use Rattle.jc_words.specs.Values.{TaggedValue, Word}
 use Rattle.jc_natives.proofs.Changed.{either_is, is_change_of, is_changed}
 
 -- ---- lists of accesses
-
-pub allowed_both : (xs ys : List Touch) → are_allowed xs ≡ true → are_allowed ys ≡ true → are_allowed (xs ++ ys) ≡ true
-allowed_both [] ys e f = f
-allowed_both (x ∷ xs) ys e f =
-    let b = both (is_allowed x.verdict) (are_allowed xs) e in
-    ap (λ a. a && are_allowed (xs ++ ys)) b.0 ∙ allowed_both xs ys b.1 f
-
-denied_behind : (xs ys : List Touch) → are_allowed xs ≡ true → is_last_denied ys ≡ true → is_last_denied (xs ++ ys)
-    ≡ true
-denied_behind [] ys e f = f
-denied_behind (x ∷ []) [] e f = absurd cc
-denied_behind (x ∷ []) (y ∷ ys) e f = grind (arith, both)
-denied_behind (x ∷ z ∷ xs) ys e f =
-    let b = both (is_allowed x.verdict) (are_allowed (z ∷ xs)) e in
-    ap (λ a. a && is_last_denied (z ∷ xs ++ ys)) b.0 ∙ denied_behind (z ∷ xs) ys b.1 f
 
 pub all_replicate : {A : Type 0} (P : A → Type 0) (count : ℕ) (x : A) → P x → AllByRecursion P (replicate count x)
 all_replicate P zero x p = tt
@@ -85,16 +70,12 @@ pub record IsUse (w : World) (call : NativeCall Kept) (touch : Touch) : Type 0 w
   pub access : touch.access ≡ access_of way
   pub active : touch.active ≡ call.active.context
 
-abbrev pub Refuses : Tested → Type 0
-Refuses t = (is_last_denied t.touches ≡ true) × (t.thrown ≡ Some security_exception)
-
 pub record AreUses (w : World) (call : NativeCall Kept) (t : Tested) : Type 0 where
   pub uses : AllByRecursion (IsUse w call) t.touches
-  pub verdicts : (are_allowed t.touches ≡ true) ⊎ Refuses t
 
 module _ (w : World) (call : NativeCall Kept) where
   no_use : (thrown : Option ℕ) → AreUses w call (record { touches = []; thrown = thrown })
-  no_use thrown = record { uses = tt; verdicts = inl refl }
+  no_use thrown = record { uses = tt }
 
   -- the verdict on such an access hangs on no interface
   same_verdict : (way : Use) (o : Object TaggedValue)
@@ -126,7 +107,7 @@ module _ (w : World) (call : NativeCall Kept) where
   ranged_uses arguments r = grind (arith, no_use, either_uses)
 
   followed_uses : (t u : Tested) → AreUses w call t → AreUses w call u → AreUses w call (followed t u)
-  followed_uses t u a b = grind (arith, allowed_both, denied_behind, none-some, all_both)
+  followed_uses t u a b = grind (arith, all_both)
 
   pub tested_uses : (arguments : List ℕ) (row : MemberRow) → AreUses w call (tested (seen_of w call) arguments row)
   tested_uses arguments row = grind (arith, followed_uses, test_uses, ranged_uses)

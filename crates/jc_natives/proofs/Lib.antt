@@ -6,6 +6,7 @@ mod Room
 mod Bare
 mod Simulation
 mod Changed
+mod Refusing
 mod Guarding
 mod Keeping
 mod Numbers

@@ -1,6 +1,6 @@
 -- Objects that members make are arrays, numbered as Object is, and a store has the same limits behind them.
 use Rattle.std.proofs.Common.{◌≡◌, ℕ, zero, suc, ◌+◌, true, List, [], ◌∷◌, ◌++◌, length, slice_get}
-use Rattle.std.proofs.Common.{Some, None, refl, sym, arith}
+use Rattle.std.proofs.Common.{Option, Some, None, refl, sym, ◌∙◌, arith}
 use Rattle.std.proofs.lemmas.Option.{none-some, same_Some}
 use Rattle.jc_machine.specs.Lookup.{is_array}
 use Rattle.jc_machine.specs.WordNatives.{KeepsLimits, NumbersArrays}
@@ -9,9 +9,12 @@ use Rattle.jc_natives.proofs.Getting.{other_object}
 use Rattle.jc_natives.proofs.Putting.{put_none, put_some, same_or_not}
 use Rattle.jc_natives.specs.Cells.{Write, put, put_all}
 use Rattle.jc_natives.specs.Kept.{Kept}
-use Rattle.jc_natives.specs.PrivateWords.{Done, did_on_words, done_of, laid}
+use Rattle.jc_natives.specs.PrivateSeen.{NativeInput}
+use Rattle.jc_natives.specs.PrivateWords.{Done, did_on_words, done_of, laid, unless_refused, word_done}
 use Rattle.jc_natives.specs.Work.{Work, array_type}
+use Rattle.jc_natives.specs.declared.ended.Ended.{Ended}
 use Rattle.jc_natives.specs.declared.native.Elements.{Elements}
+use Rattle.jc_natives.specs.declared.native.Native.{Native}
 use Rattle.jc_store.specs.Heap.{Heap, object_at}
 use Rattle.jc_store.specs.Store.{Store}
 
@@ -70,10 +73,24 @@ did_numbers owner s k work h1 = grind (arith, none-some, laid_still_none, front,
 did_limits : (owner : Owner) (s : Store) (k : Kept) (work : Work) → KeepsLimits s (did_on_words owner s k work).store
 did_limits owner s k work = grind arith
 
-pub numbers_arrays : (owner : Owner) (s : Store) (k : Kept) (work : Work) (d : Done)
-    → length s.objects ≡ length s.classes → d ≡ done_of owner s k work → NumbersArrays s d.store
-numbers_arrays owner s k work d same is = grind (arith, did_numbers)
+same_numbers : (s : Store) → NumbersArrays s s
+same_numbers s =
+    record { kept = λ number class e. e; made = λ number object e f. absurd (none-some object (sym e ∙ f)) }
 
-pub keeps_limits : (owner : Owner) (s : Store) (k : Kept) (work : Work) (d : Done) → d ≡ done_of owner s k work
-    → KeepsLimits s d.store
-keeps_limits owner s k work d is = grind (arith, did_limits)
+unless_numbers : (owner : Owner) (s : Store) (k : Kept) (refusal : Option Ended) (work : Work)
+    → length s.objects ≡ length s.classes
+    → NumbersArrays s (unless_refused s k refusal (done_of owner s k work)).store
+unless_numbers owner s k refusal work h1 = grind (arith, same_numbers, did_numbers)
+
+unless_limits : (owner : Owner) (s : Store) (k : Kept) (refusal : Option Ended) (work : Work)
+    → KeepsLimits s (unless_refused s k refusal (done_of owner s k work)).store
+unless_limits owner s k refusal work = grind (arith, did_limits)
+
+pub numbers_arrays : (owner : Owner) (s : Store) (k : Kept) (seen : NativeInput) (arguments : List ℕ)
+    (native : Option Native) (d : Done) → length s.objects ≡ length s.classes
+    → d ≡ word_done owner s k seen arguments native → NumbersArrays s d.store
+numbers_arrays owner s k seen arguments native d same is = grind (arith, same_numbers, unless_numbers)
+
+pub keeps_limits : (owner : Owner) (s : Store) (k : Kept) (seen : NativeInput) (arguments : List ℕ)
+    (native : Option Native) (d : Done) → d ≡ word_done owner s k seen arguments native → KeepsLimits s d.store
+keeps_limits owner s k seen arguments native d is = grind (arith, unless_limits)

@@ -7,7 +7,7 @@ use Rattle.jc_natives.specs.Kept.{Kept}
 use Rattle.jc_natives.specs.PrivateCells.{argument, size_of}
 use Rattle.jc_natives.specs.PrivateSeen.{NativeInput}
 use Rattle.jc_natives.specs.PrivateTests.{used}
-use Rattle.jc_natives.specs.PrivateWords.{done_of, word_work}
+use Rattle.jc_natives.specs.PrivateWords.{word_done}
 use Rattle.jc_natives.specs.declared.ended.Ended.TheVariants as ends
 use Rattle.jc_natives.specs.declared.native.Native.{Native}
 use Rattle.jc_natives.specs.declared.row.Use.{Use}
@@ -35,4 +35,4 @@ abbrev pub WorksAtOnce : Option Native → List ℕ → ℕ → Store → Store 
 WorksAtOnce native arguments context before after given =
     (s : NativeInput) (k : Kept) → s.objects ≡ before.objects → s.active.context ≡ context
     → IfDone given (λ value. record { store = after; kept = k; ended = ends.Returned value }
-    ≡ done_of s.active before k (word_work s k arguments native))
+    ≡ word_done s.active before k s arguments native)

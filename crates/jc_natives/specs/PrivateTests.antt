@@ -6,12 +6,15 @@ use Rattle.jc_firewall.specs.declared.access.Facts.{Facts}
 use Rattle.jc_firewall.specs.declared.access.Verdict.{Verdict}
 use Rattle.jc_firewall.specs.declared.access.Verdict.TheVariants.{Allowed, AllowedSwitch, Denied}
 use Rattle.jc_machine.specs.Lookup.{is_array}
-use Rattle.jc_machine.specs.Machine.{ByCode, Touch}
+use Rattle.jc_machine.specs.Machine.{ByCode, Touch, last_denied}
 use Rattle.jc_machine.specs.Runtime.{array_index_exception, null_pointer_exception, security_exception}
+use Rattle.jc_machine.specs.declared.stop.DeniedAccess.{DeniedAccess}
 use Rattle.jc_natives.specs.Cells.{extended, is_within}
 use Rattle.jc_natives.specs.Checks.{access_of}
 use Rattle.jc_natives.specs.PrivateCells.{aid_count, argument, size_of}
 use Rattle.jc_natives.specs.PrivateSeen.{NativeInput, is_aid_object}
+use Rattle.jc_natives.specs.declared.ended.Ended.{Ended}
+use Rattle.jc_natives.specs.declared.ended.Ended.TheVariants as ends
 use Rattle.jc_natives.specs.declared.row.Length.{Length}
 use Rattle.jc_natives.specs.declared.row.Length.TheVariants.{ByteAt, Fixed, OfAid, ShortAt}
 use Rattle.jc_natives.specs.declared.row.Range.{Range}
@@ -43,6 +46,19 @@ goes_on touches None later = record { touches = touches ++ later.touches; thrown
 
 abbrev pub followed : Tested → Tested → Tested
 followed first later = goes_on first.touches first.thrown later
+
+-- the end of a refused member: the access that it was denied, if one was, or else the object that it throws
+abbrev pub refused_end : ℕ → Option DeniedAccess → Ended
+refused_end object None = ends.Thrown object
+refused_end object (Some access) = ends.AccessDenied access
+
+abbrev pub refusal_by : List Touch → Option ℕ → Option Ended
+refusal_by touches None = None
+refusal_by touches (Some object) = Some (refused_end object (last_denied touches))
+
+-- the end of a member if a test fails
+abbrev pub refusal_of : Tested → Option Ended
+refusal_of t = refusal_by t.touches t.thrown
 
 -- ---- accesses
 

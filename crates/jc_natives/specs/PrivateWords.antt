@@ -3,17 +3,17 @@ use Rattle.std.specs.Prelude.{◌≡◌, ℕ, List, [], ◌∷◌, Option, Some,
 use Rattle.jc_machine.specs.declared.natives.WordCall.{WordCall}
 use Rattle.jc_machine.specs.declared.natives.WordCallback.{WordCallback}
 use Rattle.jc_machine.specs.declared.natives.WordOutcome.{WordOutcome}
-use Rattle.jc_machine.specs.declared.natives.WordOutcome.TheVariants.{CallsBack, Returned, Thrown}
+use Rattle.jc_machine.specs.declared.natives.WordOutcome.TheVariants.{AccessDenied, CallsBack, Returned, Thrown}
 use Rattle.jc_names.specs.declared.owner.Owner.{Owner}
 use Rattle.jc_natives.specs.Cells.{Write, put_all}
 use Rattle.jc_natives.specs.Kept.{Kept}
 use Rattle.jc_natives.specs.Meaning.{with_room}
 use Rattle.jc_natives.specs.PrivateMeaning.{row_of, work_of}
 use Rattle.jc_natives.specs.PrivateSeen.{NativeInput}
-use Rattle.jc_natives.specs.PrivateTests.{tested}
+use Rattle.jc_natives.specs.PrivateTests.{refusal_of, tested}
 use Rattle.jc_machine.specs.Natives.{shareable_member}
 use Rattle.jc_natives.specs.Work.{Asks, Does, Ending, GivesReference, GivesWord, Makes, NewArray, NoResult, Throws}
-use Rattle.jc_natives.specs.Work.{Work, array_type, gives, throws}
+use Rattle.jc_natives.specs.Work.{Work, array_type}
 use Rattle.jc_natives.specs.declared.ended.Ended.{Ended}
 use Rattle.jc_natives.specs.declared.ended.Ended.TheVariants as ends
 use Rattle.jc_natives.specs.declared.ended.Question.{Question}
@@ -73,19 +73,25 @@ done_of owner store k work =
 abbrev pub Passes : NativeInput → List ℕ → Native → Type 0
 Passes s arguments native = (tested s arguments (row_of native)).thrown ≡ None
 
--- the work of a member with its tests: to throw, if a test fails
-abbrev pub tested_work : Kept → Option ℕ → Work → Work
-tested_work k (Some object) work = throws k object
-tested_work k None work = work
+-- a member that only ends: nothing changes
+abbrev pub just_ended : Store → Kept → Ended → Done
+just_ended store k ended = record { store = store; kept = k; ended = ended }
 
-abbrev pub native_work : NativeInput → Kept → List ℕ → Native → Work
-native_work s k arguments native =
-    tested_work k (tested s arguments (row_of native)).thrown (work_of s k arguments native)
+-- it ends so if a test fails; otherwise its work is done
+abbrev pub unless_refused : Store → Kept → Option Ended → Done → Done
+unless_refused store k (Some ended) done = just_ended store k ended
+unless_refused store k None done = done
 
--- without a member there is no work
-abbrev pub word_work : NativeInput → Kept → List ℕ → Option Native → Work
-word_work s k arguments None = gives k NoResult
-word_work s k arguments (Some native) = native_work s k arguments native
+-- what a member does, with its tests
+abbrev pub native_done : Owner → Store → Kept → NativeInput → List ℕ → Native → Done
+native_done owner store k s arguments native =
+    unless_refused store k (refusal_of (tested s arguments (row_of native)))
+    (done_of owner store k (work_of s k arguments native))
+
+-- without a member nothing is done
+abbrev pub word_done : Owner → Store → Kept → NativeInput → List ℕ → Option Native → Done
+word_done owner store k s arguments None = just_ended store k (ends.Returned None)
+word_done owner store k s arguments (Some native) = native_done owner store k s arguments native
 
 -- a question as a call, and an end as an outcome
 pub record AsksSo (callback : WordCallback) (q : Question) : Type 0 where
@@ -96,10 +102,17 @@ pub record AsksSo (callback : WordCallback) (q : Question) : Type 0 where
 abbrev pub TellsEnd : WordOutcome → Ended → Type 0
 TellsEnd (Returned word) (ends.Returned given) = word ≡ given
 TellsEnd (Returned word) (ends.Thrown object) = ⊥
+TellsEnd (Returned word) (ends.AccessDenied access) = ⊥
 TellsEnd (Returned word) (ends.Asks question) = ⊥
 TellsEnd (Thrown number) (ends.Returned given) = ⊥
 TellsEnd (Thrown number) (ends.Thrown object) = number ≡ object
+TellsEnd (Thrown number) (ends.AccessDenied access) = ⊥
 TellsEnd (Thrown number) (ends.Asks question) = ⊥
+TellsEnd (AccessDenied denied) (ends.Returned given) = ⊥
+TellsEnd (AccessDenied denied) (ends.Thrown object) = ⊥
+TellsEnd (AccessDenied denied) (ends.AccessDenied access) = denied ≡ access
+TellsEnd (AccessDenied denied) (ends.Asks question) = ⊥
 TellsEnd (CallsBack callback) (ends.Returned given) = ⊥
 TellsEnd (CallsBack callback) (ends.Thrown object) = ⊥
+TellsEnd (CallsBack callback) (ends.AccessDenied access) = ⊥
 TellsEnd (CallsBack callback) (ends.Asks question) = AsksSo callback question

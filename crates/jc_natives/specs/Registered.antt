@@ -19,6 +19,6 @@ pub data MayRegister (before after : Kept) : Type 0 where
 -- the same after a call, unless that was stuck
 abbrev pub LeavesInstances : Kept → CallEnd Kept → Type 0
 LeavesInstances before (Gave m value) = MayRegister before m.runtime
-LeavesInstances before (Threw m object at) = MayRegister before m.runtime
+LeavesInstances before (Threw m object at denied) = MayRegister before m.runtime
 LeavesInstances before (RanOut m spent at) = MayRegister before m.runtime
 LeavesInstances before WasStuck = ⊤

@@ -5,7 +5,7 @@ ghost use Rattle.jc_natives.specs.Cells.{extended, put_all};
 ghost use Rattle.jc_natives.specs.Kept.{has_aid_length};
 ghost use Rattle.jc_natives.specs.PrivateAids.{aid_work, is_range};
 ghost use Rattle.jc_natives.specs.PrivateCells.{argument, bytes_of};
-ghost use Rattle.jc_natives.specs.PrivateWords.{done_of, native_work, seen_in};
+ghost use Rattle.jc_natives.specs.PrivateWords.{done_of, native_done, seen_in};
 ghost use Rattle.jc_natives.specs.declared.native.AidNative.TheVariants as natives;
 ghost use Rattle.jc_natives.specs.declared.native.Native.TheVariants.{OfAid};
 ghost use Rattle.jc_store.specs.Store.{with_objects};
@@ -146,8 +146,8 @@ pub(crate) fn aid_native(
     native: AidNative,
 ) -> Ended
     ensures { record { store = store.new; kept = runtime.new; ended = result }
-        ≡ done_of call.now.active store.old runtime.old
-        (native_work (seen_in store.old call.now) runtime.old call.now.arguments.now (OfAid native)) }
+        ≡ native_done call.now.active store.old runtime.old (seen_in store.old call.now)
+        call.now.arguments.now (OfAid native) }
 {
     match native {
         AidNative::Construct => tested(AidNative::Construct, store, call, runtime),

@@ -3,7 +3,7 @@
 ghost use Rattle.std.specs.Prelude.{◌≡◌};
 ghost use Rattle.jc_natives.specs.Kept.{is_fresh, is_incoming, is_length_set, is_outgoing};
 ghost use Rattle.jc_natives.specs.PrivateApdus.{apdu_work, is_in_buffer, sends, sends_at_once};
-ghost use Rattle.jc_natives.specs.PrivateWords.{done_of, native_work, seen_in};
+ghost use Rattle.jc_natives.specs.PrivateWords.{done_of, native_done, seen_in};
 ghost use Rattle.jc_natives.specs.declared.native.ApduNative.TheVariants as natives;
 ghost use Rattle.jc_natives.specs.declared.native.Native.TheVariants.{OfApdu};
 
@@ -260,8 +260,8 @@ pub(crate) fn apdu_native(
     native: ApduNative,
 ) -> Ended
     ensures { record { store = store.new; kept = runtime.new; ended = result }
-        ≡ done_of call.now.active store.old runtime.old
-        (native_work (seen_in store.old call.now) runtime.old call.now.arguments.now (OfApdu native)) }
+        ≡ native_done call.now.active store.old runtime.old (seen_in store.old call.now)
+        call.now.arguments.now (OfApdu native) }
 {
     match native {
         ApduNative::GetBuffer => tested(ApduNative::GetBuffer, store, call, runtime),

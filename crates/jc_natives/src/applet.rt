@@ -5,7 +5,7 @@ ghost use Rattle.jc_natives.specs.Kept.{aid_object, has_aid_length, instance_wit
 ghost use Rattle.jc_natives.specs.PrivateApplets.{allowed, applet_work, may_register, owner_of, registers};
 ghost use Rattle.jc_natives.specs.PrivateApplets.{registers_range};
 ghost use Rattle.jc_natives.specs.PrivateCells.{bytes_of};
-ghost use Rattle.jc_natives.specs.PrivateWords.{done_of, native_work, seen_in};
+ghost use Rattle.jc_natives.specs.PrivateWords.{done_of, native_done, seen_in};
 ghost use Rattle.jc_natives.specs.declared.native.AppletNative.TheVariants as natives;
 ghost use Rattle.jc_natives.specs.declared.native.Native.TheVariants.{OfApplet};
 
@@ -216,8 +216,8 @@ pub(crate) fn applet_native(
     native: AppletNative,
 ) -> Ended
     ensures { record { store = store.new; kept = runtime.new; ended = result }
-        ≡ done_of call.now.active store.old runtime.old
-        (native_work (seen_in store.old call.now) runtime.old call.now.arguments.now (OfApplet native)) }
+        ≡ native_done call.now.active store.old runtime.old (seen_in store.old call.now)
+        call.now.arguments.now (OfApplet native) }
 {
     match native {
         AppletNative::Register => tested(AppletNative::Register, store, call, runtime),

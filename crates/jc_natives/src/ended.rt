@@ -7,6 +7,7 @@ ghost use Rattle.jc_store.specs.Store.{with_objects};
 
 use crate::cells::put;
 use crate::native::{APDU_EXCEPTION, SYSTEM_EXCEPTION};
+use jc_machine::DeniedAccess;
 use jc_store::Store;
 
 /// A question to an applet for a shareable object: the applet's object, the AID object of the asking applet or 0, and a
@@ -25,6 +26,8 @@ pub enum Ended {
     Returned(Option<u16>),
     /// It throws the object with this number.
     Thrown(u16),
+    /// The firewall denied it an access to an argument. It throws the runtime's SecurityException.
+    AccessDenied(DeniedAccess),
     /// It asks an applet, and returns that one's answer.
     Asks(Question),
 }

@@ -7,7 +7,6 @@ mod applet;
 mod at_once;
 mod bytes;
 mod cells;
-mod denied;
 mod ended;
 mod examples;
 mod kept;

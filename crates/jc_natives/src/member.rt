@@ -2,7 +2,7 @@
 
 ghost use Rattle.std.specs.Prelude.{◌≡◌};
 ghost use Rattle.jc_natives.specs.PrivateMeaning.{row_of, work_of};
-ghost use Rattle.jc_natives.specs.PrivateWords.{Passes, done_of, native_work, seen_in};
+ghost use Rattle.jc_natives.specs.PrivateWords.{Passes, done_of, native_done, seen_in};
 ghost use Rattle.jc_natives.specs.declared.native.Native.{Native as Named};
 
 use crate::ended::Ended;
@@ -31,6 +31,7 @@ pub(crate) trait Member: Copy {
 
 /// Tests the arguments of a member, and does its work. If the member is known at compile time, its row is, too.
 #[inline(always)]
+#[tactic(auto, using(crate::proofs::Refusing::none_refused))]
 pub(crate) fn tested<M: Member>(
     member: M,
     store: &mut Store,
@@ -38,11 +39,11 @@ pub(crate) fn tested<M: Member>(
     runtime: &mut Runtime,
 ) -> Ended
     ensures { record { store = store.new; kept = runtime.new; ended = result }
-        ≡ done_of call.now.active store.old runtime.old
-        (native_work (seen_in store.old call.now) runtime.old call.now.arguments.now (M.native member)) }
+        ≡ native_done call.now.active store.old runtime.old (seen_in store.old call.now)
+        call.now.arguments.now (M.native member) }
 {
     match refusal(store, call, &member.row()) {
-        Some(object) => Ended::Thrown(object),
+        Some(end) => end,
         None => member.work(store, call, runtime),
     }
 }

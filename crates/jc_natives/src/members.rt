@@ -10,13 +10,12 @@ ghost use Rattle.jc_natives.specs.Kept.{Kept};
 ghost use Rattle.jc_natives.specs.Meaning.{meaning};
 ghost use Rattle.jc_natives.specs.Members.{natives};
 ghost use Rattle.jc_natives.specs.PrivateMeaning.{answer_on_words};
-ghost use Rattle.jc_natives.specs.PrivateWords.{AsksSo, TellsEnd, done_of, native_work, seen_in, word_work};
+ghost use Rattle.jc_natives.specs.PrivateWords.{AsksSo, TellsEnd, native_done, seen_in, word_done};
 
 use crate::aid::aid_native;
 use crate::apdu::apdu_native;
 use crate::applet::applet_native;
 use crate::at_once::done_at_once;
-use crate::denied::denied;
 use crate::ended::{Ended, Question};
 use crate::kept::Runtime;
 use crate::member::tested;
@@ -25,7 +24,6 @@ use crate::object::object_native;
 use crate::system::system_native;
 use crate::utility::{utility_called, utility_native};
 use arrayvec::ArrayVec;
-use jc_firewall::Denial;
 use jc_link::{built_worlds_are_sound, built_worlds_stand_on_the_api};
 use jc_machine::{AtOnce, Natives, WordCall, WordCallback, WordOutcome};
 use jc_store::Store;
@@ -42,8 +40,8 @@ fn call_native(
     native: Native,
 ) -> Ended
     ensures { record { store = store.new; kept = runtime.new; ended = result }
-        ≡ done_of call.now.active store.old runtime.old
-        (native_work (seen_in store.old call.now) runtime.old call.now.arguments.now native) }
+        ≡ native_done call.now.active store.old runtime.old (seen_in store.old call.now)
+        call.now.arguments.now native }
 {
     match native {
         Native::OfObject(native) => object_native(store, call, runtime, native),
@@ -60,9 +58,8 @@ fn call_native(
 #[inline(always)]
 fn call_member(store: &mut Store, call: &WordCall<'_>, runtime: &mut Runtime) -> Ended
     ensures { record { store = store.new; kept = runtime.new; ended = result }
-        ≡ done_of call.now.active store.old runtime.old
-        (word_work (seen_in store.old call.now) runtime.old call.now.arguments.now
-        (numbered natives call.now.member)) }
+        ≡ word_done call.now.active store.old runtime.old (seen_in store.old call.now) call.now.arguments.now
+        (numbered natives call.now.member) }
 {
     match call.member {
         49 => utility_called(store, call, runtime, UtilityNative::ArrayCopy),
@@ -104,6 +101,7 @@ fn outcome_of(ended: Ended) -> WordOutcome
     match ended {
         Ended::Returned(word) => WordOutcome::Returned(word),
         Ended::Thrown(object) => WordOutcome::Thrown(object),
+        Ended::AccessDenied(access) => WordOutcome::AccessDenied(access),
         Ended::Asks(question) => WordOutcome::CallsBack(callback_of(question)),
     }
 }
@@ -148,10 +146,6 @@ impl Natives for Runtime {
         // each object has a number for its class
         let _used = store.objects_used();
         done_at_once(store, member, arguments, context)
-    }
-
-    fn denial(&self, store: &Store, call: &WordCall<'_>) -> Option<Denial> {
-        denied(store, call, native_of(call.member)?)
     }
 
     fn law(&self) {

@@ -3,7 +3,7 @@
 
 ghost use Rattle.std.specs.Prelude.{◌≡◌};
 ghost use Rattle.jc_natives.specs.PrivateObjects.{are_same_aids, equals, have_same_aid, object_work};
-ghost use Rattle.jc_natives.specs.PrivateWords.{done_of, native_work, seen_in};
+ghost use Rattle.jc_natives.specs.PrivateWords.{done_of, native_done, seen_in};
 ghost use Rattle.jc_natives.specs.declared.native.Native.TheVariants.{OfObject};
 
 use crate::bytes::same_bytes;
@@ -100,8 +100,8 @@ pub(crate) fn object_native(
     native: ObjectNative,
 ) -> Ended
     ensures { record { store = store.new; kept = runtime.new; ended = result }
-        ≡ done_of call.now.active store.old runtime.old
-        (native_work (seen_in store.old call.now) runtime.old call.now.arguments.now (OfObject native)) }
+        ≡ native_done call.now.active store.old runtime.old (seen_in store.old call.now)
+        call.now.arguments.now (OfObject native) }
 {
     match native {
         ObjectNative::Construct => tested(ObjectNative::Construct, store, call, runtime),

@@ -6,7 +6,7 @@ ghost use Rattle.jc_natives.specs.Kept.{instance_with};
 ghost use Rattle.jc_natives.specs.Members.{aid_of, aid_of_owner, event_of};
 ghost use Rattle.jc_natives.specs.PrivateCells.{argument, bytes_of};
 ghost use Rattle.jc_natives.specs.PrivateSystem.{asks, makes, makes_array, may_make, system_work};
-ghost use Rattle.jc_natives.specs.PrivateWords.{done_of, native_work, seen_in};
+ghost use Rattle.jc_natives.specs.PrivateWords.{done_of, native_done, seen_in};
 ghost use Rattle.jc_natives.specs.Work.{Makes, array_type};
 ghost use Rattle.jc_natives.specs.declared.native.SystemNative.TheVariants as natives;
 ghost use Rattle.jc_natives.specs.declared.native.Native.TheVariants.{OfSystem};
@@ -263,8 +263,8 @@ pub(crate) fn system_native(
     native: SystemNative,
 ) -> Ended
     ensures { record { store = store.new; kept = runtime.new; ended = result }
-        ≡ done_of call.now.active store.old runtime.old
-        (native_work (seen_in store.old call.now) runtime.old call.now.arguments.now (OfSystem native)) }
+        ≡ native_done call.now.active store.old runtime.old (seen_in store.old call.now)
+        call.now.arguments.now (OfSystem native) }
 {
     match native {
         SystemNative::GetAid => tested(SystemNative::GetAid, store, call, runtime),

@@ -4,8 +4,8 @@ ghost use Rattle.std.specs.Prelude.{◌≡◌, ℕ, true, Some};
 ghost use Rattle.jc_natives.specs.PrivateWords.{seen_in};
 ghost use Rattle.jc_natives.specs.Checks.{access_of};
 ghost use Rattle.jc_natives.specs.PrivateSeen.{is_aid_object};
-ghost use Rattle.jc_natives.specs.PrivateTests.{by_verdict, facts_of, is_in_range, length_of, ranged, test, tested};
-ghost use Rattle.jc_natives.specs.PrivateTests.{used};
+ghost use Rattle.jc_natives.specs.PrivateTests.{by_verdict, facts_of, is_in_range, length_of, ranged, refusal_of};
+ghost use Rattle.jc_natives.specs.PrivateTests.{test, tested, used};
 ghost use Rattle.jc_natives.specs.declared.row.Test.TheVariants.{BesideAid};
 ghost use Rattle.jc_machine.specs.Lookup.{class_of, is_array};
 ghost use Rattle.jc_machine.specs.declared.natives.WordCall as words;
@@ -15,10 +15,11 @@ ghost use Rattle.jc_store.specs.Store as stores;
 ghost use Rattle.jc_store.specs.Store.{IsOwn, IsThere};
 
 use crate::cells::{aid_count, argument, extended, is_within, size};
+use crate::ended::Ended;
 use crate::row::{Length, MemberRow, Range, Test, Use};
 use jc_api::ApiClass;
 use jc_firewall::{Access, Facts, Verdict, decide, own_is_allowed};
-use jc_machine::WordCall;
+use jc_machine::{DeniedAccess, WordCall};
 use jc_names::ClassName;
 use jc_store::{ObjectType, Store};
 
@@ -26,14 +27,12 @@ const NULL_POINTER_EXCEPTION: u16 = 6;
 
 const ARRAY_INDEX_EXCEPTION: u16 = 4;
 
-const SECURITY_EXCEPTION: u16 = 7;
-
 const AID: ClassName = ClassName::Api(ApiClass::Aid);
 
 const OBJECT: ClassName = ClassName::Api(ApiClass::Object);
 
 #[inline(always)]
-pub(crate) fn access_of(way: Use) -> Access
+fn access_of(way: Use) -> Access
     ensures { result ≡ access_of way }
 {
     match way {
@@ -59,7 +58,7 @@ fn is_array(object: ObjectType) -> bool
 
 // The firewall's facts of an object.
 #[inline(always)]
-pub(crate) fn facts_of(store: &Store, call: &WordCall<'_>, number: u16) -> Facts
+fn facts_of(store: &Store, call: &WordCall<'_>, number: u16) -> Facts
     requires { IsThere store.now number }
     ensures { (object : heaps.Object ℕ) → object_at store.now.objects number ≡ Some object
         → result ≡ facts_of (seen_in store.now call.now) object }
@@ -77,15 +76,19 @@ pub(crate) fn facts_of(store: &Store, call: &WordCall<'_>, number: u16) -> Facts
     }
 }
 
-// The object that is thrown by a verdict, if that denies.
+// The end by a verdict on a use of an object, if that denies.
 #[inline(always)]
-fn thrown_by(verdict: Verdict) -> Option<u16>
-    ensures { (store : stores.Store) (call : words.WordCall) (way : Use) (number : ℕ)
-        → result ≡ (by_verdict (seen_in store call) way number verdict).thrown }
+fn ended_by(verdict: Verdict, way: Use, number: u16) -> Option<Ended>
+    ensures { (store : stores.Store) (call : words.WordCall)
+        → result ≡ refusal_of (by_verdict (seen_in store call) way number verdict) }
 {
     match verdict {
         Verdict::Allowed | Verdict::AllowedSwitch(_) => None,
-        Verdict::Denied(_) => Some(SECURITY_EXCEPTION),
+        Verdict::Denied(rule) => Some(Ended::AccessDenied(DeniedAccess {
+            access: access_of(way),
+            object: number,
+            rule,
+        })),
     }
 }
 
@@ -100,21 +103,25 @@ fn is_own(store: &Store, call: &WordCall<'_>, number: u16) -> bool
 
 // Tests a use of any object with the firewall.
 #[inline(never)]
-fn judged(store: &Store, call: &WordCall<'_>, way: Use, number: u16) -> Option<u16>
+fn judged(store: &Store, call: &WordCall<'_>, way: Use, number: u16) -> Option<Ended>
     requires { IsThere store.now number }
-    ensures { result ≡ (used (seen_in store.now call.now) way number).thrown }
+    ensures { result ≡ refusal_of (used (seen_in store.now call.now) way number) }
 {
     let facts = facts_of(store, call, number);
-    thrown_by(decide(access_of(way), call.active.context, &facts))
+    ended_by(
+        decide(access_of(way), call.active.context, &facts),
+        way,
+        number,
+    )
 }
 
 // Tests a use of an object.
 #[inline(always)]
-fn used(store: &Store, call: &WordCall<'_>, way: Use, number: u16) -> Option<u16>
-    ensures { result ≡ (used (seen_in store.now call.now) way number).thrown }
+fn used(store: &Store, call: &WordCall<'_>, way: Use, number: u16) -> Option<Ended>
+    ensures { result ≡ refusal_of (used (seen_in store.now call.now) way number) }
 {
     if !store.is_there(number) {
-        return Some(NULL_POINTER_EXCEPTION);
+        return Some(Ended::Thrown(NULL_POINTER_EXCEPTION));
     }
     if is_own(store, call, number) {
         own_is_allowed();
@@ -150,8 +157,8 @@ pub(crate) fn is_aid_object(store: &Store, call: &WordCall<'_>, number: u16) -> 
 
 // Performs one test.
 #[inline(always)]
-fn test(store: &Store, call: &WordCall<'_>, wanted: Test) -> Option<u16>
-    ensures { result ≡ (test (seen_in store.now call.now) call.now.arguments.now wanted).thrown }
+fn test(store: &Store, call: &WordCall<'_>, wanted: Test) -> Option<Ended>
+    ensures { result ≡ refusal_of (test (seen_in store.now call.now) call.now.arguments.now wanted) }
 {
     match wanted {
         Test::Nothing => None,
@@ -170,8 +177,8 @@ fn test(store: &Store, call: &WordCall<'_>, wanted: Test) -> Option<u16>
 
 // Whether the second argument may be called, if the first two are AIDs.
 #[inline(never)]
-fn beside_aid(store: &Store, call: &WordCall<'_>) -> Option<u16>
-    ensures { result ≡ (test (seen_in store.now call.now) call.now.arguments.now BesideAid).thrown }
+fn beside_aid(store: &Store, call: &WordCall<'_>) -> Option<Ended>
+    ensures { result ≡ refusal_of (test (seen_in store.now call.now) call.now.arguments.now BesideAid) }
 {
     let one = argument(call.arguments, 0);
     let other = argument(call.arguments, 1);
@@ -206,30 +213,31 @@ fn is_in_range(store: &Store, call: &WordCall<'_>, range: Range) -> bool
 }
 
 #[inline(always)]
-fn ranged(store: &Store, call: &WordCall<'_>, range: Option<Range>) -> Option<u16>
-    ensures { result ≡ (ranged (seen_in store.now call.now) call.now.arguments.now range).thrown }
+fn ranged(store: &Store, call: &WordCall<'_>, range: Option<Range>) -> Option<Ended>
+    ensures { result ≡ refusal_of (ranged (seen_in store.now call.now) call.now.arguments.now range) }
 {
     let range = range?;
     if is_in_range(store, call, range) {
         None
     } else {
-        Some(ARRAY_INDEX_EXCEPTION)
+        Some(Ended::Thrown(ARRAY_INDEX_EXCEPTION))
     }
 }
 
-/// Performs the tests of a member, and returns the object that is thrown if one fails.
+/// Performs the tests of a member, and returns its end if one fails.
 #[inline(always)]
-pub(crate) fn refusal(store: &Store, call: &WordCall<'_>, row: &MemberRow) -> Option<u16>
-    ensures { result ≡ (tested (seen_in store.now call.now) call.now.arguments.now row.now).thrown }
+#[tactic(auto, using(crate::proofs::Refusing::refusal_in_order))]
+pub(crate) fn refusal(store: &Store, call: &WordCall<'_>, row: &MemberRow) -> Option<Ended>
+    ensures { result ≡ refusal_of (tested (seen_in store.now call.now) call.now.arguments.now row.now) }
 {
-    if let Some(object) = test(store, call, row.first) {
-        return Some(object);
+    if let Some(end) = test(store, call, row.first) {
+        return Some(end);
     }
-    if let Some(object) = test(store, call, row.second) {
-        return Some(object);
+    if let Some(end) = test(store, call, row.second) {
+        return Some(end);
     }
-    if let Some(object) = ranged(store, call, row.first_range) {
-        return Some(object);
+    if let Some(end) = ranged(store, call, row.first_range) {
+        return Some(end);
     }
     ranged(store, call, row.second_range)
 }

@@ -1,7 +1,7 @@
 //! Members of Util (Java Card API Specification, Util).
 
 ghost use Rattle.std.specs.Prelude.{◌≡◌};
-ghost use Rattle.jc_natives.specs.PrivateWords.{Passes, done_of, native_work, seen_in};
+ghost use Rattle.jc_natives.specs.PrivateWords.{Passes, done_of, native_done, seen_in};
 ghost use Rattle.jc_natives.specs.PrivateUtilities.{utility_work};
 ghost use Rattle.jc_natives.specs.declared.native.UtilityNative.TheVariants as natives;
 ghost use Rattle.jc_natives.specs.declared.native.Native.TheVariants.{OfUtility};
@@ -161,9 +161,8 @@ impl Member for UtilityNative {
 #[inline(never)]
 fn array_copy_tested(store: &mut Store, call: &WordCall<'_>, runtime: &mut Runtime) -> Ended
     ensures { record { store = store.new; kept = runtime.new; ended = result }
-        ≡ done_of call.now.active store.old runtime.old
-        (native_work (seen_in store.old call.now) runtime.old call.now.arguments.now
-        (OfUtility natives.ArrayCopy)) }
+        ≡ native_done call.now.active store.old runtime.old (seen_in store.old call.now)
+        call.now.arguments.now (OfUtility natives.ArrayCopy) }
 {
     tested(UtilityNative::ArrayCopy, store, call, runtime)
 }
@@ -172,9 +171,8 @@ fn array_copy_tested(store: &mut Store, call: &WordCall<'_>, runtime: &mut Runti
 #[inline(never)]
 fn array_fill_tested(store: &mut Store, call: &WordCall<'_>, runtime: &mut Runtime) -> Ended
     ensures { record { store = store.new; kept = runtime.new; ended = result }
-        ≡ done_of call.now.active store.old runtime.old
-        (native_work (seen_in store.old call.now) runtime.old call.now.arguments.now
-        (OfUtility natives.ArrayFill)) }
+        ≡ native_done call.now.active store.old runtime.old (seen_in store.old call.now)
+        call.now.arguments.now (OfUtility natives.ArrayFill) }
 {
     tested(UtilityNative::ArrayFill, store, call, runtime)
 }
@@ -183,9 +181,8 @@ fn array_fill_tested(store: &mut Store, call: &WordCall<'_>, runtime: &mut Runti
 #[inline(never)]
 fn array_compare_tested(store: &mut Store, call: &WordCall<'_>, runtime: &mut Runtime) -> Ended
     ensures { record { store = store.new; kept = runtime.new; ended = result }
-        ≡ done_of call.now.active store.old runtime.old
-        (native_work (seen_in store.old call.now) runtime.old call.now.arguments.now
-        (OfUtility natives.ArrayCompare)) }
+        ≡ native_done call.now.active store.old runtime.old (seen_in store.old call.now)
+        call.now.arguments.now (OfUtility natives.ArrayCompare) }
 {
     tested(UtilityNative::ArrayCompare, store, call, runtime)
 }
@@ -200,8 +197,8 @@ pub(crate) fn utility_called(
     native: UtilityNative,
 ) -> Ended
     ensures { record { store = store.new; kept = runtime.new; ended = result }
-        ≡ done_of call.now.active store.old runtime.old
-        (native_work (seen_in store.old call.now) runtime.old call.now.arguments.now (OfUtility native)) }
+        ≡ native_done call.now.active store.old runtime.old (seen_in store.old call.now)
+        call.now.arguments.now (OfUtility native) }
 {
     match native {
         UtilityNative::ArrayCopy => array_copy_tested(store, call, runtime),
@@ -222,8 +219,8 @@ pub(crate) fn utility_native(
     native: UtilityNative,
 ) -> Ended
     ensures { record { store = store.new; kept = runtime.new; ended = result }
-        ≡ done_of call.now.active store.old runtime.old
-        (native_work (seen_in store.old call.now) runtime.old call.now.arguments.now (OfUtility native)) }
+        ≡ native_done call.now.active store.old runtime.old (seen_in store.old call.now)
+        call.now.arguments.now (OfUtility native) }
 {
     utility_called(store, call, runtime, native)
 }

@@ -7,7 +7,6 @@ use Rattle.std.specs.Io.KnownBytes.{Appends}
 use Rattle.std.specs.Prelude.{IsErrAnd}
 use Rattle.jc_card.specs.Card.{CardState}
 use Rattle.jc_card.specs.Reads.{CardWords, Holds}
-use Rattle.jc_firewall.specs.declared.access.Denial.{Denial}
 use Rattle.jc_interp.specs.declared.shown.ShownFrame.{ShownFrame}
 use Rattle.jc_source.specs.Source.{Asked, HoldSame, failures_of, shortages_of}
 use Rattle.jc_source.specs.declared.source.SourceFault.{SourceFault}
@@ -78,9 +77,9 @@ none_counted {failed = failed} {short = short} h1 h2 =
 
 -- an answer
 pub answer_counted : {failed short failed_after short_after : ℕ} (number : ℕ) (answer : Answered)
-    (denial : Option Denial) (stopped : Option ShownFrame) → failed_after ≡ failed + 0 → short_after ≡ short + 0
-    → AreCounted (fault_count failed short failed_after short_after) (AnsweredLine number answer denial stopped ∷ [])
-answer_counted number answer denial stopped h1 h2 = record { failures = h1; shortages = h2 }
+    (stopped : Option ShownFrame) → failed_after ≡ failed + 0 → short_after ≡ short + 0
+    → AreCounted (fault_count failed short failed_after short_after) (AnsweredLine number answer stopped ∷ [])
+answer_counted number answer stopped h1 h2 = record { failures = h1; shortages = h2 }
 
 -- a line that is none
 pub bad_counted : {failed short : ℕ} (number : ℕ) (fault : LineFault)
@@ -164,15 +163,15 @@ module _ (images certificates : List ℕ → List ℕ → Type 0) (faults : Faul
       (nothing_done images certificates told c number said after before now t skipped holds known) counted
 
   pub command_held : (command : ScriptCommand) (answer : Answered) (after : CardWords) (old now : Option (List ℕ))
-      (before : List ℕ) (denial : Option Denial) (stopped : Option ShownFrame)
-      → AreCounted faults (AnsweredLine number answer denial stopped ∷ [])
-      → told (AnsweredLine number answer denial stopped ∷ []) → Answers images certificates c command answer after
+      (before : List ℕ) (stopped : Option ShownFrame)
+      → AreCounted faults (AnsweredLine number answer stopped ∷ [])
+      → told (AnsweredLine number answer stopped ∷ []) → Answers images certificates c command answer after
       → old ≡ Some before → Appends old now (answer_line answer)
       → IsLineHeld images certificates faults told c number fault (Asks command) after before now
   unfolding command_done
-  command_held command answer after old now before denial stopped counted t a is h =
+  command_held command answer after old now before stopped counted t a is h =
       held (Asks command) after before now
-      (command_done images certificates told c number command answer after old now before denial stopped t a is h)
+      (command_done images certificates told c number command answer after old now before stopped t a is h)
       counted
 
 module _ (images certificates : List ℕ → List ℕ → Type 0) (unwritable : Type 0) (c : CardState) where

@@ -7,7 +7,6 @@ use Rattle.std.specs.Io.KnownBytes.{Appends}
 use Rattle.std.specs.Prelude.{IsErrAnd}
 use Rattle.jc_card.specs.Card.{CardState}
 use Rattle.jc_card.specs.Reads.{CardWords, Holds}
-use Rattle.jc_firewall.specs.declared.access.Denial.{Denial}
 use Rattle.jc_interp.specs.declared.shown.ShownFrame.{ShownFrame}
 use Rattle.jc_source.specs.Source.{Asked}
 use Rattle.jc_run.specs.Answer.{Answered}
@@ -72,12 +71,12 @@ none_told {before = before} same = rw same (none before)
 
 unfoldable pub command_done : (images certificates : List ℕ → List ℕ → Type 0) (told : List Report → Type 0)
     (c : CardState) (number : ℕ) (command : ScriptCommand) (answer : Answered) (after : CardWords)
-    (old now : Option (List ℕ)) (before : List ℕ) (denial : Option Denial) (stopped : Option ShownFrame)
-    → told (AnsweredLine number answer denial stopped ∷ []) → Answers images certificates c command answer after
+    (old now : Option (List ℕ)) (before : List ℕ) (stopped : Option ShownFrame)
+    → told (AnsweredLine number answer stopped ∷ []) → Answers images certificates c command answer after
     → old ≡ Some before → Appends old now (answer_line answer)
     → IsLineDone images certificates told c number (Asks command) after before now
-command_done images certificates told c number command answer after old now before denial stopped t a is h = record {
-  reports = AnsweredLine number answer denial stopped ∷ [];
+command_done images certificates told c number command answer after old now before stopped t a is h = record {
+  reports = AnsweredLine number answer stopped ∷ [];
   were_told = t;
   card = a.card;
   written = answer_line answer;
@@ -85,7 +84,6 @@ command_done images certificates told c number command answer after old now befo
     answer = answer;
     answered = a.answered;
     written_is = refl;
-    denial = denial;
     stopped = stopped;
     reports_are = refl;
   };

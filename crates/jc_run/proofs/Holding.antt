@@ -85,8 +85,8 @@ module _ (images certificates : List ℕ → List ℕ → Type 0) (causes : Sess
     last = d.last;
     left = d.left;
     in_order =
-        rw p.reports_are (one_answered number d.last first lines d.left asked d.done p.answer d.answers p.denial
-        p.stopped more is d.in_order);
+        rw p.reports_are (one_answered number d.last first lines d.left asked d.done p.answer d.answers p.stopped
+        more is d.in_order);
     touches = accesses_of c asked ++ d.touches;
     ran = contexts_of c asked ++ d.ran;
     card = d.card;

@@ -95,7 +95,7 @@ module _ (images certificates : List ℕ → List ℕ → Type 0) (causes : EndC
             (ap (λ (bytes : List ℕ). answer_line p.answer ++ bytes) d.lines
             ∙ sym (append_assoc (answer_line p.answer) (answer_lines d.answers) d.part));
         reported =
-            rw p.reports_are (one_reported asked d.done p.answer d.answers p.denial p.stopped more d.reported);
+            rw p.reports_are (one_reported asked d.done p.answer d.answers p.stopped more d.reported);
         ends = d.ends;
       }
 

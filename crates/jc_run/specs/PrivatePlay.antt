@@ -4,7 +4,6 @@ use Rattle.jc_base.specs.declared.fault.LoadFault.{LoadFault}
 use Rattle.jc_card.specs.Card.{CardState}
 use Rattle.jc_card.specs.Load.{IsLoad}
 use Rattle.jc_card.specs.Reads.{CardWords, Holds}
-use Rattle.jc_firewall.specs.declared.access.Denial.{Denial}
 use Rattle.jc_source.specs.Source.{Asked}
 use Rattle.jc_interp.specs.declared.shown.ShownFrame.{ShownFrame}
 use Rattle.jc_run.specs.Answer.{Answered}
@@ -26,9 +25,8 @@ pub record IsCommandPlayed (images certificates : List ℕ → List ℕ → Type
   pub answer : Answered
   pub answered : IsAnswered (exactly images certificates) c command answer after
   pub written_is : written ≡ answer_line answer
-  pub denial : Option Denial
   pub stopped : Option ShownFrame
-  pub reports_are : reports ≡ AnsweredLine number answer denial stopped ∷ []
+  pub reports_are : reports ≡ AnsweredLine number answer stopped ∷ []
 
 -- what is told and written for a line with a number, and the card after it. A skipped line changes nothing
 abbrev pub IsLinePlayed : (images certificates : List ℕ → List ℕ → Type 0) → CardState → ℕ → ScriptLine → List Report

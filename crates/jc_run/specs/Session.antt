@@ -6,7 +6,6 @@ use Rattle.jc_card.specs.Accesses.{IsApartCard}
 use Rattle.jc_card.specs.Card.{CardState}
 use Rattle.jc_card.specs.Load.{IsLoad}
 use Rattle.jc_card.specs.New.{new_card}
-use Rattle.jc_firewall.specs.declared.access.Denial.{Denial}
 use Rattle.jc_interp.specs.declared.shown.ShownFrame.{ShownFrame}
 use Rattle.jc_machine.specs.Limits.{are_limits}
 use Rattle.jc_machine.specs.declared.limits.Limits.{Limits}
@@ -40,11 +39,11 @@ pub data AreAnswered
     : ℕ → List (List ℕ) → List ScriptCommand → List Answered → List Report → ℕ → List (List ℕ) → Type 0 where
   none : (number : ℕ) (lines : List (List ℕ)) → AreAnswered number lines [] [] [] number lines
   answered : (number last : ℕ) (first : List ℕ) (lines left : List (List ℕ)) (command : ScriptCommand)
-      (commands : List ScriptCommand) (answer : Answered) (answers : List Answered) (denial : Option Denial)
+      (commands : List ScriptCommand) (answer : Answered) (answers : List Answered)
       (stopped : Option ShownFrame) (reports : List Report) → session_line first ≡ Asks command
       → AreAnswered (suc number) lines commands answers reports last left
       → AreAnswered number (first ∷ lines) (command ∷ commands) (answer ∷ answers)
-      (AnsweredLine number answer denial stopped ∷ reports) last left
+      (AnsweredLine number answer stopped ∷ reports) last left
   skipped : (number last : ℕ) (first : List ℕ) (lines left : List (List ℕ)) (commands : List ScriptCommand)
       (answers : List Answered) (reports : List Report) → session_line first ≡ Skipped
       → AreAnswered (suc number) lines commands answers reports last left

@@ -75,7 +75,7 @@ fn play_command<W: Output, S: PackageSource, T: Teller<S>>(
     };
     match write_answer(writer, &answer) {
         Ok(()) => {
-            teller.answered(u64::from(number), &answer, card.denial(), card.stopped());
+            teller.answered(u64::from(number), &answer, card.stopped());
             Ok(())
         }
         Err(error) => Err(ScriptFault::Write(error)),

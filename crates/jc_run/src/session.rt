@@ -94,7 +94,7 @@ fn converse_command<W: Output, S: PackageSource, T: Teller<S>>(
     };
     match write_answer(writer, &answer) {
         Ok(()) => {
-            teller.answered(number, &answer, card.denial(), card.stopped());
+            teller.answered(number, &answer, card.stopped());
             Ok(())
         }
         Err(error) => Err(ScriptFault::Write(error)),

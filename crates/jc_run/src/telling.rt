@@ -6,7 +6,6 @@ ghost use Rattle.jc_run.specs.Reports.{AnsweredLine, RefusedLine, Report};
 
 use crate::answer::CommandAnswer;
 use crate::refusal::LineRefusal;
-use jc_firewall::Denial;
 use jc_interp::ShownFrame;
 
 /// The receiver of reports besides the answers that are written. No result of a line depends on it.
@@ -15,15 +14,9 @@ pub trait Teller<S> {
     ghost tells: { Self → Report → Self → Type 0 };
 
     /// The line with a number, from 1 on, was answered. `stopped` is the frame in which the last call of an applet
-    /// stopped, if it did. If it stopped with a SecurityException, `denial` is the firewall's denial, if that is known.
-    fn answered(
-        &mut self,
-        number: u64,
-        answer: &CommandAnswer,
-        denial: Option<Denial>,
-        stopped: Option<&ShownFrame>,
-    )
-        ensures { tells self.old (AnsweredLine number (shown answer.now) denial
+    /// stopped, if it did.
+    fn answered(&mut self, number: u64, answer: &CommandAnswer, stopped: Option<&ShownFrame>)
+        ensures { tells self.old (AnsweredLine number (shown answer.now)
             (option_map (λ frame. frame.now) stopped.entry)) self.new };
 
     /// A line of a session wasn't answered, and the session goes on.

@@ -1,6 +1,6 @@
 -- Calls of the runtime are safe where they can begin; and they can begin where a virtual member of the API is called on
 -- an object.
-use Rattle.std.proofs.Common.{◌≡◌, ℕ, List, ◌∷◌, length, Option, Some, None, Bool, true, arith}
+use Rattle.std.proofs.Common.{◌≡◌, ℕ, zero, suc, List, ◌∷◌, length, Option, Some, None, Bool, true, arith}
 use Rattle.std.proofs.Common.{false, cond, not, sym, ap, ◌∙◌, subst}
 use Rattle.std.specs.Option.{option_and_then, option_map_or}
 use Rattle.jc_base.specs.Signature.{Signature}
@@ -16,15 +16,16 @@ use Rattle.jc_names.specs.declared.name.MethodName.TheVariants.{Api, Loaded}
 use Rattle.jc_effects.specs.Method.{returned_type}
 use Rattle.jc_store.specs.Heap.{Object}
 use Rattle.jc_types.specs.declared.ty.Ty.{Ty}
-use Rattle.jc_machine.specs.Calls.{VirtualMember, native_type, takes}
+use Rattle.jc_machine.specs.Calls.{VirtualMember, native_may_begin, native_type, takes}
 use Rattle.jc_machine.specs.Lookup.{class_of, code_at, declared_at, is_given, is_throwable, may_begin_with}
 use Rattle.jc_machine.specs.Machine.{Calls, Frame, Gives, IsStuck, Machine, MethodPlace, NativeAnswer, NativeCall}
-use Rattle.jc_machine.specs.Machine.{NativeEnd, Surroundings, ThrowsObject}
+use Rattle.jc_machine.specs.Machine.{NativeEnd, Surroundings, ThrowsObject, last_denied}
 use Rattle.jc_machine.specs.Natives.{EndsFit, IsFitCall}
 use Rattle.jc_machine.specs.Step.{Called, Start, Threw, WasStuck, after_first_native, begun}
-use Rattle.jc_machine.specs.Step.{native_ended, native_started}
+use Rattle.jc_machine.specs.Step.{ended_by, native_called, native_ended, native_started}
 use Rattle.jc_machine.specs.Step.{no_frame, runtime_call, standing, started, started_by, first_native_call}
 use Rattle.jc_machine.specs.Typed.{HaveTypes, IsTyped, IsTypedBeside}
+use Rattle.jc_machine.specs.declared.stop.DeniedAccess.{DeniedAccess}
 use Rattle.jc_words.specs.Values.{Ref, TaggedValue}
 use Rattle.jc_safety.specs.Safety.{EndsTyped}
 use Rattle.jc_safety.specs.Starting.{CanBegin, FindsMethod, IsMemberCall, IsTypedStart, MemberCanBegin, MethodCanBegin}
@@ -123,18 +124,22 @@ module _ {C : Type 0} (s : Surroundings C) (ground : Ground s) (members : HaveMe
           fits = fit.fits;
         }
 
+    -- the last access of the member, if it was denied
+    abbrev denied : Option DeniedAccess
+    denied = last_denied a.touches
+
     gives_typed : (given : Signature ClassName) → native_type shapes member ≡ Some given → (value : Option TaggedValue)
-        → is_given shapes a.heap given.result value ≡ true → EndsTyped s (native_ended s after member (Gives value))
+        → is_given shapes a.heap given.result value ≡ true → EndsTyped s (native_ended s after member denied (Gives value))
     gives_typed given declared value is = grind (arith, Option, Bool, after_typed, result_written, given_result)
 
     native_typed : (given : Signature ClassName) → native_type shapes member ≡ Some given → (end : NativeEnd)
-        → EndsFit s.world call a given end → EndsTyped s (native_ended s after member end)
+        → EndsFit s.world call a given end → EndsTyped s (native_ended s after member denied end)
     native_typed given declared (Gives value) fit = gives_typed given declared value fit
     native_typed given declared (ThrowsObject number) fit =
         let P : Option (Object TaggedValue) → Type 0 =
         λ o. EndsTyped s (cond (option_map_or (λ (x : Object TaggedValue). is_throwable shapes x.kind.object_type) o false)
-        (Threw after number None) WasStuck) in
-        let Q : Bool → Type 0 = λ b. EndsTyped s (cond b (Threw after number None) WasStuck) in
+        (Threw after number None denied) WasStuck) in
+        let Q : Bool → Type 0 = λ b. EndsTyped s (cond b (Threw after number None denied) WasStuck) in
         subst P (sym fit.found) (subst Q (sym fit.throwable) after_typed)
     native_typed given declared (Calls callback) fit =
         let static = members.static member fit.caller k.declared fit.caller_is fit.static k.found in
@@ -143,7 +148,11 @@ module _ {C : Type 0} (s : Surroundings C) (ground : Ground s) (members : HaveMe
     native_typed given declared IsStuck fit = absurd fit
 
     member_called : (steps : ℕ) → EndsTyped s (native_started s steps start member).ends
-    member_called steps = grind (arith, its_call, if_so, native_typed)
+    member_called zero = beside
+    member_called (suc n) =
+        let fit = ground.lawful.fit s.world call ground.accepted its_call in
+        if_so (native_may_begin shapes start.heap member start.arguments) (native_called s start member a)
+        (ended_by WasStuck) k.begins (native_typed fit.given fit.declared a.ends fit.ends)
 
   -- ---- any call
 

@@ -34,6 +34,7 @@ use Rattle.jc_machine.specs.Objects.{act_object}
 use Rattle.jc_machine.specs.Step.{Called, act, act_at, continued, defensive_step, settled, steps_of}
 use Rattle.jc_machine.specs.declared.stop.Budget.{Budget}
 use Rattle.jc_machine.specs.declared.stop.CodePoint.{CodePoint}
+use Rattle.jc_machine.specs.declared.stop.DeniedAccess.{DeniedAccess}
 use Rattle.jc_machine.specs.Runtime.{arithmetic_exception}
 use Rattle.jc_machine.specs.Typed.{IsTyped}
 use Rattle.jc_machine.specs.TypedWords.{LeavesTyped, branching, going, returning, throwing}
@@ -252,10 +253,11 @@ module _ {C : Type 0} (s : Surroundings C) (ground : Ground s) (members : HaveMe
 
   -- ---- many steps
 
-  goes_on_safely : (lacking : Budget) (at : Option CodePoint) (go : Machine C → Called C) (outcome : Outcome C)
+  goes_on_safely : (lacking : Budget) (at : Option CodePoint) (denied : Option DeniedAccess) (go : Machine C → Called C)
+      (outcome : Outcome C)
       → ((m : Machine C) → IsTyped s m → EndsTyped s (go m).ends) → StaysTyped s outcome
-      → EndsTyped s (continued lacking at go outcome).ends
-  goes_on_safely lacking at go outcome h1 h2 = grind arith
+      → EndsTyped s (continued lacking at denied go outcome).ends
+  goes_on_safely lacking at denied go outcome h1 h2 = grind arith
 
   pub runs_safely : (n : ℕ) (m : Machine C) → IsTyped s m → EndsTyped s (steps_of s n m).ends
   unfolding steps_of

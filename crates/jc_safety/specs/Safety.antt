@@ -24,6 +24,6 @@ StaysTyped s Stuck = ⊥
 -- the same for the end of a call
 abbrev pub EndsTyped : {C : Type 0} → Surroundings C → CallEnd C → Type 0
 EndsTyped s (Gave m value) = EndsWith s m value
-EndsTyped s (Threw m object at) = IsTypedBeside s m
+EndsTyped s (Threw m object at denied) = IsTypedBeside s m
 EndsTyped s (RanOut m spent at) = IsTypedBeside s m
 EndsTyped s WasStuck = ⊥

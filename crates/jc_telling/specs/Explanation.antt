@@ -3,12 +3,6 @@ use Rattle.std.specs.Prelude.{ℕ, ◌==◌, if◌then◌else◌, List, [], ◌�
 use Rattle.std.specs.Prelude.{option_map}
 use Rattle.std.specs.Fmt.{decimal, signed_decimal}
 use Rattle.std.specs.Option.{option_and_then}
-use Rattle.jc_api.specs.declared.class.ApiClass.TheVariants.{SecurityException}
-use Rattle.jc_names.specs.Names.{is_same_name}
-use Rattle.jc_names.specs.declared.name.ClassName.TheVariants.{Api}
-use Rattle.jc_store.specs.declared.kind.ObjectType.{ObjectType}
-use Rattle.jc_store.specs.declared.kind.ObjectType.TheVariants.{Instance, BooleanArray, ByteArray, ShortArray}
-use Rattle.jc_store.specs.declared.kind.ObjectType.TheVariants.{ReferenceArray}
 use Rattle.jc_firewall.specs.declared.access.Access.{Access}
 use Rattle.jc_firewall.specs.declared.access.Access.TheVariants.{PutStaticReference, PutReferenceField, PutField}
 use Rattle.jc_firewall.specs.declared.access.Access.TheVariants.{GetField, LoadComponent, StoreComponent}
@@ -79,14 +73,6 @@ denial_text denial =
     codes ", rule " ++ decimal (rule_number denial.rule) ++ codes ": " ++ access_text denial.access
     ++ codes " an object of " ++ owner_text denial.owner.context
 
--- a denial is shown only if the thrown object is a SecurityException of the API
-abbrev pub shown_denial : ObjectType → Option Denial → Option Denial
-shown_denial (Instance class) denial = if is_same_name class (Api SecurityException) then denial else None
-shown_denial BooleanArray denial = None
-shown_denial ByteArray denial = None
-shown_denial ShortArray denial = None
-shown_denial (ReferenceArray class) denial = None
-
 -- where an object was thrown, behind the denial if there is one
 abbrev pub throw_text : Option Denial → Option CodePoint → List ℕ
 throw_text None at = point_text (codes ", ") at
@@ -131,14 +117,13 @@ frame_text (Some frame) =
 -- ---- the line
 
 -- the line by its cause
-abbrev pub cause_text : Cause → Option Denial → Option ShownFrame → Limits → List ℕ
-cause_text (Threw object reason at) denial stopped limits =
-    object_text object reason ++ index_text (index_of stopped) ++ throw_text (shown_denial object denial) at
-    ++ frame_text stopped
-cause_text (RanOut spent at) denial stopped limits =
+abbrev pub cause_text : Cause → Option ShownFrame → Limits → List ℕ
+cause_text (Threw object reason at denial) stopped limits =
+    object_text object reason ++ index_text (index_of stopped) ++ throw_text denial at ++ frame_text stopped
+cause_text (RanOut spent at) stopped limits =
     budget_text limits spent ++ point_text (codes ", ") at ++ frame_text stopped
-cause_text NotRegistered denial stopped limits = codes "install: no register"
+cause_text NotRegistered stopped limits = codes "install: no register"
 
 -- the line of an explanation, without a line feed
 abbrev pub explanation_text : Explanation → List ℕ
-explanation_text e = cause_text e.cause e.denial (option_map (λ frame. frame.now) e.stopped) e.limits
+explanation_text e = cause_text e.cause (option_map (λ frame. frame.now) e.stopped) e.limits

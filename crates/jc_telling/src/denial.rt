@@ -1,14 +1,12 @@
 //! The words for what the firewall denied, and where.
 
 ghost use Rattle.std.specs.Prelude.{◌≡◌};
-ghost use Rattle.jc_telling.specs.Explanation.{access_text, rule_number, shown_denial};
+ghost use Rattle.jc_telling.specs.Explanation.{access_text, rule_number};
 
 use crate::place::Place;
-use jc_api::ApiClass;
 use jc_firewall::{Access, Denial, Rule};
 use jc_machine::CodePoint;
-use jc_names::{ClassName, Owner};
-use jc_store::ObjectType;
+use jc_names::Owner;
 use std::fmt;
 
 /// The number of a rule of the firewall.
@@ -114,24 +112,5 @@ impl fmt::Display for Throw {
             }
             None => write!(f, "{}", Place { before: ", ", at }),
         }
-    }
-}
-
-/// What a report shows of a denial: it belongs to the API's SecurityException alone.
-pub(crate) fn shown_denial(object: ObjectType, denial: Option<Denial>) -> Option<Denial>
-    ensures { result ≡ shown_denial object denial }
-{
-    match object {
-        ObjectType::Instance(class) => {
-            if class.is(ClassName::Api(ApiClass::SecurityException)) {
-                denial
-            } else {
-                None
-            }
-        }
-        ObjectType::BooleanArray
-        | ObjectType::ByteArray
-        | ObjectType::ShortArray
-        | ObjectType::ReferenceArray(_) => None,
     }
 }

@@ -1,11 +1,10 @@
 //! The line of a report.
 
-use crate::denial::{Throw, shown_denial};
+use crate::denial::Throw;
 use crate::frame::{Index, Stopped, index_of};
 use crate::place::{Place, Spent};
 use crate::thrown::Thrown;
 use jc_card::Cause;
-use jc_firewall::Denial;
 use jc_interp::ShownFrame;
 use jc_machine::Limits;
 use std::fmt;
@@ -14,8 +13,6 @@ use std::fmt;
 #[derive(Drop)]
 pub struct Explanation<'a> {
     pub cause: Cause,
-    /// The firewall's denial, if it denied an access. It is shown if a SecurityException was thrown.
-    pub denial: Option<Denial>,
     /// The frame in which the call stopped, if it may be shown.
     pub stopped: Option<&'a ShownFrame>,
     /// The limits of the card.
@@ -33,15 +30,17 @@ impl<'a> fmt::Display for Explanation<'a> {
             frame: self.stopped,
         };
         match self.cause {
-            Cause::Threw { object, reason, at } => {
+            Cause::Threw {
+                object,
+                reason,
+                at,
+                denial,
+            } => {
                 let thrown = Thrown { object, reason };
                 let index = Index {
                     fault: index_of(self.stopped),
                 };
-                let throw = Throw {
-                    denial: shown_denial(object, self.denial),
-                    at,
-                };
+                let throw = Throw { denial, at };
                 write!(f, "{thrown}{index}{throw}{frame}")
             }
             Cause::RanOut { spent, at } => {

@@ -6,7 +6,6 @@ use Rattle.jc_card.specs.declared.cause.Cause.{Cause}
 use Rattle.jc_card.specs.declared.fault.InstallFault.{InstallFault}
 use Rattle.jc_card.specs.declared.fault.InstallFault.TheVariants.{AidInUse, InstallFailed, NoInstance, TooLong}
 use Rattle.jc_card.specs.declared.fault.InstallFault.TheVariants.{UnknownApplet}
-use Rattle.jc_firewall.specs.declared.access.Denial.{Denial}
 use Rattle.jc_host.specs.Saying.{line_feed}
 use Rattle.jc_interp.specs.declared.shown.ShownFrame.{ShownFrame}
 use Rattle.jc_machine.specs.declared.limits.Limits.{Limits}
@@ -69,14 +68,14 @@ answer_cause (Cells used most) = None
 answer_cause (Objects used most) = None
 answer_cause (Steps steps) = None
 
-abbrev pub cause_line : Limits → ℕ → Option Denial → Option ShownFrame → Option Cause → ReportLine
-cause_line limits number denial stopped None = NoLine
-cause_line limits number denial stopped (Some cause) =
-    Line (Some (((codes "line " ++ decimal number) ++ codes ": ") ++ cause_text cause denial stopped limits))
+abbrev pub cause_line : Limits → ℕ → Option ShownFrame → Option Cause → ReportLine
+cause_line limits number stopped None = NoLine
+cause_line limits number stopped (Some cause) =
+    Line (Some (((codes "line " ++ decimal number) ++ codes ": ") ++ cause_text cause stopped limits))
 
 abbrev pub report_line : {E : Type 0} → TellerState E → Report → ReportLine
-report_line teller (AnsweredLine number answer denial stopped) =
-    if teller.explains then cause_line teller.limits number denial stopped (answer_cause answer) else NoLine
+report_line teller (AnsweredLine number answer stopped) =
+    if teller.explains then cause_line teller.limits number stopped (answer_cause answer) else NoLine
 report_line teller (RefusedLine number refusal) = Line (refusal_line number refusal)
 
 -- ---- what a report does
@@ -94,7 +93,7 @@ limits_after limits (Objects used most) = limits
 limits_after limits (Steps steps) = record limits { steps = steps }
 
 abbrev pub limits_told : Limits → Report → Limits
-limits_told limits (AnsweredLine number answer denial stopped) = limits_after limits answer
+limits_told limits (AnsweredLine number answer stopped) = limits_after limits answer
 limits_told limits (RefusedLine number refusal) = limits
 
 -- a line is appended, with its line feed; or it can't be written, and the teller keeps that

@@ -9,7 +9,6 @@ ghost use Rattle.jc_run.specs.declared.refusal.LineRefusal.TheVariants.{Unread};
 ghost use Rattle.jcard.specs.Telling.{refusal_line, short_line};
 
 use jc_card::{Cause, InstallFault};
-use jc_firewall::Denial;
 use jc_host::{Faults, FileSource, Files};
 use jc_interp::ShownFrame;
 use jc_machine::Limits;
@@ -123,21 +122,14 @@ impl<E: Write> LineTeller<E> {
     }
 
     // Reports why a call of a line didn't end normally, and the frame in which it stopped.
-    fn explain(
-        &mut self,
-        number: u64,
-        cause: Cause,
-        denial: Option<Denial>,
-        stopped: Option<&ShownFrame>,
-    )
+    fn explain(&mut self, number: u64, cause: Cause, stopped: Option<&ShownFrame>)
         ensures limits { self.new.limits ≡ self.old.limits }
         ensures explains { self.new.explains ≡ self.old.explains }
         ensures said { IsSaid E.contents self.old self.new (Some (((codes "line " ++ decimal number) ++ codes ": ")
-            ++ cause_text cause denial (option_map (λ frame. frame.now) stopped.entry) self.old.limits)) }
+            ++ cause_text cause (option_map (λ frame. frame.now) stopped.entry) self.old.limits)) }
     {
         let explanation = Explanation {
             cause,
-            denial,
             stopped,
             limits: self.limits,
         };
@@ -146,20 +138,14 @@ impl<E: Write> LineTeller<E> {
     }
 
     // Reports why a call of a line didn't end normally, if it didn't.
-    fn explain_any(
-        &mut self,
-        number: u64,
-        cause: Option<Cause>,
-        denial: Option<Denial>,
-        stopped: Option<&ShownFrame>,
-    )
+    fn explain_any(&mut self, number: u64, cause: Option<Cause>, stopped: Option<&ShownFrame>)
         ensures limits { self.new.limits ≡ self.old.limits }
         ensures explains { self.new.explains ≡ self.old.explains }
         ensures said { IsLineSaid E.contents self.old self.new
-            (cause_line self.old.limits number denial (option_map (λ frame. frame.now) stopped.entry) cause) }
+            (cause_line self.old.limits number (option_map (λ frame. frame.now) stopped.entry) cause) }
     {
         if let Some(cause) = cause {
-            self.explain(number, cause, denial, stopped);
+            self.explain(number, cause, stopped);
         }
     }
 }
@@ -235,15 +221,9 @@ impl<'a, F: Files, T: Faults, E: Write> Teller<FileSource<'a, F, T>> for LineTel
 
     ghost tells = { Tells E.contents };
 
-    fn answered(
-        &mut self,
-        number: u64,
-        answer: &CommandAnswer,
-        denial: Option<Denial>,
-        stopped: Option<&ShownFrame>,
-    ) {
+    fn answered(&mut self, number: u64, answer: &CommandAnswer, stopped: Option<&ShownFrame>) {
         if self.explains {
-            self.explain_any(number, answer_cause(answer), denial, stopped);
+            self.explain_any(number, answer_cause(answer), stopped);
         }
         if let CommandAnswer::Steps(steps) = answer {
             self.limits.steps = *steps;

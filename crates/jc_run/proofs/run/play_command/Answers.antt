@@ -13,7 +13,7 @@ returns-in-Err-Memory-clause-ended g c = λ t before told h known.
 
 pub returns-in-Ok-write_answer-clause-done : goal.returns-in-Ok-write_answer-clause-done
 returns-in-Ok-write_answer-clause-done g c = λ t before h known.
-    command_done _ _ _ t c.args.number _ _ _ _ _ before _ _ (one_told _ (rw c.from.ensures at c.answered.ensures))
+    command_done _ _ _ t c.args.number _ _ _ _ _ before _ (one_told _ (rw c.from.ensures at c.answered.ensures))
     (c.in-Ok.ensures.done t h) known c.in-Ok-write_answer.ensures.written
 
 pub returns-in-Err-clause-ended : goal.returns-in-Err-clause-ended

@@ -11,8 +11,8 @@ returns-in-Err-clause-done g c = λ fault t before h known.
 
 pub returns-in-Ok-write_answer-clause-done : goal.returns-in-Ok-write_answer-clause-done
 returns-in-Ok-write_answer-clause-done g c = λ fault t before h known.
-    command_held _ _ _ _ t c.args.number fault _ _ _ _ _ before _ _
-    (answer_counted _ _ _ _ c.in-Ok.ensures.counted c.in-Ok.ensures.counted_short) (one_told _ c.answered.ensures)
+    command_held _ _ _ _ t c.args.number fault _ _ _ _ _ before _
+    (answer_counted _ _ _ c.in-Ok.ensures.counted c.in-Ok.ensures.counted_short) (one_told _ c.answered.ensures)
     (c.in-Ok.ensures.done t h) known c.in-Ok-write_answer.ensures.written
 
 pub returns-in-Err-write_answer-clause-ended : goal.returns-in-Err-write_answer-clause-ended

@@ -1,6 +1,6 @@
 use Rattle.std.proofs.Common.{ap, subst, sym, ◌∙◌}
 use Rattle.jc_machine.specs.declared.natives.WordOutcome.TheVariants.{CallsBack}
-use Rattle.jc_interp.specs.PrivateDone.{done, throws, with_store}
+use Rattle.jc_interp.specs.PrivateDone.{denies, done, throws, with_store}
 use Rattle.jc_interp.specs.PrivateNatives.{EndsNative, done_with, native_gives, state_of}
 use Rattle.jc_interp.proofs.machine.WordMachine.call_native.Goals as goal
 
@@ -29,6 +29,19 @@ returns-in-Thrown-clause-calls g c =
       goes_on = subst (EndsNative g.N.Natives.meaning c.args.here.now c.args.words u kept
           (done_with (throws c.in-Thrown.object c.ask.new.self) kept)) (sym c.in-Thrown.is)
           (ap (λ v. done_with (throws c.in-Thrown.object v) kept) c.ask.ensures.frames);
+    }
+
+pub returns-in-AccessDenied-clause-calls : goal.returns-in-AccessDenied-clause-calls
+returns-in-AccessDenied-clause-calls g c =
+    let kept = g.N.Natives.kept c.ask.new.natives in
+    let u = with_store c.args.self.now c.ask.new.self.store in
+    record {
+      after = state_of c.ask.new.self kept;
+      outcome = c.ask.result;
+      answer = c.ask.ensures.answer;
+      goes_on = subst (EndsNative g.N.Natives.meaning c.args.here.now c.args.words u kept
+          (done_with (denies c.in-AccessDenied.denied c.ask.new.self) kept)) (sym c.in-AccessDenied.is)
+          (ap (λ v. done_with (denies c.in-AccessDenied.denied v) kept) c.ask.ensures.frames);
     }
 
 pub returns-in-CallsBack-clause-calls : goal.returns-in-CallsBack-clause-calls

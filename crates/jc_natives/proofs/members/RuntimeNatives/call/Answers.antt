@@ -1,9 +1,9 @@
-use Rattle.std.proofs.Common.{sym, ◌∙◌, arith}
+use Rattle.std.proofs.Common.{sym, ◌∙◌}
 use Rattle.jc_api.specs.Numbered.{numbered}
 use Rattle.jc_natives.proofs.Numbers.{keeps_limits, numbers_arrays}
 use Rattle.jc_natives.proofs.Simulation.{answered}
 use Rattle.jc_natives.proofs.members.RuntimeNatives.call.Goals as goal
-use Rattle.jc_natives.specs.PrivateWords.{seen_in, word_work}
+use Rattle.jc_natives.specs.PrivateWords.{seen_in}
 use Rattle.jc_natives.specs.Members.{natives}
 
 pub returns-clause-answered : goal.returns-clause-answered
@@ -16,10 +16,13 @@ returns-clause-answered c = λ call agrees accepted fit.
 pub returns-clause-classes : goal.returns-clause-classes
 returns-clause-classes c =
     numbers_arrays c.args.call.now.active c.args.store.now c.args.self.now
-    (word_work (seen_in c.args.store.now c.args.call.now) c.args.self.now c.args.call.now.arguments.now
-    (numbered natives c.args.call.now.member))
+    (seen_in c.args.store.now c.args.call.now) c.args.call.now.arguments.now (numbered natives c.args.call.now.member)
     (record { store = c.call_member.new.store; kept = c.call_member.new.runtime; ended = c.call_member.result })
     (sym c.objects_used-used.ensures.objects ∙ c.objects_used-used.ensures.classes) c.call_member.ensures
 
 pub returns-clause-limits : goal.returns-clause-limits
-returns-clause-limits c = grind (arith, keeps_limits)
+returns-clause-limits c =
+    keeps_limits c.args.call.now.active c.args.store.now c.args.self.now
+    (seen_in c.args.store.now c.args.call.now) c.args.call.now.arguments.now (numbered natives c.args.call.now.member)
+    (record { store = c.call_member.new.store; kept = c.call_member.new.runtime; ended = c.call_member.result })
+    c.call_member.ensures

@@ -2,10 +2,10 @@
 -- plain object changes only in its own context, or by clearing (Java Card Runtime Environment Specification, Applet
 -- Isolation and Object Sharing: Class and Object Access Behavior; Transient Objects).
 use Rattle.std.specs.Prelude.{◌≡◌, ◌≢◌, ◌⊎◌, ⊤, ℕ, true, List, Some, IsSome, slice_get}
-use Rattle.jc_firewall.specs.Verdict.{runtime_context}
+use Rattle.jc_firewall.specs.Verdict.{is_allowed, runtime_context}
 use Rattle.jc_link.specs.Built.{IsBuilt}
 use Rattle.jc_machine.specs.Apart.{IsSetApart}
-use Rattle.jc_machine.specs.Guarded.{IsGuarded, KeepsPlain, is_allowed, machine_of, may_change}
+use Rattle.jc_machine.specs.Guarded.{IsGuarded, KeepsPlain, machine_of, may_change}
 use Rattle.jc_machine.specs.Lookup.{class_of}
 use Rattle.jc_machine.specs.Machine.{Machine, Surroundings, Throws, Touch}
 use Rattle.jc_machine.specs.Natives.{IsGuardedAnswer, KeepsObjects}

@@ -12,7 +12,6 @@ use Rattle.jc_firewall.specs.declared.access.Access.TheVariants.{PutStaticRefere
 use Rattle.jc_firewall.specs.declared.access.Access.TheVariants.{GetField, LoadComponent, StoreComponent}
 use Rattle.jc_firewall.specs.declared.access.Access.TheVariants.{StoreReference, ArrayLength, InvokeVirtual}
 use Rattle.jc_firewall.specs.declared.access.Access.TheVariants.{InvokeInterface, Throw, CheckCast, InstanceOf}
-use Rattle.jc_firewall.specs.declared.access.Denial.{Denial}
 use Rattle.jc_firewall.specs.declared.access.Facts.{Facts}
 use Rattle.jc_firewall.specs.declared.access.Rule.TheVariants.{Storing, Components, Fields, Calls, SharedCalls, Throws}
 use Rattle.jc_firewall.specs.declared.access.Rule.TheVariants.{Casts, SharedCasts, Selection}
@@ -149,8 +148,8 @@ verdict_of access active f =
     else if stores_reference access && option_map_or is_never_stored f.stored false then Denied Storing
     else verdict_in (row_of access f) active f
 
--- the denial of an access, from its verdict
-abbrev pub denial_by : Access → Facts → Verdict → Option Denial
-denial_by access f Allowed = None
-denial_by access f (AllowedSwitch owner) = None
-denial_by access f (Denied rule) = Some (record { access = access; owner = f.owner; rule = rule })
+-- whether an access is allowed, by its verdict
+abbrev pub is_allowed : Verdict → Bool
+is_allowed Allowed = true
+is_allowed (AllowedSwitch owner) = true
+is_allowed (Denied rule) = false

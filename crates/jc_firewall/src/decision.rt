@@ -1,24 +1,26 @@
-//! The decision on an access.
+//! The decision on an access. All of it is inlined: most callers name the access, and only its row stays then.
 
 ghost use Rattle.std.specs.Prelude.{◌≡◌, ◌&&◌, false};
 ghost use Rattle.std.specs.Option.{option_map_or};
-ghost use Rattle.jc_firewall.specs.Verdict.{denial_by, is_deselect, is_entry_point, is_global_array, is_never_stored};
+ghost use Rattle.jc_firewall.specs.Verdict.{is_allowed, is_deselect, is_entry_point, is_global_array, is_never_stored};
 ghost use Rattle.jc_firewall.specs.Verdict.{is_out_of_selection, is_own, row_of, stores_reference, verdict_for_runtime};
 ghost use Rattle.jc_firewall.specs.Verdict.{verdict_in, verdict_of};
 ghost use Rattle.jc_firewall.specs.declared.access.Access.TheVariants.{CheckCast};
 ghost use Rattle.jc_firewall.specs.Verdict.AccessRow.{components, fields, interface_calls, shared_calls, shared_casts};
 ghost use Rattle.jc_firewall.specs.Verdict.AccessRow.{throws, virtual_calls};
 
-use crate::access::{Access, Denial, Facts, Rule, Verdict};
+use crate::access::{Access, Facts, Rule, Verdict};
 use jc_names::Owner;
 use jc_store::{ClearingEvent, Mark};
 
+#[inline(always)]
 fn is_own(active: u8, facts: &Facts) -> bool
     ensures { result ≡ is_own active facts.now }
 {
     facts.owner.context == active
 }
 
+#[inline(always)]
 fn is_entry_point(mark: Mark) -> bool
     ensures { result ≡ is_entry_point mark }
 {
@@ -28,6 +30,7 @@ fn is_entry_point(mark: Mark) -> bool
     }
 }
 
+#[inline(always)]
 fn is_global_array(mark: Mark) -> bool
     ensures { result ≡ is_global_array mark }
 {
@@ -38,6 +41,7 @@ fn is_global_array(mark: Mark) -> bool
 }
 
 /// Whether a reference is stored that may not be stored.
+#[inline(always)]
 fn stores_unstorable(facts: &Facts) -> bool
     ensures { result ≡ option_map_or is_never_stored facts.now.stored false }
 {
@@ -48,6 +52,7 @@ fn stores_unstorable(facts: &Facts) -> bool
 }
 
 /// Whether an array is cleared on deselect, while no applet of the active context is selected.
+#[inline(always)]
 fn is_out_of_selection(active: u8, facts: &Facts) -> bool
     ensures { result ≡ is_out_of_selection active facts.now }
 {
@@ -60,6 +65,7 @@ fn is_out_of_selection(active: u8, facts: &Facts) -> bool
     }
 }
 
+#[inline(always)]
 fn on_field(active: u8, facts: &Facts) -> Verdict
     ensures { result ≡ verdict_in fields active facts.now }
 {
@@ -70,6 +76,7 @@ fn on_field(active: u8, facts: &Facts) -> Verdict
     }
 }
 
+#[inline(always)]
 fn on_components(active: u8, facts: &Facts) -> Verdict
     ensures { result ≡ verdict_in components active facts.now }
 {
@@ -82,6 +89,7 @@ fn on_components(active: u8, facts: &Facts) -> Verdict
     }
 }
 
+#[inline(always)]
 fn on_virtual_call(active: u8, facts: &Facts) -> Verdict
     ensures { result ≡ verdict_in virtual_calls active facts.now }
 {
@@ -94,6 +102,7 @@ fn on_virtual_call(active: u8, facts: &Facts) -> Verdict
     }
 }
 
+#[inline(always)]
 fn on_interface_call(active: u8, facts: &Facts) -> Verdict
     ensures { result ≡ verdict_in interface_calls active facts.now }
 {
@@ -106,6 +115,7 @@ fn on_interface_call(active: u8, facts: &Facts) -> Verdict
     }
 }
 
+#[inline(always)]
 fn on_shared_call(active: u8, facts: &Facts) -> Verdict
     ensures { result ≡ verdict_in shared_calls active facts.now }
 {
@@ -120,6 +130,7 @@ fn on_shared_call(active: u8, facts: &Facts) -> Verdict
     }
 }
 
+#[inline(always)]
 fn on_throw(active: u8, facts: &Facts) -> Verdict
     ensures { result ≡ verdict_in throws active facts.now }
 {
@@ -130,6 +141,7 @@ fn on_throw(active: u8, facts: &Facts) -> Verdict
     }
 }
 
+#[inline(always)]
 fn on_cast(active: u8, facts: &Facts) -> Verdict
     ensures { result ≡ verdict_in (row_of CheckCast facts.now) active facts.now }
 {
@@ -148,7 +160,7 @@ fn on_cast(active: u8, facts: &Facts) -> Verdict
 }
 
 /// The verdict if the active context isn't the runtime's, and no reference is stored that may not be stored.
-#[inline]
+#[inline(always)]
 fn between_applets(access: Access, active: u8, facts: &Facts) -> Verdict
     ensures { result ≡ verdict_in (row_of access facts.now) active facts.now }
 {
@@ -173,7 +185,7 @@ fn between_applets(access: Access, active: u8, facts: &Facts) -> Verdict
 }
 
 /// The verdict if the runtime is active.
-#[inline]
+#[inline(always)]
 fn of_runtime(access: Access, facts: &Facts) -> Verdict
     ensures { result ≡ verdict_for_runtime (row_of access facts.now) facts.now }
 {
@@ -194,6 +206,7 @@ fn of_runtime(access: Access, facts: &Facts) -> Verdict
 }
 
 /// Whether an access stores a reference.
+#[inline(always)]
 fn stores_reference(access: Access) -> bool
     ensures { result ≡ stores_reference access }
 {
@@ -214,7 +227,7 @@ fn stores_reference(access: Access) -> bool
 
 /// The verdict on an access of code in the active context (Java Card Runtime Environment Specification, Class and
 /// Object Access Behavior).
-#[inline]
+#[inline(always)]
 pub fn decide(access: Access, active: u8, facts: &Facts) -> Verdict
     ensures { result ≡ verdict_of access active facts.now }
 {
@@ -227,16 +240,13 @@ pub fn decide(access: Access, active: u8, facts: &Facts) -> Verdict
     }
 }
 
-/// The denial of an access, or `None` if it is allowed.
-pub fn denial(access: Access, active: u8, facts: &Facts) -> Option<Denial>
-    ensures { result ≡ denial_by access facts.now (verdict_of access active facts.now) }
+/// Whether an access is allowed.
+#[inline(always)]
+pub fn allows(access: Access, active: u8, facts: &Facts) -> bool
+    ensures { result ≡ is_allowed (verdict_of access active facts.now) }
 {
     match decide(access, active, facts) {
-        Verdict::Allowed | Verdict::AllowedSwitch(_) => None,
-        Verdict::Denied(rule) => Some(Denial {
-            access,
-            owner: facts.owner,
-            rule,
-        }),
+        Verdict::Allowed | Verdict::AllowedSwitch(_) => true,
+        Verdict::Denied(_) => false,
     }
 }

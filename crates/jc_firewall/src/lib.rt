@@ -7,7 +7,7 @@ mod examples;
 mod law;
 
 pub use access::{Access, Denial, Facts, Rule, Verdict};
-pub use decision::{decide, denial};
+pub use decision::{allows, decide};
 pub use examples::{
     all_is_allowed_to_the_runtime, casts_are_of_own_objects_or_of_services,
     cleared_arrays_are_of_the_selected_context, components_are_own_or_global, fields_are_own,

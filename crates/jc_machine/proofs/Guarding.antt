@@ -6,7 +6,7 @@ use Rattle.std.proofs.lemmas.Option.{none-some, same_Some}
 use Rattle.std.specs.List.{AllByRecursion}
 use Rattle.jc_code.specs.Targets.{target_of}
 use Rattle.jc_code.specs.declared.object.Form.{Form}
-use Rattle.jc_firewall.specs.Verdict.{verdict_of}
+use Rattle.jc_firewall.specs.Verdict.{is_allowed, verdict_of}
 use Rattle.jc_firewall.specs.declared.access.Access.{Access}
 use Rattle.jc_firewall.specs.declared.access.Verdict.{Verdict}
 use Rattle.jc_firewall.specs.declared.access.Verdict.TheVariants.{Allowed, AllowedSwitch, Denied}
@@ -20,7 +20,7 @@ use Rattle.jc_machine.specs.Going.{gives, goes_on, goes_to, judged, jumps, leave
 use Rattle.jc_machine.specs.Going.{on_reference, on_reference_local, on_some, on_target, on_top, on_word, on_word_local}
 use Rattle.jc_machine.specs.Going.{plain, pushed, require, storing, stuck, throws, touch_of, touched}
 use Rattle.jc_machine.specs.Guarded.{AreGuarded, AreMade, IsJudged, KeepsStatics, allowed, are_allowed, as_they_were}
-use Rattle.jc_machine.specs.Guarded.{by_frame, denied, one_written, is_allowed, machine_of, setting_of}
+use Rattle.jc_machine.specs.Guarded.{by_frame, denied, one_written, machine_of, setting_of}
 use Rattle.jc_machine.specs.Machine.{Asked, Machine, Next, Outcome, Stepped, Surroundings, Throws, Touch}
 use Rattle.jc_machine.specs.Runtime.{security_exception}
 use Rattle.jc_words.specs.Values.{Null, Ref, TaggedValue, Unset, Word, is_tagged_reference}

@@ -10,7 +10,7 @@ use Rattle.jc_code.specs.declared.object.Form.{Form}
 use Rattle.jc_code.specs.declared.object.Holder.{Holder}
 use Rattle.jc_code.specs.declared.object.Holder.TheVariants as Holders
 use Rattle.jc_code.specs.declared.object.ObjectOperation.TheVariants as objects
-use Rattle.jc_firewall.specs.Verdict.{fields, row_of}
+use Rattle.jc_firewall.specs.Verdict.{fields, is_allowed, row_of}
 use Rattle.jc_firewall.specs.declared.access.Access.TheVariants.{PutStaticReference}
 use Rattle.jc_firewall.specs.declared.access.Facts.{Facts}
 use Rattle.jc_link.specs.declared.named.StaticPlace.{StaticPlace}
@@ -23,7 +23,7 @@ use Rattle.jc_machine.specs.Fields.{FieldTarget, InstanceField, act_field, act_g
 use Rattle.jc_machine.specs.Fields.{act_put_static, act_static, field_target, gets, of_class, of_objects, on_holder}
 use Rattle.jc_machine.specs.Fields.{put_static, puts, putting, static_at, stored_in_static}
 use Rattle.jc_machine.specs.Going.{StepContext, facts_of, storing}
-use Rattle.jc_machine.specs.Guarded.{PutsStatic, StandsAt, is_allowed, may_change, one_written}
+use Rattle.jc_machine.specs.Guarded.{PutsStatic, StandsAt, may_change, one_written}
 use Rattle.jc_store.specs.Heap.{Object, object_at}
 use Rattle.std.specs.Option.{option_and_then, option_map_or}
 use Rattle.jc_machine.specs.Lookup.{is_of_class, is_of_type, target_at}

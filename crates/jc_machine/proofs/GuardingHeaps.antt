@@ -4,10 +4,11 @@ use Rattle.std.proofs.Common.{slice_get}
 use Rattle.std.proofs.lemmas.Bool.{and_from, and_parts}
 use Rattle.std.proofs.lemmas.Option.{none-some, same_Some}
 use Rattle.std.specs.List.{AllByRecursion}
+use Rattle.jc_firewall.specs.Verdict.{is_allowed}
 use Rattle.jc_names.specs.declared.owner.Owner.{Owner}
 use Rattle.jc_store.specs.Heap.{Heap, Object, object_at}
 use Rattle.jc_machine.specs.Guarded.{AddsFor, AreGuarded, ChangesAccessed, IsAccessed, are_allowed}
-use Rattle.jc_machine.specs.Guarded.{is_allowed, is_last_denied}
+use Rattle.jc_machine.specs.Guarded.{is_last_denied}
 use Rattle.jc_machine.specs.Machine.{Touch}
 use Rattle.jc_machine.specs.Natives.{IsStill, KeepsObjects}
 use Rattle.jc_words.specs.Values.{TaggedValue}

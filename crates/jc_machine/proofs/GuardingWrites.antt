@@ -3,7 +3,7 @@ use Rattle.std.proofs.Common.{◌≡◌, ◌⊎◌, inl, inr, ℕ, zero, suc, �
 use Rattle.std.proofs.Common.{ap, ◌∙◌, subst, eqb-true, List, [], ◌∷◌, Some, length-set, slice_get, set}
 use Rattle.std.proofs.lemmas.Option.{none-some, same_Some}
 use Rattle.jc_firewall.specs.Verdict.{AccessRow, components, fields, is_own, row_of, runtime_context, throws}
-use Rattle.jc_firewall.specs.Verdict.{verdict_in as verdict_in_row, verdict_of}
+use Rattle.jc_firewall.specs.Verdict.{is_allowed, verdict_in as verdict_in_row, verdict_of}
 use Rattle.jc_firewall.specs.declared.access.Access.{Access}
 use Rattle.jc_firewall.specs.declared.access.Access.TheVariants.{Throw}
 use Rattle.jc_firewall.specs.declared.access.Facts.{Facts}
@@ -13,7 +13,7 @@ use Rattle.jc_firewall.specs.declared.access.Verdict.TheVariants.{Allowed, Denie
 use Rattle.jc_store.specs.Heap.{Heap, Object, object_at, with_cell, with_new, with_object}
 use Rattle.jc_store.specs.declared.kind.Mark.TheVariants.{Plain}
 use Rattle.jc_machine.specs.Going.{StepContext, facts_of, leaves_operands, stored_in, with_heap}
-use Rattle.jc_machine.specs.Guarded.{ChangesAccessed, IsAccessed, IsNewOf, as_they_were, is_allowed, may_change}
+use Rattle.jc_machine.specs.Guarded.{ChangesAccessed, IsAccessed, IsNewOf, as_they_were, may_change}
 use Rattle.jc_machine.specs.Machine.{Asked, Touch}
 use Rattle.jc_names.specs.declared.owner.Owner.{Owner}
 use Rattle.jc_machine.specs.Natives.{IsStill, KeepsObjects}

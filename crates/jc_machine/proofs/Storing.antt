@@ -11,7 +11,7 @@ use Rattle.jc_base.specs.declared.declared_type.DeclaredType.TheVariants as Decl
 use Rattle.jc_cap_desc.specs.Shape.{Shape}
 use Rattle.jc_code.specs.declared.object.Form.{Form}
 use Rattle.jc_code.specs.declared.object.Form.TheVariants as Forms
-use Rattle.jc_firewall.specs.Verdict.{is_never_stored, runtime_context, stores_reference, verdict_of}
+use Rattle.jc_firewall.specs.Verdict.{is_allowed, is_never_stored, runtime_context, stores_reference, verdict_of}
 use Rattle.jc_firewall.specs.declared.access.Access.{Access}
 use Rattle.jc_firewall.specs.declared.access.Facts.{Facts}
 use Rattle.jc_firewall.specs.declared.access.Rule.TheVariants.{Storing}
@@ -27,7 +27,7 @@ use Rattle.jc_store.specs.declared.kind.ObjectType.{ObjectType}
 use Rattle.jc_machine.specs.Arrays.{stored_as}
 use Rattle.jc_machine.specs.Fields.{with_static, with_value, with_value_in}
 use Rattle.jc_machine.specs.Going.{StepContext, facts_of, storing}
-use Rattle.jc_machine.specs.Guarded.{is_allowed, is_blank}
+use Rattle.jc_machine.specs.Guarded.{is_blank}
 use Rattle.jc_machine.specs.Lookup.{is_of_type, leads_to, mark_of, of_package, with_package, fields_of}
 use Rattle.jc_machine.specs.Machine.{StaticValue}
 use Rattle.jc_machine.specs.Natives.{KeepsObjects}

@@ -7,7 +7,7 @@ use Rattle.std.proofs.lemmas.Option.{same_Some}
 use Rattle.std.specs.Option.{option_and_then, option_map_or}
 use Rattle.jc_code.specs.Targets.{target_of}
 use Rattle.jc_code.specs.declared.object.Form.{Form}
-use Rattle.jc_firewall.specs.Verdict.{runtime_context, verdict_of}
+use Rattle.jc_firewall.specs.Verdict.{is_allowed, runtime_context, verdict_of}
 use Rattle.jc_firewall.specs.declared.access.Access.{Access}
 use Rattle.jc_firewall.specs.declared.access.Access.TheVariants.{Throw}
 use Rattle.jc_firewall.specs.declared.access.Facts.{Facts}
@@ -24,7 +24,6 @@ use Rattle.jc_machine.specs.Going.{facts_of, gives, goes_to, judged, jumps, leav
 use Rattle.jc_machine.specs.Going.{on_reference, on_reference_local, on_some, on_target, on_top, on_word}
 use Rattle.jc_machine.specs.Going.{on_word_local, require, stored_in, storing, stuck, throws, touch_of, touched}
 use Rattle.jc_machine.specs.Going.{with_heap, with_machine, with_top}
-use Rattle.jc_machine.specs.Guarded.{is_allowed}
 use Rattle.jc_machine.specs.Lookup.{is_shared_interface, target_at}
 use Rattle.jc_machine.specs.Machine.{Asked, Stepped, Touch}
 use Rattle.jc_machine.specs.Runtime.{HasRuntimeObjects, null_pointer_exception, runtime_objects, security_exception}

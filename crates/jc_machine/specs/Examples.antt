@@ -25,7 +25,7 @@ use Rattle.jc_store.specs.declared.kind.ObjectType.TheVariants.{Instance, Boolea
 use Rattle.jc_store.specs.declared.kind.ObjectType.TheVariants.{ReferenceArray}
 use Rattle.jc_names.specs.declared.owner.Owner.{Owner}
 use Rattle.jc_firewall.specs.declared.access.Access.{Access}
-use Rattle.jc_firewall.specs.declared.access.Access.TheVariants.{InvokeVirtual}
+use Rattle.jc_firewall.specs.declared.access.Access.TheVariants.{InvokeVirtual, LoadComponent}
 use Rattle.jc_firewall.specs.declared.access.Rule.{Rule}
 use Rattle.jc_firewall.specs.declared.access.Verdict.{Verdict}
 use Rattle.jc_firewall.specs.declared.access.Verdict.TheVariants.{Allowed}
@@ -138,6 +138,18 @@ end_of (Threw m object at None) = an_object object
 end_of (Threw m object at (Some denied)) = denied_access object denied.access denied.object denied.rule
 end_of (RanOut m spent at) = used_up
 end_of WasStuck = stuck
+
+-- code reads a component of an array, with this verdict
+abbrev pub reading : ℕ → Verdict → Touch
+reading object verdict = record {
+  by = ByCode;
+  active = 1;
+  access = LoadComponent;
+  object = object;
+  stored = None;
+  wanted = None;
+  verdict = verdict;
+}
 
 -- the shown part of an access: from which context, the access, to which object, and the verdict on it
 pub record ShownTouch : Type 0 where

@@ -13,14 +13,13 @@ use Rattle.jc_code.specs.declared.object.FieldAccess.{FieldAccess}
 use Rattle.jc_code.specs.declared.object.FieldAction.TheVariants.{Put}
 use Rattle.jc_code.specs.declared.object.Holder.TheVariants.{Class}
 use Rattle.jc_code.specs.declared.object.ObjectOperation.TheVariants.{Field}
-use Rattle.jc_firewall.specs.Verdict.{runtime_context, verdict_of}
+use Rattle.jc_firewall.specs.Verdict.{is_allowed, runtime_context, verdict_of}
 use Rattle.jc_firewall.specs.declared.access.Access.{Access}
 use Rattle.jc_firewall.specs.declared.access.Access.TheVariants.{ArrayLength, CheckCast, GetField, InstanceOf}
 use Rattle.jc_firewall.specs.declared.access.Access.TheVariants.{InvokeInterface, InvokeVirtual, LoadComponent}
 use Rattle.jc_firewall.specs.declared.access.Access.TheVariants.{PutField, PutReferenceField, PutStaticReference}
 use Rattle.jc_firewall.specs.declared.access.Access.TheVariants.{StoreComponent, StoreReference, Throw}
 use Rattle.jc_firewall.specs.declared.access.Verdict.{Verdict}
-use Rattle.jc_firewall.specs.declared.access.Verdict.TheVariants.{Allowed, AllowedSwitch, Denied}
 use Rattle.jc_link.specs.declared.named.StaticPlace.{StaticPlace}
 use Rattle.jc_link.specs.declared.target.PoolTarget.TheVariants.{StaticField}
 use Rattle.jc_names.specs.declared.name.ClassName.{ClassName}
@@ -80,11 +79,6 @@ pub record IsJudged (g : Setting) (t : Touch) : Type 0 where
   pub object : Object TaggedValue
   pub found : object_at g.heap t.object ≡ Some object
   pub verdict : t.verdict ≡ verdict_of t.access t.active (facts_for g.shapes g.selected g.heap (asked_by t) object)
-
-abbrev pub is_allowed : Verdict → Bool
-is_allowed Allowed = true
-is_allowed (AllowedSwitch owner) = true
-is_allowed (Denied rule) = false
 
 -- ---- the accesses of a step
 

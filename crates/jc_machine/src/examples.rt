@@ -8,15 +8,16 @@ ghost use Rattle.jc_names.specs.declared.name.MethodName.TheVariants.{Api, Loade
 ghost use Rattle.jc_firewall.specs.declared.access.Access.TheVariants.{CheckCast, GetField, InvokeInterface};
 ghost use Rattle.jc_firewall.specs.declared.access.Access.TheVariants.{InvokeVirtual, LoadComponent, PutField};
 ghost use Rattle.jc_firewall.specs.declared.access.Access.TheVariants.{StoreComponent};
-ghost use Rattle.jc_firewall.specs.declared.access.Rule.TheVariants.{Fields};
+ghost use Rattle.jc_firewall.specs.declared.access.Rule.TheVariants.{Components, Fields};
 ghost use Rattle.jc_firewall.specs.declared.access.Verdict.TheVariants.{Allowed, AllowedSwitch, Denied};
 ghost use Rattle.jc_machine.specs.Arrays.{loaded_as, stored_as};
 ghost use Rattle.jc_machine.specs.ExamplePackages.{asker, client, probe, server};
 ghost use Rattle.jc_machine.specs.Examples.{a_value, an_object, asking, denied_access, exceptions, have_their_sizes};
 ghost use Rattle.jc_machine.specs.Examples.{is_stuck_with, owner, probed, probed_on, probed_with, run, run_with, served_run};
 ghost use Rattle.jc_machine.specs.Examples.{shown, start_of, stuck, touch, untouched, used_up, with_served};
-ghost use Rattle.jc_machine.specs.Examples.{handler_from};
+ghost use Rattle.jc_machine.specs.Examples.{handler_from, reading};
 ghost use Rattle.jc_machine.specs.Idle.{idle};
+ghost use Rattle.jc_machine.specs.Machine.{Frame, last_denied};
 ghost use Rattle.jc_machine.specs.Step.{is_covered};
 ghost use Rattle.jc_machine.specs.Typed.{IsOperand};
 ghost use Rattle.jc_words.specs.Values.{Null, Ref, TaggedValue, Unset, Word};
@@ -28,7 +29,6 @@ ghost use Rattle.jc_api.specs.NoClash.{HasNoClash};
 ghost use Rattle.jc_link.specs.Built.{IsBuilt};
 ghost use Rattle.jc_machine.specs.Accepted.{api_alone};
 ghost use Rattle.jc_machine.specs.Running.{MayRun};
-ghost use Rattle.jc_machine.specs.Machine.{Frame};
 ghost use Rattle.jc_machine.specs.Runtime.{HasRuntimeObjects, new_heap};
 ghost use Rattle.jc_machine.specs.Typed.{HeapTyped, IsTyped, IsTypedBeside};
 ghost use Rattle.jc_machine.specs.TypedExamples.{applet_body, applet_world, idle_in, install_frame};
@@ -72,6 +72,13 @@ pub fn calls_run()
         ≡ shown (touch 1 InvokeVirtual 11 Allowed ∷ []) used_up }
     ensures frames_are_used_up { run (server ∷ client ∷ []) 90 (start_of (with_served 30) (owner 1 1) (Loaded 1 120) [])
         ≡ untouched used_up }
+{}
+
+/// Of several accesses the last is told, if it was denied. It does nothing.
+pub fn the_last_access_is_told()
+    ensures denied_at_last { last_denied (reading 11 Allowed ∷ reading 12 (Denied Components) ∷ [])
+        ≡ Some (record { access = LoadComponent; object = 12; rule = Components }) }
+    ensures allowed_at_last { last_denied (reading 11 (Denied Components) ∷ reading 12 Allowed ∷ []) ≡ None }
 {}
 
 /// A native member calls back a member of an object, as the object's owner. It does nothing.

@@ -12,7 +12,7 @@ mod stop;
 pub use examples::{
     bytes_are_kept, callback_runs, calls_run, first_frames_are_typed, handlers_cover_their_ranges,
     install_runs, natives_run, new_machines_are_typed, operands_are_written, runtime_objects_fit,
-    stuck_runs, throws_run,
+    stuck_runs, the_last_access_is_told, throws_run,
 };
 pub use idle::IdleNatives;
 pub use laws::{

@@ -6,7 +6,7 @@ use Rattle.std.proofs.lemmas.Bool.{eq-eqb, eqb-true, leb-true, ltb-true}
 use Rattle.std.proofs.lemmas.List.{length-set}
 use Rattle.std.proofs.lemmas.Option.{none-some, same_Some}
 use Rattle.std.specs.List.{AllByRecursion, list_any}
-use Rattle.jc_firewall.specs.Verdict.{is_own, runtime, runtime_context, verdict_of}
+use Rattle.jc_firewall.specs.Verdict.{is_allowed, is_own, runtime, runtime_context, verdict_of}
 use Rattle.jc_firewall.specs.declared.access.Access.TheVariants.{PutField, StoreComponent}
 use Rattle.jc_firewall.specs.declared.access.Facts.{Facts}
 use Rattle.jc_firewall.specs.declared.access.Rule.TheVariants as rules
@@ -14,7 +14,7 @@ use Rattle.jc_firewall.specs.declared.access.Verdict.{Verdict}
 use Rattle.jc_firewall.specs.declared.access.Verdict.TheVariants.{Allowed, AllowedSwitch, Denied}
 use Rattle.jc_link.specs.Linked.{World}
 use Rattle.jc_machine.specs.Going.{facts_in}
-use Rattle.jc_machine.specs.Guarded.{ChangesAccessed, IsAccessed, are_allowed, is_allowed}
+use Rattle.jc_machine.specs.Guarded.{ChangesAccessed, IsAccessed, are_allowed}
 use Rattle.jc_machine.specs.Guarded.{IsJudged, is_runtimes, may_change}
 use Rattle.jc_machine.specs.Lookup.{is_array}
 use Rattle.jc_machine.specs.Machine.{By, ByCode, ByRuntime, Limits, NativeCall, Touch}

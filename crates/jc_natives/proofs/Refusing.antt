@@ -3,8 +3,9 @@ use Rattle.std.proofs.Common.{◌≡◌, ◌⊎◌, inl, ℕ, ◌&&◌, Bool, tr
 use Rattle.std.proofs.Common.{refl, ap, ◌∙◌, arith}
 use Rattle.std.proofs.lemmas.Option.{none-some, same_Some}
 use Rattle.std.specs.Option.{option_or}
+use Rattle.jc_firewall.specs.Verdict.{is_allowed}
 use Rattle.jc_firewall.specs.declared.access.Verdict.{Verdict}
-use Rattle.jc_machine.specs.Guarded.{are_allowed, is_allowed, is_last_denied}
+use Rattle.jc_machine.specs.Guarded.{are_allowed, is_last_denied}
 use Rattle.jc_machine.specs.Machine.{Touch, last_denied}
 use Rattle.jc_machine.specs.Runtime.{security_exception}
 use Rattle.jc_machine.specs.declared.stop.DeniedAccess.{DeniedAccess}

@@ -18,6 +18,7 @@ use Rattle.jc_cap_desc.specs.Shape.{Shape}
 use Rattle.jc_classes.specs.Api.{method_in}
 use Rattle.jc_classes.specs.Members.{DeclaredMethod, method_at}
 use Rattle.jc_classes.specs.Walk.{most_classes}
+use Rattle.jc_firewall.specs.Verdict.{is_allowed}
 use Rattle.jc_firewall.specs.Verdict.{is_global_array, is_out_of_selection, runtime, runtime_context, verdict_of}
 use Rattle.jc_firewall.specs.declared.access.Facts.{Facts}
 use Rattle.jc_firewall.specs.declared.access.Rule.TheVariants as rules
@@ -31,7 +32,6 @@ use Rattle.jc_link.specs.Named.{is_concrete}
 use Rattle.jc_machine.specs.Apart.{is_applets}
 use Rattle.jc_machine.specs.Calls.{native_may_begin}
 use Rattle.jc_machine.specs.Going.{facts_in}
-use Rattle.jc_machine.specs.Guarded.{is_allowed}
 use Rattle.jc_machine.specs.Lookup.{are_of_instance, are_of_types, is_object_of, is_of_class, may_begin_with}
 use Rattle.jc_machine.specs.Machine as machine
 use Rattle.jc_machine.specs.Machine.{By, Gives, IsStuck, NativeCall, NativeEnd}

@@ -3,12 +3,11 @@ use Rattle.std.proofs.Common.{◌≡◌, ◌⊎◌, inl, inr, ℕ, zero, suc, �
 use Rattle.std.proofs.Common.{map, Option, Some, None, refl, sym, ap, ◌∙◌, subst, slice_get, arith, eqb-true}
 use Rattle.std.proofs.lemmas.Option.{none-some, same_Some}
 use Rattle.std.specs.Option.{option_and_then, option_map, option_map_or}
-use Rattle.jc_firewall.specs.Verdict.{runtime_context, verdict_of}
+use Rattle.jc_firewall.specs.Verdict.{is_allowed, runtime_context, verdict_of}
 use Rattle.jc_firewall.specs.declared.access.Verdict.{Verdict}
 use Rattle.jc_firewall.specs.declared.access.Verdict.TheVariants.{Allowed, AllowedSwitch, Denied}
 use Rattle.jc_link.specs.Linked.{World}
 use Rattle.jc_machine.specs.Going.{facts_in}
-use Rattle.jc_machine.specs.Guarded.{is_allowed}
 use Rattle.jc_machine.specs.Machine.{NativeCall}
 use Rattle.jc_machine.specs.Runtime.{HasRuntimeObjects, apdu_buffer}
 use Rattle.jc_machine.specs.Unseen.{AreAlike, is_hidden, is_plain, with_objects}

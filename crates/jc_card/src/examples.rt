@@ -35,8 +35,8 @@ pub fn applets_are_selected()
     ensures malformed { answer_on selected_card (0 ∷ 0 ∷ []) ≡ Some (status_alone 0x6700) }
 {}
 
-/// Tells why a call ended whose last access was denied: what it threw, and the owner of the object that was accessed. It
-/// does nothing.
+/// Tells why a call ended whose last access was denied: what it threw, and the owner of the object that was accessed.
+/// It does nothing.
 pub fn denials_name_the_owner()
     ensures { uncaught_cause (held_by 0 0 5 ∷ held_by 2 3 9 ∷ []) 1 None
         (Some (record { access = GetField; object = 2; rule = Fields }))

@@ -21,8 +21,8 @@ pub enum StepEnd {
 #[derive(Clone, Copy, Debug, PartialEq, Eq)]
 pub enum RunEnd {
     /// The object with this number was thrown, and no frame caught it. It was thrown at a point in a loaded package's
-    /// code, or by a native member that the runtime called. If it was thrown because the firewall denied an access, this
-    /// is that access.
+    /// code, or by a native member that the runtime called. If it was thrown because the firewall denied an access,
+    /// this is that access.
     Threw {
         object: u16,
         at: Option<CodePoint>,

@@ -1,8 +1,8 @@
 //! What an instruction sees of an object, and the firewall's verdict on an access to it.
 
 ghost use Rattle.std.specs.Prelude.{◌≡◌, true, false, None};
-ghost use Rattle.jc_interp.specs.PrivateSeen.{cell_in, class_in, class_named, denied_on, facts_seen, is_array, is_below};
-ghost use Rattle.jc_interp.specs.PrivateSeen.{mark_of, seen_of, verdict_on, with_put};
+ghost use Rattle.jc_interp.specs.PrivateSeen.{cell_in, class_in, class_named, denied_on, facts_seen, is_array};
+ghost use Rattle.jc_interp.specs.PrivateSeen.{is_below, mark_of, seen_of, verdict_on, with_put};
 ghost use Rattle.jc_machine.specs.Machine.{denied_by};
 
 use crate::step_context::WordStepContext;

@@ -33,9 +33,9 @@ pub record RunsAlike (loading : Loading) (context : ℕ) (commands : List Script
 -- for each context, and each run none of whose steps runs in it, from a card that is apart: on each card that differs
 -- only in components of the context's plain objects it runs alike; and after it those of these objects that no event
 -- clears have the components that they had. Native members change of the runtime's state, and return as AIDs, only what
--- jc_natives Remembered states; and where the runtime's own objects are there, a call by an applet leaves the AID objects
--- unchanged, except with register. An answer has what this command's call of process sent. Only installs that succeed
--- change the registered instances, and between commands none is being installed
+-- jc_natives Remembered states; and where the runtime's own objects are there, a call by an applet leaves the AID
+-- objects unchanged, except with register. An answer has what this command's call of process sent. Only installs that
+-- succeed change the registered instances, and between commands none is being installed
 pub record AreIsolated (apart : CardState → Type 0) (loading : Loading) : Type 0 where
   pub unseen : (context : ℕ) (commands : List ScriptCommand) (c : CardState) (answers : List Answered)
       (touches : List Touch) (ran : List ℕ) (after : CardState) → apart c

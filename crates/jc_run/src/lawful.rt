@@ -46,8 +46,8 @@ pub fn commands_that_go_on_are_answered()
     ensures reset { (c : CardState) → GoesOn c Reset → IsSome (reset_command c) }
 {}
 
-/// Examples of what ends a script early, and of a refused load. Lines aren't read, or an answer isn't written, only if a
-/// call of the reader or the writer failed, or it was called too often. It does nothing.
+/// Examples of what ends a script early, and of a refused load. Lines aren't read, or an answer isn't written, only if
+/// a call of the reader or the writer failed, or it was called too often. It does nothing.
 pub fn early_ends_have_causes()
     ensures readable { IsUnreadable 3 7 1 1 → ⊥ }
     ensures read_failed { IsUnreadable 3 7 1 2 }

@@ -48,7 +48,7 @@ fn operands_at(place: &FramePlace) -> usize
 }
 
 /// The operand with an index, counted from the top, or 0 if there is none.
-#[inline]
+#[inline(always)]
 pub(crate) fn operand_at(place: &FramePlace, words: &[u16], index: u8) -> u16
     requires { IsWithin place.now words.now }
     ensures { result ≡ operand_in index (frame_in words.now place.now) }

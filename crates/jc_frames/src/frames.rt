@@ -207,7 +207,7 @@ impl Frames {
     }
 
     /// The operand of the top frame with an index, counted from the top, or 0 if there is none.
-    #[inline]
+    #[inline(always)]
     pub fn operand(&self, index: u8) -> u16
         ensures { result ≡ of_top 0 (operand_in index) self.now }
     {

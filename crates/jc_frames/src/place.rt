@@ -64,7 +64,7 @@ fn put_words(words: &mut [u16], start: usize, arguments: &[u16])
 }
 
 /// Copies words that lie before an index to the words from there on.
-#[inline]
+#[inline(always)]
 pub(crate) fn copy_arguments(words: &mut Vec<u16>, from: usize, count: usize, start: usize)
     requires before { from + count ≤ start }
     requires within { start + count ≤ vec_len words.old }
@@ -78,7 +78,7 @@ pub(crate) fn copy_arguments(words: &mut Vec<u16>, from: usize, count: usize, st
 const FEW_WORDS: usize = 4;
 
 /// The same in a slice.
-#[inline]
+#[inline(always)]
 fn copy_words(words: &mut [u16], from: usize, count: usize, start: usize)
     requires before { from + count ≤ start }
     requires within { start + count ≤ length words.old }
@@ -87,12 +87,23 @@ fn copy_words(words: &mut [u16], from: usize, count: usize, start: usize)
     if count <= FEW_WORDS {
         copy_each(words, from, count, start);
     } else {
-        words.copy_within(from..from + count, start);
+        copy_at_once(words, from, count, start);
     }
 }
 
+/// The same at once, in a function of its own: a call of the C library in line would cost the few words too.
+#[cold]
+#[inline(never)]
+fn copy_at_once(words: &mut [u16], from: usize, count: usize, start: usize)
+    requires before { from + count ≤ start }
+    requires within { start + count ≤ length words.old }
+    ensures { words.new ≡ put_at words.old start (part words.old from count) }
+{
+    words.copy_within(from..from + count, start);
+}
+
 /// The same word by word.
-#[inline]
+#[inline(always)]
 fn copy_each(words: &mut [u16], from: usize, count: usize, start: usize)
     requires before { from + count ≤ start }
     requires within { start + count ≤ length words.old }

@@ -45,8 +45,7 @@ pub(crate) fn virtual_called(here: &WordStepContext<'_>, class: u16, token: u8) 
     }
 }
 
-/// The firewall's verdict on a call of a virtual method. An applet may call each object of its own context. The slow
-/// case gets copies, so the fast case keeps nothing in memory.
+/// The firewall's verdict on a call of a virtual method. An applet may call each object of its own context.
 #[inline(always)]
 pub(crate) fn verdict_on_call(here: &WordStepContext<'_>, object: Seen) -> Verdict
     ensures { result ≡ verdict_on here.now InvokeVirtual object None false }
@@ -55,9 +54,7 @@ pub(crate) fn verdict_on_call(here: &WordStepContext<'_>, object: Seen) -> Verdi
     if context != RUNTIME && object.owner.context == context {
         Verdict::Allowed
     } else {
-        let here = *here;
-        let object = object;
-        verdict(&here, Access::InvokeVirtual, object, None, false)
+        verdict(here, Access::InvokeVirtual, object, None, false)
     }
 }
 
@@ -88,10 +85,8 @@ pub(crate) fn verdict_on_interface(
     if context != RUNTIME && object.owner.context == context {
         Verdict::Allowed
     } else {
-        let here = *here;
-        let object = object;
-        let is_shared = is_shared_number(&here, number, interface);
-        verdict(&here, Access::InvokeInterface, object, None, is_shared)
+        let is_shared = is_shared_number(here, number, interface);
+        verdict(here, Access::InvokeInterface, object, None, is_shared)
     }
 }
 

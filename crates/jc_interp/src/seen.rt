@@ -107,7 +107,7 @@ pub(crate) fn mark_of(store: &Store, number: u16) -> Option<Mark>
     }
 }
 
-#[inline]
+#[inline(always)]
 fn is_array(object: ObjectType) -> bool
     ensures { result ≡ is_array object }
 {
@@ -119,7 +119,7 @@ fn is_array(object: ObjectType) -> bool
 }
 
 /// The facts on which the verdict on an access depends.
-#[inline]
+#[inline(always)]
 pub(crate) fn facts(
     here: &WordStepContext<'_>,
     object: Seen,
@@ -144,8 +144,8 @@ pub(crate) fn facts(
     }
 }
 
-/// The firewall's verdict on an access in the active context.
-#[inline]
+/// The firewall's verdict on an access in the active context. In line with a named access it is a few tests.
+#[inline(always)]
 pub(crate) fn verdict(
     here: &WordStepContext<'_>,
     access: Access,

@@ -8,3 +8,4 @@ mod Parts
 mod Skips
 mod Faulting
 pub mod Hexadecimals
+mod DigitPairs

@@ -5,3 +5,4 @@ pub mod Whole
 pub mod Reading
 pub mod PrivateWords
 pub mod PrivateReading
+pub mod PrivateDigits

@@ -1,5 +1,5 @@
 -- Scripts: their lines, and the commands that these are. A byte is its number: 10 is the line feed.
-use Rattle.std.specs.Prelude.{ℕ, suc, ◌+◌, ◌-◌, ◌^◌, ◌==◌, ◌&&◌, ◌||◌, nat_le, nat_lt}
+use Rattle.std.specs.Prelude.{ℕ, ◌+◌, ◌-◌, ◌^◌, ◌==◌, ◌&&◌, ◌||◌, nat_le, nat_lt}
 use Rattle.std.specs.Prelude.{List, [], ◌∷◌, ◌++◌, drop, length, take, Option, Some, None}
 use Rattle.std.specs.Prelude.{Bool, bytes_eq, codes, position, if◌then◌else◌}
 use Rattle.std.specs.Char.{is_ascii_digit, is_ascii_whitespace}

@@ -3,6 +3,7 @@
 
 mod chunk;
 mod command;
+mod digits;
 mod fault;
 mod finding;
 mod hexadecimal;

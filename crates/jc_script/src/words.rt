@@ -1,17 +1,16 @@
 //! Lines as words, and words as names and bytes.
 
-ghost use Rattle.std.specs.Prelude.{◌≡◌, ◌≤◌, ◌<◌, ◌∷◌, ◌==◌, ◌/◌, [], length, position, option_copied};
+ghost use Rattle.std.specs.Prelude.{◌≡◌, ◌≤◌, ◌<◌, ◌∷◌, ◌==◌, [], length, position, option_copied};
 ghost use Rattle.std.specs.Prelude.{option_map, take, true, Some, IfNone, IfSome};
 ghost use Rattle.std.specs.Char.{is_ascii_digit};
 ghost use Rattle.std.specs.List.{list_all};
-ghost use Rattle.std.specs.Bool.{OnTrue, OnFalse};
-ghost use Rattle.hex.specs.Hex.{decode_of};
-ghost use Rattle.jc_api.specs.Text.{given, is_skipped, spelled_aid, words_of};
+ghost use Rattle.jc_api.specs.Text.{is_skipped, spelled_aid, words_of};
 ghost use Rattle.jc_script.specs.PrivateWords.{shown_cut, words_left};
 ghost use Rattle.jc_script.specs.Script.{behind_quote, cut_at_quote, cut_at_space, cut_name, is_quote, quoted_names};
 ghost use Rattle.jc_script.specs.Script.{budget_in, budget_of, bytes_of, name_of, text_of, trimmed};
 
 use crate::command::{MOST_BYTES, MOST_IN_LINE};
+use crate::digits::decode;
 use jc_base::Aid;
 use std::marker::Model;
 
@@ -186,15 +185,6 @@ pub(crate) fn name_of(word: &[u8]) -> Option<&str>
         return None;
     }
     text_of(word)
-}
-
-/// Writes the bytes that hexadecimal digits encode, and returns whether they encode any.
-fn decode(word: &[u8], out: &mut [u8]) -> bool
-    requires { length out.old ≡ length word.now / 2 }
-    ensures spelled { OnTrue result (given (decode_of word.now) ≡ Some out.new) }
-    ensures refused { OnFalse result (given (decode_of word.now) ≡ None) }
-{
-    hex::decode_to_slice(word, out).is_ok()
 }
 
 /// The bytes that hexadecimal digits of either case encode, at least one, written to this room.

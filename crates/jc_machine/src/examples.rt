@@ -13,7 +13,8 @@ ghost use Rattle.jc_firewall.specs.declared.access.Verdict.TheVariants.{Allowed,
 ghost use Rattle.jc_machine.specs.Arrays.{loaded_as, stored_as};
 ghost use Rattle.jc_machine.specs.ExamplePackages.{asker, client, probe, server};
 ghost use Rattle.jc_machine.specs.Examples.{a_value, an_object, asking, denied_access, exceptions, have_their_sizes};
-ghost use Rattle.jc_machine.specs.Examples.{is_stuck_with, owner, probed, probed_on, probed_with, run, run_with, served_run};
+ghost use Rattle.jc_machine.specs.Examples.{is_stuck_with, owner, probed, probed_on, probed_with, run, run_with};
+ghost use Rattle.jc_machine.specs.Examples.{served_run};
 ghost use Rattle.jc_machine.specs.Examples.{shown, start_of, stuck, touch, untouched, used_up, with_served};
 ghost use Rattle.jc_machine.specs.Examples.{handler_from, reading};
 ghost use Rattle.jc_machine.specs.Idle.{idle};

@@ -1,5 +1,5 @@
--- The fault of a line that is no command, and its place. A script that ends at such a line reports it; no answer depends
--- on it.
+-- The fault of a line that is no command, and its place. A script that ends at such a line reports it; no answer
+-- depends on it.
 use Rattle.std.specs.Prelude.{ℕ, ◌+◌, ◌-◌, ◌/◌, ◌%◌, ◌==◌, ◌&&◌, Bool, true, false, not, nat_le, nat_lt}
 use Rattle.std.specs.Prelude.{List, [], ◌∷◌, ◌++◌, codes, length, Option, Some, None}
 use Rattle.std.specs.Prelude.{replicate, bytes_eq, get_or, position, if◌then◌else◌, unwrap_or}

@@ -6,8 +6,8 @@ ghost use Rattle.std.specs.Borrow.{ftrue};
 use crate::outcome::Outcome;
 use std::marker::Model;
 
-/// How often a reader or a writer was called, and how many of these calls failed. Only proofs see these numbers: they take no
-/// memory, and have no upper bound.
+/// How often a reader or a writer was called, and how many of these calls failed. Only proofs see these numbers: they
+/// take no memory, and have no upper bound.
 #[derive(Drop)]
 pub struct Counts {
     pub ghost calls: { ℕ },

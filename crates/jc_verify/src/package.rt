@@ -115,8 +115,8 @@ fn certificate_or_fault(linked: &Linked, gathered: Gathered) -> Result<Inferred,
 
 /// Infers a certificate that carries a linked package. It has a state exactly at the pcs that control flow enters by a
 /// branch or a handler of a reachable instruction, each the least possible. If no states that a certificate may have
-/// carry some methods, reports the one with the least offset. The certificate bounds how often control flow is followed.
-/// The count saturates at 2^64 - 1, which is never reached.
+/// carry some methods, reports the one with the least offset. The certificate bounds how often control flow is
+/// followed. The count saturates at 2^64 - 1, which is never reached.
 pub fn infer(alloc: Global, linked: &Linked) -> Result<Inferred, VerifyFault>
     ensures carried { IfOk result (λ found. CarriesPackage linked.now found.cert) }
     ensures entered { IfOk result (λ found. HasStatesWhereEntered linked.now found.cert) }

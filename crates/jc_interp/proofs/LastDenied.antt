@@ -1,7 +1,6 @@
 -- The last access of a list behind others, if it was denied.
-use Rattle.std.proofs.Common.{◌≡◌, List, [], ◌∷◌, ◌++◌, Some, None, refl, sym, ◌∙◌, arith}
+use Rattle.std.proofs.Common.{◌≡◌, List, [], ◌∷◌, ◌++◌, None, refl}
 use Rattle.jc_machine.specs.Machine.{Touch, last_denied}
-use Rattle.jc_machine.specs.declared.stop.DeniedAccess.{DeniedAccess}
 
 -- where the last of the first ones wasn't denied, it is that of the others
 pub none_before : (ts us : List Touch) → last_denied ts ≡ None → last_denied (ts ++ us) ≡ last_denied us

@@ -15,9 +15,7 @@ use Rattle.jc_interp.specs.declared.machine.WordMachine.{WordMachine}
 drop_at : {X : Type 0} (xs : List X) (i : ℕ) (x : X) → slice_get xs i ≡ Some x → drop i xs ≡ x ∷ drop (i + 1) xs
 drop_at [] i x e = absurd cc
 drop_at (y ∷ ys) zero x e = grind arith
-drop_at (y ∷ ys) (suc i) x e =
-    let further : suc (i + 1) ≡ suc i + 1 = omega arith in
-    drop_at ys i x e ∙ ap (λ (n : ℕ). x ∷ drop n (y ∷ ys)) further
+drop_at (y ∷ ys) (suc i) x e = search (arith, drop_at ys i x e)
 
 module _ (p : Program) (object class : ℕ) (u : WordMachine) where
   abbrev all : List words.Frame
@@ -29,8 +27,7 @@ module _ (p : Program) (object class : ℕ) (u : WordMachine) where
   -- the handler is that of the frame at the index
   handler_is : (i : ℕ) (f : words.Frame) → slice_get all i ≡ Some f
       → handler_under p class i u ≡ handler_in p class f.header
-  handler_is i f e = ap (λ (o : Option words.Frame). option_and_then (handler_in p class)
-      (option_map (λ (g : words.Frame). g.header) o)) e
+  handler_is i f e = grind (arith, option_map)
 
   first_is : (i : ℕ) (f : words.Frame) → slice_get all i ≡ Some f
       → from i ≡ caught_in object f (drop (i + 1) all) (from (i + 1)) (handler_under p class i u)

@@ -1,5 +1,5 @@
 -- Classes and their superclasses.
-use Rattle.std.proofs.Common.{◌≡◌, true, List, Option, Some, None, is_some, refl, sym, ap, subst, ◌∙◌}
+use Rattle.std.proofs.Common.{◌≡◌, true, List, Option, Some, is_some, refl, sym, ap, subst, ◌∙◌, arith}
 use Rattle.std.proofs.lemmas.Option.{cond_some, option_and_then_some}
 use Rattle.jc_cap_desc.specs.Shape.{ClassShape, Shape}
 use Rattle.jc_classes.specs.Walk.{most_classes}
@@ -25,8 +25,7 @@ above_there world c d e =
   where
     by_class : (o : Option ClassShape) → class_at world d ≡ o → is_some o ≡ true
         → (k : ClassShape) × (class_at world d ≡ Some k)
-    by_class None at t = absurd cc
-    by_class (Some k) at t = (k, at)
+    by_class o h1 h2 = grind arith
 
 -- and has a number
 pub above_number : (world : List Shape) (names : List ClassName) → names ≡ class_names world → HaveWordOffsets world

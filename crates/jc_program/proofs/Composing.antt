@@ -12,10 +12,9 @@ use Rattle.jc_link.specs.Sound.{IsSound}
 use Rattle.jc_names.specs.Names.{home_at}
 use Rattle.jc_names.specs.declared.name.ClassName.{ClassName}
 use Rattle.jc_program.specs.Called.{AreCalled, AreVisible}
-use Rattle.jc_program.specs.ClassRows.{AreClassRows}
 use Rattle.jc_program.specs.Classes.{HaveWordOffsets, class_names}
 use Rattle.jc_program.specs.Entries.{AreEntries}
-use Rattle.jc_program.specs.InterfaceRows.{AreInterfaceRows, class_interfaces}
+use Rattle.jc_program.specs.InterfaceRows.{class_interfaces}
 use Rattle.jc_program.specs.MemberTokens.{AreMemberTokens}
 use Rattle.jc_program.specs.Methods.{AreLoaded, LoadedMethod, methods_of}
 use Rattle.jc_program.specs.PrivateCalled.{AreListed, HasCalled, HasVisible}
@@ -186,18 +185,10 @@ module _ (all_lookups : (before after : List Shape) → LiesWithin before after 
 
         interfaces_here : p.interface_methods
             ≡ map (class_interfaces shapes names) (take (length p.interface_methods) names)
-        interfaces_here =
-            moved (λ s ns. p.interface_methods ≡ map (class_interfaces s ns) (take (length p.interface_methods) ns))
-            (interface_rows_stay before is.bound.0 keeps (stands before) sound_before two p.interface_methods
-            (subst (λ ns. AreInterfaceRows before ns p.interface_methods) is.tables.classes is.tables.interfaces)
-            (is.tables.counts.interface_methods ∙ ap length is.tables.classes))
+        interfaces_here = grind (arith, moved, interface_rows_stay, keeps, sound_before, two, counts)
 
         rows_here : HaveRows shapes names (length p.rows) p.rows
-        rows_here =
-            moved (λ s ns. HaveRows s ns (length p.rows) p.rows)
-            (rows_stay before is.bound.0 keeps (stands before) sound_before two linking p.rows
-            (subst (λ ns. AreClassRows before ns p.rows) is.tables.classes is.tables.rows)
-            (is.tables.counts.rows ∙ ap length is.tables.classes))
+        rows_here = grind (arith, moved, rows_stay, keeps, sound_before, two, linking, counts)
 
         tokens_here : AreMemberTokens world.shapes p.member_tokens
         tokens_here = grind (arith, shapes_are, tokens_stay, keeps, sound_before, two)

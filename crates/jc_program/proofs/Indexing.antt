@@ -114,9 +114,7 @@ mapped_next f (y ∷ xs) (suc n) x at = ap (λ ys. f y ∷ ys) (mapped_next f xs
 
 pub mapped_more : {A B : Type 0} (f : A → B) (xs : List A) (n : ℕ) (x : A) → slice_get xs n ≡ Some x
     → map f (take n xs) ++ f x ∷ [] ≡ map f (take (n + 1) xs)
-mapped_more f xs n x at =
-    let one : suc n ≡ n + 1 = omega arith in
-    mapped_next f xs n x at ∙ ap (λ k. map f (take k xs)) one
+mapped_more f xs n x at = grind (arith, mapped_next)
 
 -- ---- the way up
 
@@ -164,7 +162,4 @@ module _ (rows : List IndexRow) (classes : List ListingClass) (interface number 
   indexes_none (suc steps) none = ap (option_and_then (says steps)) (class_is None none)
 
   pub indexes_end : (counter : ℕ) → 17_085 ≤ counter → from (most_classes - counter) ≡ None
-  indexes_end counter all =
-      let m = most_is in
-      let none : most_classes - counter ≡ 0 = omega (arith, m, all) in
-      ap from none
+  indexes_end counter all = grind (arith, most_is)

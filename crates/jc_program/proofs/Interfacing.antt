@@ -1,10 +1,10 @@
 -- Rows of interfaces: the nearest class that lists an interface, by numbers and by names.
 use Rattle.std.proofs.Common.{◌≡◌, ℕ, zero, suc, ◌+◌, ◌<◌, ◌≤◌, ◌==◌, Bool, true, false, cond, List, [], ◌∷◌, ◌++◌}
-use Rattle.std.proofs.Common.{drop, length, map, Option, Some, None, is_some, nat_lt, slice_get, refl, sym, ap, ◌∙◌}
+use Rattle.std.proofs.Common.{drop, length, map, Option, Some, None, is_some, nat_lt, slice_get, refl, ap, ◌∙◌}
 use Rattle.std.proofs.Common.{arith}
 use Rattle.std.proofs.lemmas.Bool.{ltb-true}
 use Rattle.std.proofs.lemmas.Option.{slice_get-map}
-use Rattle.std.specs.List.{cons_option, filter_map, find}
+use Rattle.std.specs.List.{cons_option, filter_map}
 use Rattle.std.specs.Option.{option_and_then, option_map, option_map_or, option_or, option_to_list}
 use Rattle.jc_cap.specs.Interfaces.{Implemented}
 use Rattle.jc_cap.specs.declared.record.RecordBody.{RecordBody}
@@ -68,24 +68,18 @@ module _ (world : List Shape) (names : List ClassName) (interface : ClassName) (
       by_test : (n : ℕ) (b : Bool) → (n == other) ≡ b → indexes_in rest other ≡ indexes_of (row_for world interface home rows)
           → indexes_in (with_number row n ∷ rest) other
           ≡ indexes_of (cond b (Some row) (row_for world interface home rows))
-      by_test n true e others = ap (λ b. option_map (λ (r : IndexRow). r.indexes) (cond b (Some (with_number row n))
-          (find (λ (r : IndexRow). r.interface == other) rest))) e
-      by_test n false e others = ap (λ b. option_map (λ (r : IndexRow). r.indexes) (cond b (Some (with_number row n))
-          (find (λ (r : IndexRow). r.interface == other) rest))) e ∙ others
+      by_test n b h1 h2 = grind arith
 
       by_number : (o : Option ℕ) (b : Bool) → option_map_or (λ n. n == other) o false ≡ b
           → indexes_in rest other ≡ indexes_of (row_for world interface home rows)
           → indexes_in (cons_option (option_map (with_number row) o) rest) other
           ≡ indexes_of (cond b (Some row) (row_for world interface home rows))
-      by_number None true e others = absurd cc
-      by_number None false e others = others
-      by_number (Some n) b e others = by_test n b e others
+      by_number o b h1 h2 = grind (arith, by_test)
 
       by_name : (o : Option ClassName) → indexes_in rest other ≡ indexes_of (row_for world interface home rows)
           → indexes_in (cons_option (option_map (with_number row) (option_and_then (class_number names) o)) rest) other
           ≡ indexes_of (cond (is_this interface o) (Some row) (row_for world interface home rows))
-      by_name None others = others
-      by_name (Some d) others = by_number (class_number names d) _ (number_told names interface other is d) others
+      by_name o h1 = grind (arith, by_number, number_told)
 
   -- a class's own row, or what is found above it
   own : (home : ℕ) (body : RecordBody) (above : Option (List ℕ)) → (superclass_ref body ≡ None → above ≡ None)
@@ -97,8 +91,7 @@ module _ (world : List Shape) (names : List ClassName) (interface : ClassName) (
       ∙ by_row (row_for world interface home r.interfaces)
     where
       by_row : (o : Option Implemented) → option_or (indexes_of o) above ≡ found_from (indexes_visit o) above
-      by_row None = refl
-      by_row (Some row) = refl
+      by_row o = grind arith
 
   abbrev says : List ClassInterfaces → ℕ → ClassInterfaces → Option (List ℕ)
   says classes steps k = option_or (indexes_in k.rows other)
@@ -118,8 +111,7 @@ module _ (world : List Shape) (names : List ClassName) (interface : ClassName) (
       by_ref : (o : Option ClassShape) → class_at world c ≡ o
           → option_and_then by_names (superclass_of world c) ≡ option_and_then by_names
           (option_and_then (class_named world (home_of c)) (option_and_then (λ (k : ClassShape). superclass_ref k.body) o))
-      by_ref o e = ap (λ (l : Option ClassShape). option_and_then by_names (option_and_then
-          (class_named world (home_of c)) (option_and_then (λ (k : ClassShape). superclass_ref k.body) l))) e
+      by_ref o e = grind (arith, by_names)
 
       with_rows : (o : Option ClassShape) → class_at world c ≡ o
           → option_or (indexes_in (class_interfaces world names c).rows other)
@@ -127,25 +119,14 @@ module _ (world : List Shape) (names : List ClassName) (interface : ClassName) (
           ≡ option_or (indexes_in (filter_map (index_row world names (home_of c))
           (option_map_or (λ (k : ClassShape). interface_rows k.body) o [])) other)
           (option_and_then by_names (superclass_of world c))
-      with_rows o e = ap (λ (l : Option ClassShape). option_or (indexes_in (filter_map
-          (index_row world names (home_of c)) (option_map_or (λ (k : ClassShape). interface_rows k.body) l [])) other)
-          (option_and_then by_names (superclass_of world c))) e
+      with_rows o e = grind (arith, by_names)
 
       by_class : (o : Option ClassShape) → class_at world c ≡ o
           → option_or (indexes_in (class_interfaces world names c).rows other)
           (option_and_then by_names (superclass_of world c))
           ≡ option_and_then (λ (k : ClassShape). found_from (interface_visit world interface c k)
           (option_and_then by_names (superclass_of world c))) (class_at world c)
-      by_class None e =
-          with_rows None e ∙ by_ref None e
-          ∙ sym (ap (option_and_then (λ (k : ClassShape). found_from (interface_visit world interface c k)
-          (option_and_then by_names (superclass_of world c)))) e)
-      by_class (Some k) e =
-          with_rows (Some k) e
-          ∙ own (home_of c) k.body (option_and_then by_names (superclass_of world c)) (λ none.
-          by_ref (Some k) e ∙ ap (λ r. option_and_then by_names (option_and_then (class_named world (home_of c)) r)) none)
-          ∙ sym (ap (option_and_then (λ (k : ClassShape). found_from (interface_visit world interface c k)
-          (option_and_then by_names (superclass_of world c)))) e)
+      by_class o h1 = grind (arith, with_rows, by_ref, by_names, own)
 
   module _ (are : names ≡ class_names world) (words : HaveWordOffsets world) where
     abbrev made : List ClassInterfaces

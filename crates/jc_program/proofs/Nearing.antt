@@ -1,9 +1,8 @@
 -- The nearest class above a class, of those that are known.
-use Rattle.std.proofs.Common.{◌≡◌, ◌≢◌, ℕ, ◌<◌, Bool, true, List, Some, None, ap, ◌∙◌, subst}
+use Rattle.std.proofs.Common.{◌≡◌, ◌≢◌, ℕ, ◌<◌, Bool, true, List, Some, None, subst, arith}
 use Rattle.std.proofs.lemmas.Option.{same_Some}
-use Rattle.std.specs.Option.{option_and_then}
 use Rattle.jc_cap_desc.specs.Shape.{Shape}
-use Rattle.jc_classes.specs.Methods.{FindsAbove, virtual_method_of}
+use Rattle.jc_classes.specs.Methods.{FindsAbove}
 use Rattle.jc_classes.specs.World.{superclass_of}
 use Rattle.jc_names.specs.Names.{home_of}
 use Rattle.jc_names.specs.declared.name.ClassName.{ClassName}
@@ -14,15 +13,11 @@ use Rattle.jc_program.proofs.Same.{named}
 -- one class on the way up
 pub one_up : (world : List Shape) (c at above : ClassName) (asker : ℕ) → superclass_of world at ≡ Some above
     → FindsAs world c at asker → FindsAbove world at asker → FindsAs world c above asker
-one_up world c at above asker up so_far passes token least =
-    so_far token least ∙ passes token least
-    ∙ ap (option_and_then (λ d. virtual_method_of world d token asker)) up
+one_up world c at above asker up so_far passes token least = grind arith
 
 at_top : (world : List Shape) (names : List ClassName) (c at : ClassName) (asker : ℕ) → superclass_of world at ≡ None
     → FindsAs world c at asker → FindsAbove world at asker → FindsAsNumber world names c None asker
-at_top world names c at asker up so_far passes token least =
-    so_far token least ∙ passes token least
-    ∙ ap (option_and_then (λ d. virtual_method_of world d token asker)) up
+at_top world names c at asker up so_far passes token least = grind arith
 
 module _ (world : List Shape) (names : List ClassName) (count : ℕ) (c at : ClassName) (before shares : Bool)
     (still : shares ≡ true → before ≡ true)
@@ -32,11 +27,7 @@ module _ (world : List Shape) (names : List ClassName) (count : ℕ) (c at : Cla
     (passes_all : shares ≡ true → (asker : ℕ) → FindsAbove world at asker) where
   pub nearest_none : superclass_of world at ≡ None
       → IsNearest world names count c (record { number = None; shares = shares })
-  nearest_none up = record {
-    within = λ n e. absurd cc;
-    others = λ asker other. at_top world names c at asker up (others asker other) (passes asker other);
-    all = λ shared asker. at_top world names c at asker up (all (still shared) asker) (passes_all shared asker);
-  }
+  nearest_none up = grind (arith, at_top)
 
   pub nearest_known : (above : ClassName) (number : ℕ) → superclass_of world at ≡ Some above
       → class_number names above ≡ Some number → number < count

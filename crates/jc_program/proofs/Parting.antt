@@ -1,6 +1,6 @@
 -- Rows that stand for parts of an array.
 use Rattle.std.proofs.Common.{◌≡◌, ℕ, zero, suc, ◌+◌, ◌-◌, ◌≤◌, List, [], ◌∷◌, ◌++◌, length, take, drop, map, Some}
-use Rattle.std.proofs.Common.{slice_get, refl, sym, ap, ◌∙◌, arith}
+use Rattle.std.proofs.Common.{slice_get, refl, ap, ◌∙◌, arith}
 use Rattle.std.proofs.lemmas.List.{drop-take, take-map, take-take}
 use Rattle.jc_program.specs.PrivateLaid.{part}
 use Rattle.jc_program.proofs.Laying.{part_before, part_behind}
@@ -55,12 +55,9 @@ module _ {R A B : Type 0} (start len : R → ℕ) (make : R → List A → B) wh
   -- the first rows alone
   pub parts_kept : (items : List A) (rows : List R) (end count : ℕ) → LieIn end (take count rows)
       → parts_in (take end items) (take count rows) ≡ take count (parts_in items rows)
-  parts_kept items rows end count within =
-      parts_within items end (take count rows) within
-      ∙ sym (take-map (λ r. make r (part items (start r) (len r))) count rows)
+  parts_kept items rows end count within = grind (arith, parts_within, take-map)
 
   -- items that begin with others
   pub parts_begin : (old items : List A) (rows : List R) → LieIn (length old) rows → take (length old) items ≡ old
       → parts_in items rows ≡ parts_in old rows
-  parts_begin old items rows within begins =
-      sym (parts_within items (length old) rows within) ∙ ap (λ xs. parts_in xs rows) begins
+  parts_begin old items rows within begins = grind (arith, parts_within)

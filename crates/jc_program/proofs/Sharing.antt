@@ -38,8 +38,7 @@ number_there : (numbers : List (Option ℕ)) (n m : ℕ) → number_at numbers n
 number_there numbers n m e = by_get (slice_get numbers n) e
   where
     by_get : (o : Option (Option ℕ)) → unwrap_or o None ≡ Some m → o ≡ Some (Some m)
-    by_get None e = absurd cc
-    by_get (Some o) e = ap Some e
+    by_get o h1 = grind arith
 
 -- ---- tables that follow
 
@@ -47,8 +46,7 @@ abbrev chained : List KeyedTable → List (Option ℕ) → Chained
 chained tables nexts = record { tables = tables; nexts = nexts }
 
 none_from : (t : Chained) (steps : ℕ) → tables_from t steps None ≡ []
-none_from t zero = refl
-none_from t (suc steps) = refl
+none_from t steps = grind arith
 
 -- the first tables, of which two chains have the same, lead to the same lists, however many steps more are left
 module _ (t u : Chained) (bound : ℕ) (are : AreChained t)
@@ -66,15 +64,11 @@ module _ (t u : Chained) (bound : ℕ) (are : AreChained t)
       rest : (o : Option ℕ) → number_at t.nexts n ≡ o
           → ((m : ℕ) → m < bound → m < f → m < g → tables_from u f (Some m) ≡ tables_from t g (Some m))
           → tables_from u f o ≡ tables_from t g o
-      rest None e same = none_from u f ∙ sym (none_from t g)
-      rest (Some m) e same =
-          let less = are.before n m (number_there t.nexts n m e) in
-          same m (omega (arith, less, low)) (omega (arith, less, lf)) (omega (arith, less, lg))
+      rest o h1 h2 = grind (arith, none_from, number_there)
 
   same_head : (f g : ℕ) (head : Option ℕ) → IsHead bound head → IsHead f head → IsHead g head
       → tables_from u f head ≡ tables_from t g head
-  same_head f g None low lf lg = none_from u f ∙ sym (none_from t g)
-  same_head f g (Some n) low lf lg = same_from f g n (low n refl) (lf n refl) (lg n refl)
+  same_head f g head h1 h2 h3 = grind (arith, none_from, same_from)
 
 -- tables behind others change no list of these
 module _ (t u : Chained) (are : AreChained t) (begins : first_chained (length t.tables) u ≡ t) where
@@ -175,27 +169,20 @@ list_at t heads number =
     ∙ by_head (slice_get heads number)
   where
     by_head : (o : Option (Option ℕ)) → unwrap_or (option_map (tables_at t) o) [] ≡ tables_at t (unwrap_or o None)
-    by_head None = sym (none_from t (length t.tables))
-    by_head (Some head) = refl
+    by_head o = grind (arith, none_from)
 
 pub list_of : (t : Chained) (heads : List (Option ℕ)) (number : Option ℕ)
     → option_map_or (λ n. unwrap_or (slice_get (lists_in t heads) n) []) number [] ≡ tables_at t (head_of heads number)
-list_of t heads None = sym (none_from t (length t.tables))
-list_of t heads (Some n) = list_at t heads n
+list_of t heads number = grind (arith, none_from, list_at)
 
 pub head_there : (count : ℕ) (heads : List (Option ℕ)) (number : Option ℕ) → AreHeads count heads
     → IsHead count (head_of heads number)
-head_there count heads None are n e = absurd cc
-head_there count heads (Some place) are n e = are place n (number_there heads place n e)
+head_there count heads number h1 = grind (arith, number_there)
 
 -- ---- the first tables alone
 
 pub chained_kept : (count : ℕ) (t : Chained) → AreChained t → AreChained (first_chained count t)
-chained_kept count t are = record {
-  count = let a = length-take count t.tables in let b = length-take count t.nexts in let n = are.count in
-      grind (arith, a, b, n);
-  before = λ n m at. are.before n m (take_get_at count t.nexts n (Some m) at);
-}
+chained_kept count t are = grind (arith, length-take, take_get_at)
 
 pub lists_kept : (end : ℕ) (t : Chained) (heads : List (Option ℕ)) → AreChained t → AreHeads (length t.tables) heads
     → AreHeads end heads → lists_in (first_chained end t) heads ≡ lists_in t heads
@@ -212,8 +199,7 @@ lists_kept end t heads are all first =
         ∙ ap (chained (take end t.tables)) (ap (λ n. take n t.nexts) same_count ∙ take_again end t.nexts)
 
     within : AreHeads (length (take end t.tables)) heads
-    within place n at =
-        let a = all place n at in let b = first place n at in let l = length-take end t.tables in grind (arith, a, b, l)
+    within place n at = grind (arith, all, length-take)
 
 -- ---- the way along a list
 
@@ -232,10 +218,7 @@ module _ (t : Chained) (key token : ℕ) where
   has_none steps = ap (λ (ks : List KeyedTable). keyed_in ks key token) (none_from t steps)
 
   pub has_end : (n : ℕ) (steps : ℕ) → slice_get t.tables n ≡ None → has steps (Some n) ≡ None
-  has_end n zero none = refl
-  has_end n (suc steps) none =
-      ap (λ (o : Option KeyedTable). keyed_in (option_map_or (λ k. k ∷ tables_from t steps (number_at t.nexts n)) o [])
-      key token) none
+  has_end n steps h1 = grind arith
 
   one_step : (n counter : ℕ) (table : KeyedTable) → counter < length t.tables → slice_get t.tables n ≡ Some table
       → tables_from t (length t.tables - counter) (Some n)
@@ -260,8 +243,7 @@ module _ (t : Chained) (key token : ℕ) where
           (find (λ (k : KeyedTable). k.key == key)
           (tables_from t (length t.tables - (counter + 1)) (number_at t.nexts n))))
           ≡ cond b (Some (called_in table.called token)) (has (length t.tables - (counter + 1)) (number_at t.nexts n))
-      by_test true = refl
-      by_test false = refl
+      by_test b = grind arith
 
   pub has_here : (number : Option ℕ) (n counter found : ℕ) → number ≡ Some n → counter < length t.tables
       → option_map (λ (k : KeyedTable). k.key) (slice_get t.tables n) ≡ Some found → found ≡ key
@@ -272,10 +254,7 @@ module _ (t : Chained) (key token : ℕ) where
       by_table : (o : Option KeyedTable) → slice_get t.tables n ≡ o
           → option_map (λ (k : KeyedTable). k.key) o ≡ Some found
           → has (length t.tables - counter) (Some n) ≡ Some (called_at (lists_of t.tables) n token)
-      by_table None there e = absurd cc
-      by_table (Some table) there e =
-          in_order n counter table true less there (eq-eqb table.key key (same_Some table.key found e ∙ same))
-          ∙ ap Some (sym (called_there t.tables n token table there))
+      by_table o h1 h2 = grind (arith, in_order, eq-eqb, same_Some, called_there)
 
   pub has_next : (number : Option ℕ) (n counter found : ℕ) → number ≡ Some n → counter < length t.tables
       → option_map (λ (k : KeyedTable). k.key) (slice_get t.tables n) ≡ Some found → (found ≡ key → ⊥)
@@ -286,10 +265,7 @@ module _ (t : Chained) (key token : ℕ) where
       by_table : (o : Option KeyedTable) → slice_get t.tables n ≡ o
           → option_map (λ (k : KeyedTable). k.key) o ≡ Some found
           → has (length t.tables - counter) (Some n) ≡ has (length t.tables - (counter + 1)) (number_at t.nexts n)
-      by_table None there e = absurd cc
-      by_table (Some table) there e =
-          in_order n counter table false less there
-          (ne_eqb table.key key (λ is_it. other (sym (same_Some table.key found e) ∙ is_it)))
+      by_table o h1 h2 = grind (arith, in_order, ne_eqb, same_Some)
 
 -- ---- a list without its first table
 
@@ -300,9 +276,7 @@ module _ (t : Chained) (key : ℕ) (are : AreChained t) where
   head_behind (Some n) is = by_test _
     where
       by_test : (b : Bool) → IsHead (length t.tables) (cond b (number_at t.nexts n) (Some n))
-      by_test true m e =
-          let less = are.before n m (number_there t.nexts n m e) in let low = is n refl in omega (arith, less, low)
-      by_test false m e = is m e
+      by_test b = grind (arith, number_there)
 
   -- other keys are found behind it
   pub same_behind : (head : Option ℕ) (other token : ℕ) → IsHead (length t.tables) head → (key == other) ≡ false
@@ -333,9 +307,7 @@ module _ (t : Chained) (key : ℕ) (are : AreChained t) where
               (length t.tables) o (within o e) (below o e) (within o e))
             where
               below : (o : Option ℕ) → number_at t.nexts n ≡ o → IsHead (length t.tables - (0 + 1)) o
-              below o e m s =
-                  let less = are.before n m (number_there t.nexts n m (e ∙ s)) in let low = is n refl in
-                  omega (arith, less, low)
+              below o e m s = grind (arith, number_there)
 
               within : (o : Option ℕ) → number_at t.nexts n ≡ o → IsHead (length t.tables) o
               within o e m s = let l = below o e m s in omega (arith, l)
@@ -343,10 +315,4 @@ module _ (t : Chained) (key : ℕ) (are : AreChained t) where
       by_table : (o : Option KeyedTable) → slice_get t.tables n ≡ o
           → keyed_in (tables_at t (cond (option_map_or (λ (k : KeyedTable). k.key == key) (slice_get t.tables n) false)
           (number_at t.nexts n) (Some n))) other token ≡ keyed_in (tables_at t (Some n)) other token
-      by_table None at =
-          ap (λ (o : Option KeyedTable). keyed_in (tables_at t (cond (option_map_or
-          (λ (k : KeyedTable). k.key == key) o false) (number_at t.nexts n) (Some n))) other token) at
-      by_table (Some table) at =
-          ap (λ (o : Option KeyedTable). keyed_in (tables_at t (cond (option_map_or
-          (λ (k : KeyedTable). k.key == key) o false) (number_at t.nexts n) (Some n))) other token) at
-          ∙ by_key table _ at refl
+      by_table o h1 = grind (arith, by_key)

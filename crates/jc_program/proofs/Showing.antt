@@ -1,15 +1,14 @@
 -- Tables of package-visible methods.
-use Rattle.std.proofs.Common.{◌≡◌, ◌≢◌, ℕ, ◌+◌, ◌-◌, ◌<◌, ◌≤◌, ◌==◌, Bool, true, false, cond, List, [], ◌∷◌, length}
+use Rattle.std.proofs.Common.{◌≡◌, ◌≢◌, ℕ, ◌+◌, ◌-◌, ◌<◌, ◌≤◌, ◌==◌, Bool, true, List, [], ◌∷◌, length}
 use Rattle.std.proofs.Common.{Option, Some, None, slice_get, unwrap_or, refl, sym, ap, subst, ◌∙◌, arith}
 use Rattle.std.proofs.lemmas.Bool.{eqb-false, eqb-true, ne_eqb}
 use Rattle.std.proofs.lemmas.Option.{slice_get_within}
-use Rattle.std.specs.List.{find}
-use Rattle.std.specs.Option.{option_map, option_map_or}
+use Rattle.std.specs.Option.{option_map_or}
 use Rattle.jc_cap_desc.specs.Shape.{Shape}
 use Rattle.jc_classes.specs.Methods.{package_visible, virtual_method_of}
 use Rattle.jc_names.specs.Names.{home_at, home_of}
 use Rattle.jc_names.specs.declared.name.ClassName.{ClassName}
-use Rattle.jc_program.specs.Called.{AreVisible, KeyedTable, called_in, called_of, keyed_in}
+use Rattle.jc_program.specs.Called.{AreVisible, KeyedTable, called_of, keyed_in}
 use Rattle.jc_program.specs.Methods.{LoadedMethod}
 use Rattle.jc_program.specs.PrivateCalled.{AreListed, HasAt, HasCalled, HasVisible}
 use Rattle.jc_program.specs.PrivateChained.{AreChained, Chained, IsHead, head_of, lists_in, number_behind, tables_at}
@@ -29,14 +28,12 @@ keyed key called = record { key = key; called = called }
 none_found : (world : List Shape) (methods : List LoadedMethod) (c : ClassName) (home : ℕ)
     → ((token : ℕ) → package_visible ≤ token → virtual_method_of world c token home ≡ None)
     → HasAt world methods c [] home
-none_found world methods c home none token low =
-    sym (ap (called_of methods) (none (package_visible + token) (omega arith)))
+none_found world methods c home none token low = grind arith
 
 -- what another class has, from which the same is found
 same_found : (world : List Shape) (methods : List LoadedMethod) (c d : ClassName) (tables : List KeyedTable) (home : ℕ)
     → FindsAs world c d home → HasAt world methods d tables home → HasAt world methods c tables home
-same_found world methods c d tables home same has token low =
-    has token low ∙ sym (ap (called_of methods) (same (package_visible + token) (omega arith)))
+same_found world methods c d tables home same has token low = grind arith
 
 -- the list of a class that is known, from which the same is found
 known_has : (world : List Shape) (methods : List LoadedMethod) (names : List ClassName)
@@ -81,16 +78,7 @@ own_before world methods c called others asker own has token low = by_test (home
     by_test : (b : Bool) → (home_of c == home_at asker) ≡ b
         → unwrap_or (keyed_in (keyed (home_of c) called ∷ others) (home_at asker) token) Nothing
         ≡ called_of methods (virtual_method_of world c (package_visible + token) (home_at asker))
-    by_test true e =
-        ap (λ b. unwrap_or (option_map (λ (t : KeyedTable). called_in t.called token) (cond b
-        (Some (keyed (home_of c) called)) (find (λ (t : KeyedTable). t.key == home_at asker) others))) Nothing) e
-        ∙ own token low
-        ∙ ap (λ home. called_of methods (virtual_method_of world c (package_visible + token) home))
-        (eqb-true (home_of c) (home_at asker) e)
-    by_test false e =
-        ap (λ b. unwrap_or (option_map (λ (t : KeyedTable). called_in t.called token) (cond b
-        (Some (keyed (home_of c) called)) (find (λ (t : KeyedTable). t.key == home_at asker) others))) Nothing) e
-        ∙ has (eqb-false (home_of c) (home_at asker) e) token low
+    by_test b h1 = grind (arith, eqb-true, eqb-false)
 
 -- the list of a class with a table of its own
 pub put_has : (world : List Shape) (methods : List LoadedMethod) (c : ClassName) (t u : Chained) (called : List Called)
@@ -108,11 +96,7 @@ put_has world methods c t u called above next number are is next_is number_is u_
   where
     list_is : tables_at u (Some number)
         ≡ keyed (home_of c) called ∷ tables_at t (number_behind t above (home_of c))
-    list_is =
-        ap (λ n. tables_at u (Some n)) number_is ∙ ap (λ v. tables_at v (Some (length t.tables))) u_is
-        ∙ ap (λ o. tables_at (with_table t (keyed (home_of c) called) o) (Some (length t.tables))) next_is
-        ∙ table_put t (keyed (home_of c) called) (number_behind t above (home_of c)) are
-        (head_behind t (home_of c) are above is)
+    list_is = grind (arith, table_put, head_behind)
 
 pub are_visible : (world : List Shape) (methods : List LoadedMethod) (names : List ClassName)
     (lists : List (List KeyedTable)) → AreListed (HasVisible world methods) names (length names) lists

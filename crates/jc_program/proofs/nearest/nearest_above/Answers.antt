@@ -4,17 +4,7 @@ use Rattle.jc_program.proofs.Nearing.{nearest_known, one_up}
 use Rattle.jc_program.proofs.nearest.nearest_above.Goals as goal
 
 pub loop-preserved : goal.loop-preserved
-loop-preserved c =
-    let world = c.args.table.now in let class = c.args.class in let at = c.loop.at in let above = c.in-Some.above in
-    let still = c.still_shares-shares.ensures in
-    let up : superclass_of world at ≡ Some above = grind arith in
-    let passes = c.passes_others.ensures (grind arith) in
-    record {
-      others = λ asker other. one_up world class at above asker up (c.loop.invariant.others asker other)
-          (passes asker other);
-      all = λ shared asker. one_up world class at above asker up (c.loop.invariant.all (still.before shared) asker)
-          (still.all shared asker);
-    }
+loop-preserved c = grind (arith, one_up)
 
 pub returns-then-from-count : goal.returns-then-from-count
 returns-then-from-count c =

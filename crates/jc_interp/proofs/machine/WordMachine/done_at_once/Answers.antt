@@ -1,5 +1,4 @@
-use Rattle.std.proofs.Common.{Some, None, refl, ap, ◌∙◌, subst, arith}
-use Rattle.jc_frames.specs.Operands.{at_pc, on_top}
+use Rattle.std.proofs.Common.{Some, None, refl, subst, arith}
 use Rattle.jc_machine.specs.WordNatives.{Answers, IfDone}
 use Rattle.jc_machine.specs.declared.natives.AtOnce.{AtOnce}
 use Rattle.jc_machine.specs.declared.natives.WordOutcome.TheVariants.{Returned}
@@ -57,13 +56,10 @@ returns-in-GivesNothing-clause-calls g c h next context done =
     }
 
 pub returns-in-Gives-clause-runs : goal.returns-in-Gives-clause-runs
-returns-in-Gives-clause-runs g c =
-    replaced_runs c.args.words c.in-Gives.word c.args.next_pc c.args.self.now _ c.replace.ensures
+returns-in-Gives-clause-runs g c = grind (arith, replaced_runs)
 
 pub returns-in-GivesNothing-clause-runs : goal.returns-in-GivesNothing-clause-runs
-returns-in-GivesNothing-clause-runs g c =
-    left_runs c.args.words c.args.next_pc c.args.self.now _
-    (c.set_pc.ensures ∙ ap (on_top (at_pc c.args.next_pc)) c.drop_operands.ensures)
+returns-in-GivesNothing-clause-runs g c = grind (arith, left_runs)
 
 pub returns-in-NotAtOnce-clause-runs : goal.returns-in-NotAtOnce-clause-runs
 returns-in-NotAtOnce-clause-runs g c = same_runs c.args.self.now _ refl

@@ -12,9 +12,7 @@ pub returns-in_err-push-clause-kept : goal.returns-in_err-push-clause-kept
 returns-in_err-push-clause-kept c = grind (arith, classes_begin)
 
 pub invariant_of-self-2 : goal.invariant_of-self-2
-invariant_of-self-2 c =
-    rw (c.in_ok-push.ensures.items) (class_within c.self.inside.rows c.put_rows.new.rows c.self.inside.classes.items _
-    c.self.invariant c.put_rows.ensures.begins (grind arith) (grind arith))
+invariant_of-self-2 c = grind (arith, class_within)
 
 pub returns-clause-done : goal.returns-clause-done
 returns-clause-done c = grind (arith, class_put)

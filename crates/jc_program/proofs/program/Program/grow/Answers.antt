@@ -10,12 +10,7 @@ use Rattle.jc_program.proofs.Interfacing.{are_interface_calls}
 use Rattle.jc_program.proofs.program.Program.grow.Goals as goal
 
 pub put_package-requires-clause-known : goal.put_package-requires-clause-known
-put_package-requires-clause-known c =
-    body_known c.growing_keeps_lookups.ensures.kept c.growing_keeps_linking.ensures.kept
-    c.growing_keeps_lookups.ensures.there c.growing_keeps_lookups.ensures.small c.growing_keeps_linking.ensures.first
-    c.built_worlds_are_sound.ensures c.args.self.now c.args.world.now c.requires.grown c.bodies-bodies.ensures.world
-    c.table-table.result.now c.table-table.ensures.table c.len-count.ensures.small c.index-bodies-bodies.result
-    c.bodies-bodies.result.now c.bodies-bodies.ensures.bodies c.index-bodies-bodies.is
+put_package-requires-clause-known c = search (arith, body_known)
 
 pub grow-requires-3-clause-first : goal.grow-requires-3-clause-first
 grow-requires-3-clause-first c =

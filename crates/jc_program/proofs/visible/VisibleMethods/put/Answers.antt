@@ -31,22 +31,13 @@ head_made-requires-clause-all c =
     (sym c.self.view_is) c.requires.first))
 
 pub returns-in_err-head-clause-begins : goal.returns-in_err-head-clause-begins
-returns-in_err-head-clause-begins c =
-    ap (take (length c.args.self.now)) (kept_lists c.self.inside.tables c.head_made.new.tables c.self.inside.heads.items
-    c.in_err-head.ensures.kept c.self.invariant ∙ c.self.view_is)
-    ∙ take_all (length c.args.self.now) c.args.self.now (omega arith)
+returns-in_err-head-clause-begins c = grind (arith, kept_lists, take_all)
 
 pub returns-in_err-push-clause-begins : goal.returns-in_err-push-clause-begins
-returns-in_err-push-clause-begins c =
-    ap (take (length c.args.self.now)) (ap (lists_in c.head_made.new.tables) c.in_err-push.ensures.items
-    ∙ kept_lists c.self.inside.tables c.head_made.new.tables c.self.inside.heads.items
-    c.in_ok-head.ensures.kept c.self.invariant ∙ c.self.view_is)
-    ∙ take_all (length c.args.self.now) c.args.self.now (omega arith)
+returns-in_err-push-clause-begins c = grind (arith, kept_lists, take_all)
 
 pub invariant_of-self-2 : goal.invariant_of-self-2
-invariant_of-self-2 c =
-    rw (c.in_ok-push.ensures.items) (heads_more c.self.inside.tables c.head_made.new.tables c.self.inside.heads.items
-    c.in_ok-head.head c.in_ok-head.ensures.kept c.self.invariant c.in_ok-head.ensures.within)
+invariant_of-self-2 c = grind (arith, heads_more)
 
 pub returns-clause-listed : goal.returns-clause-listed
 returns-clause-listed c =

@@ -1,5 +1,5 @@
 -- Laws of words that are written to objects which are alike, for this crate and those above: the objects stay alike.
-use Rattle.std.proofs.Common.{ℕ, ◌+◌, List, [], ◌∷◌, map, Option, Some, None}
+use Rattle.std.proofs.Common.{ℕ, ◌+◌, List, [], ◌∷◌, map, Option, arith}
 use Rattle.std.specs.Option.{option_map_or}
 use Rattle.jc_machine.proofs.AlikeLaws.{AlikeAt, at_alike, cell_both, with_both}
 use Rattle.jc_machine.specs.Unseen.{AreAlike}
@@ -14,11 +14,7 @@ put_both context os ps a n i v = by_objects (object_at os n) (object_at ps n) (a
     by_objects : (x y : Option (Object TaggedValue)) → AlikeAt context x y
         → AreAlike context (option_map_or (λ (o : Object TaggedValue). with_object os n (with_cell o i v)) x os)
         (option_map_or (λ (o : Object TaggedValue). with_object ps n (with_cell o i v)) y ps)
-    by_objects None None b = a
-    by_objects (Some o) (Some p) b = with_both context os ps a n (with_cell o i v) (with_cell p i v)
-        (cell_both context o p b i v)
-    by_objects None (Some p) b = absurd b
-    by_objects (Some o) None b = absurd b
+    by_objects x y h1 = grind (arith, with_both, cell_both)
 
 pub put_all_both : (context : ℕ) (os ps : Heap TaggedValue) → AreAlike context os ps
     → (n from : ℕ) (vs : List TaggedValue)

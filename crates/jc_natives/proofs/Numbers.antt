@@ -1,6 +1,6 @@
 -- Objects that members make are arrays, numbered as Object is, and a store has the same limits behind them.
 use Rattle.std.proofs.Common.{◌≡◌, ℕ, zero, suc, ◌+◌, true, List, [], ◌∷◌, ◌++◌, length, slice_get}
-use Rattle.std.proofs.Common.{Option, Some, None, refl, sym, ◌∙◌, arith}
+use Rattle.std.proofs.Common.{Option, Some, None, refl, sym, arith}
 use Rattle.std.proofs.lemmas.Option.{none-some, same_Some}
 use Rattle.jc_machine.specs.Lookup.{is_array}
 use Rattle.jc_machine.specs.WordNatives.{KeepsLimits, NumbersArrays}
@@ -74,8 +74,7 @@ did_limits : (owner : Owner) (s : Store) (k : Kept) (work : Work) → KeepsLimit
 did_limits owner s k work = grind arith
 
 same_numbers : (s : Store) → NumbersArrays s s
-same_numbers s =
-    record { kept = λ number class e. e; made = λ number object e f. absurd (none-some object (sym e ∙ f)) }
+same_numbers s = grind (arith, none-some)
 
 unless_numbers : (owner : Owner) (s : Store) (k : Kept) (refusal : Option Ended) (work : Work)
     → length s.objects ≡ length s.classes

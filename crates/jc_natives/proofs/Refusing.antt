@@ -12,7 +12,7 @@ use Rattle.jc_machine.specs.declared.stop.DeniedAccess.{DeniedAccess}
 use Rattle.jc_natives.proofs.Bare.{both}
 use Rattle.jc_natives.specs.PrivateSeen.{NativeInput}
 use Rattle.jc_natives.specs.PrivateTests.{Tested, by_verdict, followed, goes_on, ranged, refusal_by, refusal_of}
-use Rattle.jc_natives.specs.PrivateTests.{refused_end, test, tested, used}
+use Rattle.jc_natives.specs.PrivateTests.{test, tested, used}
 use Rattle.jc_natives.specs.declared.row.MemberRow.{MemberRow}
 use Rattle.jc_natives.specs.declared.row.Range.{Range}
 use Rattle.jc_natives.specs.declared.row.Test.{Test}
@@ -98,14 +98,12 @@ none_refused t h1 = grind (arith, none-some)
 
 refused_behind : (xs ys : List Touch) (thrown : Option ℕ) → are_allowed xs ≡ true
     → refusal_by (xs ++ ys) thrown ≡ refusal_by ys thrown
-refused_behind xs ys None e = refl
-refused_behind xs ys (Some object) e = ap (λ denied. Some (refused_end object denied)) (last_behind xs ys e)
+refused_behind xs ys thrown h1 = grind (arith, last_behind)
 
 refusal_goes_on : (touches : List Touch) (thrown : Option ℕ) (u : Tested)
     → (thrown ≡ None → are_allowed touches ≡ true)
     → refusal_of (goes_on touches thrown u) ≡ option_or (refusal_by touches thrown) (refusal_of u)
-refusal_goes_on touches (Some object) u fine = refl
-refusal_goes_on touches None u fine = refused_behind touches u.touches u.thrown (fine refl)
+refusal_goes_on touches thrown u h1 = grind (arith, refused_behind)
 
 refusal_followed : (t u : Tested) → AreDecided t → refusal_of (followed t u) ≡ option_or (refusal_of t) (refusal_of u)
 refusal_followed t u decided = refusal_goes_on t.touches t.thrown u (passed_allowed t decided)
@@ -116,9 +114,4 @@ pub refusal_in_order : (s : NativeInput) (arguments : List ℕ) (row : MemberRow
     ≡ option_or (refusal_of (test s arguments row.first))
     (option_or (refusal_of (test s arguments row.second))
     (option_or (refusal_of (ranged s arguments row.first_range)) (refusal_of (ranged s arguments row.second_range))))
-refusal_in_order s arguments row =
-    refusal_followed (test s arguments row.first) _ (test_decided s arguments row.first)
-    ∙ ap (option_or (refusal_of (test s arguments row.first)))
-    (refusal_followed (test s arguments row.second) _ (test_decided s arguments row.second)
-    ∙ ap (option_or (refusal_of (test s arguments row.second)))
-    (refusal_followed (ranged s arguments row.first_range) _ (ranged_decided s arguments row.first_range)))
+refusal_in_order s arguments row = grind (arith, refusal_followed, test_decided, ranged_decided)

@@ -108,9 +108,7 @@ module _ (before after : Kept) where
 
   by_followers : (rest : List Instance) → after.instances ≡ before.instances ++ rest
       → may_follow before.installing after.installing rest ≡ true → registers before after ≡ true
-  by_followers rest is e =
-      subst (λ ys. is_followed (may_follow before.installing after.installing) before.instances ys ≡ true) (sym is)
-      (follows (may_follow before.installing after.installing) before.instances rest e)
+  by_followers rest is e = grind (arith, follows)
 
   passes_test : MayRegister before after → registers before after ≡ true
   passes_test (as_they_were instances installing) =

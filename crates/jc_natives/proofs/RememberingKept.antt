@@ -1,47 +1,46 @@
 -- Native members change of what is kept what is theirs, and tell the AIDs of the owners that they are asked for.
-use Rattle.std.proofs.Common.{◌≡◌, ◌≢◌, ℕ, zero, suc, ◌+◌, ◌-◌, ◌==◌, ◌&&◌, not, Bool, true, false}
-use Rattle.std.proofs.Common.{◌∷◌, ◌++◌, length, nat_le, Option, Some, None, refl, sym, ap, subst, ◌∙◌, slice_get}
+use Rattle.std.proofs.Common.{◌≡◌, ◌≢◌, ℕ, zero, suc, ◌+◌, ◌==◌, ◌&&◌, not, Bool, true, false}
+use Rattle.std.proofs.Common.{◌∷◌, length, nat_le, Option, Some, None, refl, sym, ap, subst, ◌∙◌, slice_get}
 use Rattle.std.proofs.Common.{bytes_eq, is_some, arith, cond, List, []}
 use Rattle.std.proofs.lemmas.Bool.{both_ways, eq-eqb, eqb-true}
 use Rattle.std.proofs.lemmas.Bool.{ne_eqb, not-true}
 use Rattle.std.proofs.lemmas.Option.{none-some, same_Some}
 use Rattle.std.proofs.lemmas.Slice.Eq.{bytes_eq-Decides}
 use Rattle.std.specs.List.{AllByRecursion, find}
-use Rattle.std.specs.Option.{option_and_then, option_map}
+use Rattle.std.specs.Option.{option_and_then}
 use Rattle.std.specs.Prelude.{⊤}
 use Rattle.jc_api.specs.Numbered.{numbered}
-use Rattle.jc_firewall.specs.Verdict.{runtime}
 use Rattle.jc_link.specs.Linked.{World}
 use Rattle.jc_machine.specs.Calls.{native_may_begin}
 use Rattle.jc_machine.specs.Machine as machine
 use Rattle.jc_machine.specs.Machine.{By, ByCode, ByRuntime, Gives, IsStuck, NativeAnswer, NativeCall, NativeEnd}
 use Rattle.jc_machine.specs.Machine.{ThrowsObject, Touch}
-use Rattle.jc_machine.specs.Runtime.{apdu_buffer, apdu_exception, iso_exception, negative_size_exception}
+use Rattle.jc_machine.specs.Runtime.{apdu_buffer, apdu_exception, iso_exception}
 use Rattle.jc_machine.specs.Runtime.{system_exception}
 use Rattle.jc_names.specs.declared.owner.Owner.{Owner}
 use Rattle.jc_natives.proofs.Bare.{both}
 use Rattle.jc_natives.proofs.Changed.{either_is}
 use Rattle.jc_natives.proofs.Spared.{all_throw_own, throws_own}
-use Rattle.jc_natives.specs.Cells.{Write, extended, has_room, is_count, written}
+use Rattle.jc_natives.specs.Cells.{Write, has_room, written}
 use Rattle.jc_natives.specs.Checks.{Check, Passed, Refused, TestEnd, Unfit, Uses, are_aids, tested}
 use Rattle.jc_natives.specs.Kept.{Kept, aid_object, expected_of, has_aid_length, instance_of}
 use Rattle.jc_natives.specs.Kept.{instance_with, is_fresh, is_incoming, is_length_set, is_outgoing, is_same_owner}
-use Rattle.jc_natives.specs.Kept.{most_sent, now_registered, with_announced, with_instance, with_sent, with_state}
+use Rattle.jc_natives.specs.Kept.{most_sent, with_announced, with_instance, with_state}
 use Rattle.jc_natives.specs.Meaning.{answer_of, array_or_refusal, begun, done, end_of, ended, reference, unchanged}
 use Rattle.jc_natives.specs.Meaning.{new_array, with_room, worked}
 use Rattle.jc_natives.specs.Members.{aid_member, aid_of, aid_of_owner, allowed, apdu_member, applet_member, asks}
-use Rattle.jc_natives.specs.Members.{data_offset, ends_with, event_of, have_same_bytes, in_buffer, makes, makes_array}
-use Rattle.jc_natives.specs.Members.{may_make, may_register, registers_under, writes_words, member_of_native, natives}
+use Rattle.jc_natives.specs.Members.{data_offset, ends_with, have_same_bytes, in_buffer, makes, makes_array}
+use Rattle.jc_natives.specs.Members.{may_register, writes_words, member_of_native, natives}
 use Rattle.jc_natives.specs.Members.{object_member, on_allowed, on_installing, registers, require_apdu, require_system}
 use Rattle.jc_natives.specs.Members.{sends, sends_at_once, system_member, utility_member}
 use Rattle.jc_natives.specs.Remembered.{HasRegistered}
-use Rattle.jc_natives.specs.Remembered.{KeepsExchange, KeepsInstances, TellsAid, TellsPreviousAid, as_they_were}
-use Rattle.jc_natives.specs.Remembered.{is_of_apdu, is_register, of_instance, of_none, one_more}
-use Rattle.jc_natives.specs.Taking.{Called, aid_in, as_reference, as_word, bytes_in, called, on_aid, on_length}
+use Rattle.jc_natives.specs.Remembered.{KeepsExchange, KeepsInstances, TellsAid, TellsPreviousAid}
+use Rattle.jc_natives.specs.Remembered.{is_of_apdu, is_register, of_instance, of_none}
+use Rattle.jc_natives.specs.Taking.{Called, aid_in, as_reference, as_word, called, on_aid, on_length}
 use Rattle.jc_natives.specs.Taking.{on_range, on_reference, on_word, word_at, words_in}
-use Rattle.jc_natives.specs.Work.{Asks, Does, Ending, GivesReference, GivesWord, Makes, NoResult, Throws, Work}
-use Rattle.jc_natives.specs.Work.{bad_length, gives, illegal_aid, illegal_transient, illegal_use, illegal_value}
-use Rattle.jc_natives.specs.Work.{no_transient_space, throws, throws_apdu, throws_system, unless_system, writes_own}
+use Rattle.jc_natives.specs.Work.{Asks, Does, Ending, GivesWord, Makes, NoResult, Work}
+use Rattle.jc_natives.specs.Work.{bad_length, gives, illegal_aid, illegal_use, illegal_value}
+use Rattle.jc_natives.specs.Work.{throws_apdu, throws_system, unless_system, writes_own}
 use Rattle.jc_natives.specs.declared.kept.ApduState.{ApduState}
 use Rattle.jc_natives.specs.declared.kept.ApduState.TheVariants.{LengthSet, Outgoing, Received}
 use Rattle.jc_natives.specs.declared.kept.Installing.{Installing}
@@ -53,22 +52,20 @@ use Rattle.jc_natives.specs.declared.native.ApduNative.TheVariants as apdus
 use Rattle.jc_natives.specs.declared.native.AppletNative.{AppletNative}
 use Rattle.jc_natives.specs.declared.native.AppletNative.TheVariants as applets
 use Rattle.jc_natives.specs.declared.native.Elements.{Elements}
-use Rattle.jc_natives.specs.declared.native.Elements.TheVariants.{Booleans, Bytes, References, Shorts}
 use Rattle.jc_natives.specs.declared.native.Native.{Native}
 use Rattle.jc_natives.specs.declared.native.Native.TheVariants.{OfAid, OfApdu, OfApplet, OfObject, OfSystem, OfUtility}
 use Rattle.jc_natives.specs.declared.native.ObjectNative.{ObjectNative}
 use Rattle.jc_natives.specs.declared.native.ObjectNative.TheVariants as objects
 use Rattle.jc_natives.specs.declared.native.SystemNative.{SystemNative}
-use Rattle.jc_natives.specs.declared.native.SystemNative.TheVariants as system
 use Rattle.jc_natives.specs.declared.native.UtilityNative.{UtilityNative}
 use Rattle.jc_natives.specs.declared.native.UtilityNative.TheVariants as utilities
 use Rattle.jc_natives.specs.declared.row.Length.{Length}
-use Rattle.jc_natives.specs.declared.row.Length.TheVariants.{ByteAt, Fixed, OfAid as AsAid, ShortAt}
+use Rattle.jc_natives.specs.declared.row.Length.TheVariants.{ByteAt, ShortAt}
 use Rattle.jc_natives.specs.declared.row.Use.{Use}
 use Rattle.jc_natives.specs.declared.row.Use.TheVariants.{Calls, Fields, Loads, Stores}
 use Rattle.jc_store.specs.Heap.{Heap, Object, object_at, with_new}
 use Rattle.jc_store.specs.declared.kind.ClearingEvent.{ClearingEvent}
-use Rattle.jc_words.specs.Values.{Null, Ref, TaggedValue, Unset, Word}
+use Rattle.jc_words.specs.Values.{Ref, TaggedValue, Word}
 
 -- ---- the numbers of members
 
@@ -144,8 +141,7 @@ none_in p Q (y ∷ xs) each e = by_test (p y) refl e (λ f. none_in p Q xs each 
   where
     by_test : (b : Bool) → p y ≡ b → cond b (Some y) (find p xs) ≡ None → (find p xs ≡ None → AllByRecursion Q xs)
         → Q y × AllByRecursion Q xs
-    by_test true f g later = absurd (none-some y (sym g))
-    by_test false f g later = (each y f, later g)
+    by_test b h1 h2 h3 = grind (arith, none-some)
 
 -- ---- AIDs that are told
 
@@ -161,8 +157,7 @@ other_bytes : (a b : List ℕ) → bytes_eq a b ≡ false → a ≡ b → ⊥
 other_bytes a b free same = grind (arith, bytes_eq-Decides)
 
 is_aid_reference : (n : ℕ) → reference (aid_object n) ≡ Ref (aid_object n)
-is_aid_reference n =
-    ap (λ b. cond b Null (Ref (aid_object n))) (ne_eqb (aid_object n) 0 (λ e. omega (arith, e)))
+is_aid_reference n = grind (arith, ne_eqb)
 
 pub tells_aid : (k : Kept) (owner : Owner) → TellsAid k owner (reference (aid_of_owner k (Some owner)))
 tells_aid k owner = by_found (instance_of k.instances owner) refl
@@ -178,8 +173,7 @@ tells_aid k owner = by_found (instance_of k.instances owner) refl
 
 pub tells_previous : (k : Kept) (previous : Option Owner)
     → TellsPreviousAid k previous (reference (aid_of_owner k previous))
-tells_previous k None = refl
-tells_previous k (Some owner) = tells_aid k owner
+tells_previous k previous = grind (arith, tells_aid)
 
 -- ---- what is kept
 
@@ -193,38 +187,17 @@ pub record Keeps (call : NativeCall Kept) (after : Kept) : Type 0 where
   pub exchange : is_of_apdu call.member ≡ false → KeepsExchange call.runtime after
 
 itself : (call : NativeCall Kept) → Keeps call call.runtime
-itself call = record {
-  instances = as_they_were refl refl;
-  numbers = refl;
-  incoming = refl;
-  expected = refl;
-  selecting = refl;
-  exchange = λ e. record { state = refl; announced = refl; sent = refl };
-}
+itself call = grind arith
 
 -- members of APDU change where the exchange stands
 exchanged : (call : NativeCall Kept) → is_of_apdu call.member ≡ true → (state : ApduState) (announced : ℕ)
     (sent : List ℕ) → Keeps call (record call.runtime { state = state; announced = announced; sent = sent })
-exchanged call e state announced sent = record {
-  instances = as_they_were refl refl;
-  numbers = refl;
-  incoming = refl;
-  expected = refl;
-  selecting = refl;
-  exchange = λ f. absurd (both_ways (is_of_apdu call.member) f e);
-}
+exchanged call e state announced sent = grind (arith, both_ways)
 
 -- register adds an instance
 joined : (call : NativeCall Kept) → is_register call.member ≡ true → (instance : Instance)
     → HasRegistered call (with_instance call.runtime instance) → Keeps call (with_instance call.runtime instance)
-joined call e instance has = record {
-  instances = one_more e has;
-  numbers = refl;
-  incoming = refl;
-  expected = refl;
-  selecting = refl;
-  exchange = λ f. record { state = refl; announced = refl; sent = refl };
-}
+joined call e instance has = grind arith
 
 -- ---- works
 
@@ -275,17 +248,14 @@ module _ (h : Called) (Spared : By → ℕ → Type 0) where
   still = (itself h.call, tt)
 
   either_work : (b : Bool) (x y : Work) → IsWork x → IsWork y → IsWork (cond b x y)
-  either_work true x y e f = e
-  either_work false x y e f = f
+  either_work b x y h1 h2 = grind arith
 
   either : (b : Bool) (x y : Option Work) → Is x → Is y → Is (cond b x y)
-  either true x y e f = e
-  either false x y e f = f
+  either b x y h1 h2 = grind arith
 
   and_then : {A : Type 0} (o : Option A) (go : A → Option Work) → ((x : A) → o ≡ Some x → Is (go x))
       → Is (option_and_then go o)
-  and_then None go each = tt
-  and_then (Some x) go each = each x refl
+  and_then o go h1 = grind arith
 
   at_reference : (place : ℕ) (go : ℕ → Option Work) → ((n : ℕ) → IsArgument place n → Is (go n))
       → Is (on_reference h place go)
@@ -298,16 +268,11 @@ module _ (h : Called) (Spared : By → ℕ → Type 0) where
   at_aid n go each = and_then (aid_in h.call.heap n) go (λ bytes e. each bytes)
 
   at_length : (count : Length) (go : ℕ → Option Work) → ((n : ℕ) → Is (go n)) → Is (on_length h count go)
-  at_length (ShortAt place) go each = at_word place go each
-  at_length (ByteAt place) go each = at_word place _ (λ word. each (extended word))
-  at_length (Fixed count) go each = each count
-  at_length (AsAid place) go each = at_reference place _ (λ aid is. at_aid aid _ (λ bytes. each (length bytes)))
+  at_length count go h1 = grind (arith, at_word, at_reference, at_aid)
 
   at_range : (array offset : ℕ) (count : Length) (go : List ℕ → Option Work) → ((bytes : List ℕ) → Is (go bytes))
       → Is (on_range h array offset count go)
-  at_range array offset count go each =
-      at_reference array _ (λ number is. at_word offset _ (λ from. at_length count _ (λ n.
-      and_then (bytes_in h.call.heap number from n) go (λ bytes e. each bytes))))
+  at_range array offset count go each = search (arith, at_reference, at_word, at_length, and_then)
 
   module _ (own : SparesOwn) where
     system_throws : (reason : ℕ) → IsWork (throws_system k reason)
@@ -363,28 +328,19 @@ module _ (h : Called) (Spared : By → ℕ → Type 0) where
     module _ (e : is_of_apdu h.call.member ≡ true) where
       at_buffer : (offset count : ℕ) (go : List ℕ → Option Work) → ((bytes : List ℕ) → Is (go bytes))
           → Is (in_buffer h offset count go)
-      at_buffer offset count go each =
-          and_then (object_at h.call.heap apdu_buffer) _ (λ buffer f. requires_apdu _ _ _
-          (and_then (bytes_in h.call.heap apdu_buffer offset count) go (λ bytes g. each bytes)))
+      at_buffer offset count go each = grind (arith, and_then, requires_apdu)
 
       sends_more : (bytes : List ℕ) → Is (sends h bytes)
-      sends_more bytes =
-          requires_apdu illegal_use (nat_le (length k.sent + length bytes) k.announced)
-          (Some (gives (with_sent k (k.sent ++ bytes)) NoResult))
-          (exchanged h.call e k.state k.announced (k.sent ++ bytes), tt)
+      sends_more bytes = grind (arith, requires_apdu, exchanged)
 
       length_set : (count : ℕ)
           → Is (require_apdu h bad_length (nat_le count most_sent)
           (Some (gives (with_announced k LengthSet count) NoResult)))
-      length_set count =
-          requires_apdu bad_length (nat_le count most_sent) (Some (gives (with_announced k LengthSet count) NoResult))
-          (exchanged h.call e LengthSet count k.sent, tt)
+      length_set count = grind (arith, requires_apdu, exchanged)
 
       sent_at_once : (offset count : ℕ)
           → Is (require_apdu h bad_length (nat_le count most_sent) (in_buffer h offset count (sends_at_once h count)))
-      sent_at_once offset count =
-          requires_apdu bad_length (nat_le count most_sent) (in_buffer h offset count (sends_at_once h count))
-          (at_buffer offset count (sends_at_once h count) (λ bytes. (exchanged h.call e LengthSet count bytes, tt)))
+      sent_at_once offset count = grind (arith, requires_apdu, at_buffer, exchanged)
 
       apdu_keeps : (native : ApduNative) → Is ((apdu_member native).does h)
       apdu_keeps apdus.GetBuffer = still
@@ -426,12 +382,7 @@ module _ (h : Called) (Spared : By → ℕ → Type 0) where
 
     names_object : (v : Option TaggedValue) (n : ℕ) (object : Object TaggedValue)
         → option_and_then as_reference v ≡ Some n → object_at h.call.heap n ≡ Some object → v ≡ Some (Ref n)
-    names_object None n object e f = absurd (none-some n e)
-    names_object (Some (Word m)) n object e f = absurd (none-some n e)
-    names_object (Some (Ref m)) n object e f = ap (λ x. Some (Ref x)) (same_Some m n e)
-    names_object (Some Null) n object e f =
-        absurd (none-some object (ap (object_at h.call.heap) (same_Some 0 n e) ∙ f))
-    names_object (Some Unset) n object e f = absurd (none-some n e)
+    names_object v n object h1 h2 = grind (arith, none-some, same_Some)
 
     may_of : (n : ℕ) (object : Object TaggedValue) → IsArgument 0 n → object_at h.call.heap n ≡ Some object
         → (o : Option Installing) (i : Installing) → k.installing ≡ o → allowed object.owner o ≡ Some i
@@ -440,18 +391,7 @@ module _ (h : Called) (Spared : By → ℕ → Type 0) where
     may_of n object is found (Some j) i was e = by_test (may_register object.owner j) refl e
       where
         by_test : (b : Bool) → may_register object.owner j ≡ b → cond b (Some j) None ≡ Some i → May n object.owner i
-        by_test true f g =
-            let m = both (not i.registered) (is_same_owner object.owner i.owner)
-            (subst (λ x. may_register object.owner x ≡ true) (same_Some j i g) f) in record {
-              object = object;
-              named = names_object (slice_get h.call.arguments 0) n object is found;
-              found = found;
-              whose = refl;
-              was = was ∙ g;
-              waited = not-true i.registered m.0;
-              installs = same_owner object.owner i.owner m.1;
-            }
-        by_test false f g = absurd (none-some i g)
+        by_test b h1 h2 = grind (arith, both, same_Some, names_object, not-true, same_owner, none-some)
 
     at_allowed : (go : ℕ → Owner → Installing → Option Work)
         → ((n : ℕ) (owner : Owner) (i : Installing) → May n owner i → Is (go n owner i)) → Is (on_allowed h go)
@@ -462,9 +402,7 @@ module _ (h : Called) (Spared : By → ℕ → Type 0) where
         by_installing : (n : ℕ) (object : Object TaggedValue) → IsArgument 0 n
             → object_at h.call.heap n ≡ Some object → (o : Option Installing) → allowed object.owner k.installing ≡ o
             → Is (on_installing h o (go n object.owner))
-        by_installing n object is found None e = system_throws illegal_aid
-        by_installing n object is found (Some i) e =
-            each n object.owner i (may_of n object is found k.installing i refl e)
+        by_installing n object h1 h2 o h3 = grind (arith, system_throws, may_of)
 
     abbrev new_instance : List ℕ → ℕ → Owner → Instance
     new_instance aid object owner = record { aid = aid; object = object; owner = owner }
@@ -477,68 +415,24 @@ module _ (h : Called) (Spared : By → ℕ → Type 0) where
             → IsWork (unless_system k illegal_aid (not (is_some o))
             (writes_own (with_instance k (new_instance aid n owner)) (aid_object i.owner.instance) 0
             (length aid ∷ aid) NoResult))
-        by_found (Some other) f = system_throws illegal_aid
-        by_found None f = (
-          joined h.call e (new_instance aid n owner) (record {
-            instance = new_instance aid n owner;
-            instances = refl;
-            applet = may.object;
-            named = may.named;
-            found = may.found;
-            owner = may.whose;
-            new_aid = none_in (λ (x : Instance). bytes_eq x.aid aid) (λ (x : Instance). x.aid ≢ aid) k.instances
-                (λ x g. other_bytes x.aid aid g) f;
-            installing = i;
-            was = may.was;
-            waited = may.waited;
-            installs = may.installs;
-            is = ap (option_map now_registered) may.was;
-          }),
-          (own.registers e i may.was may.waited, tt),
-        )
+        by_found o h1 = grind (arith, system_throws, joined, none_in, bytes_eq, other_bytes)
 
     applet_keeps : (native : AppletNative) → fits_applet h.call.member native ≡ true
         → Is ((applet_member native).does h)
-    applet_keeps applets.Register e = at_allowed _ (λ n owner i may. registers_keep e n owner i may i.aid)
-    applet_keeps applets.RegisterBytes e =
-        at_allowed _ (λ n owner i may. at_range 1 2 (ByteAt 3) (registers_under h n owner i) (λ aid.
-        requires_system illegal_value (has_aid_length (length aid))
-        (Some (registers k i.owner.instance n owner aid)) (registers_keep e n owner i may aid)))
-    applet_keeps applets.Select e = still
-    applet_keeps applets.Deselect e = still
-    applet_keeps applets.Process e = still
-    applet_keeps applets.SelectingApplet e = still
-    applet_keeps applets.GetShareable e = still
+    applet_keeps native h1 = grind (arith, at_allowed, registers_keep, at_range, requires_system, still)
 
     makes_keep : (elements : Elements) (size : ℕ) (event : Option ClearingEvent)
         → IsWork (makes k h.call.active.context h.call.selected elements size event)
-    makes_keep elements size None = system_throws illegal_value
-    makes_keep elements size (Some event) =
-        let array : Work = Makes (record { elements = elements; event = event; size = size }) in
-        either_work (may_make h.call.active.context h.call.selected event)
-        (cond (is_count size) array (throws k negative_size_exception)) (throws_system k illegal_transient)
-        (either_work (is_count size) array (throws k negative_size_exception) tt still)
-        (system_throws illegal_transient)
+    makes_keep elements size event = grind (arith, system_throws, either_work, still)
 
     asks_keep : (byte : ℕ) (o : Option Instance) → IsWork (asks k h.call.active byte o)
-    asks_keep byte None = still
-    asks_keep byte (Some i) = tells_aid k h.call.active
+    asks_keep byte o = grind (arith, still, tells_aid)
 
     array_keeps : (elements : Elements) → Is (makes_array elements h)
-    array_keeps elements =
-        at_word 0 _ (λ size. at_word 1 _ (λ event. makes_keep elements size (event_of (extended event))))
+    array_keeps elements = grind (arith, at_word, makes_keep)
 
     system_keeps : (native : SystemNative) → Is ((system_member native).does h)
-    system_keeps system.GetAid = still
-    system_keeps system.LookupAid = at_range 0 1 (ByteAt 2) _ (λ bytes. still)
-    system_keeps system.GetPreviousAid = still
-    system_keeps system.AskForShareable =
-        at_reference 0 _ (λ aid is. at_word 1 _ (λ byte. at_aid aid _ (λ bytes.
-        asks_keep byte (instance_with k.instances bytes))))
-    system_keeps system.MakeBooleans = array_keeps Booleans
-    system_keeps system.MakeBytes = array_keeps Bytes
-    system_keeps system.MakeShorts = array_keeps Shorts
-    system_keeps system.MakeReferences = array_keeps References
+    system_keeps native = grind (arith, still, at_range, at_reference, at_word, at_aid, asks_keep, array_keeps)
 
     utility_keeps : (native : UtilityNative) → AreTested (utility_member native).tests
         → Is ((utility_member native).does h)
@@ -600,10 +494,7 @@ module _ (w : World) (call : NativeCall Kept) (Spared : By → ℕ → Type 0) w
   unchanged_good touches ends asks = record { kept = itself call; asks = asks; objects = by_writes [] tt refl }
 
   ending_good : (ending : Ending) → AsksAs (end_of ending)
-  ending_good NoResult = tt
-  ending_good (GivesWord word) = tt
-  ending_good (GivesReference number) = tt
-  ending_good (Throws object) = tt
+  ending_good ending = grind arith
 
   done_good : (touches : List Touch) (work : Work) → IsGoodWork work → IsGood (done call touches work)
   done_good touches (Does writes after ending) e =
@@ -620,14 +511,12 @@ module _ (w : World) (call : NativeCall Kept) (Spared : By → ℕ → Type 0) w
     room_good objects cells (Makes array) e = by_room (has_room objects cells call.heap array.size)
       where
         by_room : (b : Bool) → IsGoodWork (array_or_refusal b array call.runtime)
-        by_room true = tt
-        by_room false = system_throws h Spared own no_transient_space
+        by_room b = grind (arith, system_throws)
     room_good objects cells (Asks question) e = e
 
     worked_good : (touches : List Touch) (o : Option Work) → Is h Spared o → IsGood (worked call touches o)
     worked_good touches None e = unchanged_good touches IsStuck tt
-    worked_good touches (Some work) e =
-        done_good touches _ (room_good call.limits.objects call.limits.cells work e)
+    worked_good touches (Some work) e = search (arith, unchanged_good, done_good, room_good)
 
     begun_good : (o : Option Native) → numbered natives call.member ≡ o
         → ((native : Native) → (tested h (member_of_native native).tests).ends ≡ Passed
@@ -639,9 +528,7 @@ module _ (w : World) (call : NativeCall Kept) (Spared : By → ℕ → Type 0) w
         by_end : (end : TestEnd) → (tested h (member_of_native native).tests).ends ≡ end
             → IsGood (ended call (tested h (member_of_native native).tests).touches end
             ((member_of_native native).does h))
-        by_end Passed f =
-            worked_good _ _ (native_keeps h Spared own native (all_throw_own call.member native e)
-            (has_number call.member native e) (passed native f))
+        by_end Passed f = search (arith, worked_good, native_keeps, all_throw_own, has_number, unchanged_good)
         by_end (Refused object) f = unchanged_good _ (ThrowsObject object) tt
         by_end Unfit f = unchanged_good _ IsStuck tt
 

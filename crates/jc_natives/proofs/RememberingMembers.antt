@@ -1,5 +1,5 @@
 -- What native members change of what the runtime keeps, whose AIDs they tell, and which objects they write.
-use Rattle.std.proofs.Common.{◌≡◌, ◌≢◌, ◌⊎◌, inl, inr, ℕ, zero, suc, ◌+◌, ◌-◌, ◌==◌, ◌||◌, not, Bool, true, false}
+use Rattle.std.proofs.Common.{◌≡◌, ◌≢◌, ◌⊎◌, inl, ℕ, zero, suc, ◌+◌, ◌-◌, ◌==◌, ◌||◌, not, Bool, true, false}
 use Rattle.std.proofs.Common.{◌∷◌, nat_le, Option, Some, None, refl, sym, ap, subst, ◌∙◌, slice_get}
 use Rattle.std.proofs.Common.{arith, cond, List, [], map, nat_lt}
 use Rattle.std.proofs.lemmas.Bool.{eq-eqb, eqb-false, eqb-true, false≢true, le-leb, leb-true, ltb-true}
@@ -19,11 +19,11 @@ use Rattle.jc_classes.specs.Api.{method_in}
 use Rattle.jc_classes.specs.Members.{DeclaredMethod, method_at}
 use Rattle.jc_classes.specs.Walk.{most_classes}
 use Rattle.jc_firewall.specs.Verdict.{is_allowed}
-use Rattle.jc_firewall.specs.Verdict.{is_global_array, is_out_of_selection, runtime, runtime_context, verdict_of}
+use Rattle.jc_firewall.specs.Verdict.{runtime, runtime_context, verdict_of}
 use Rattle.jc_firewall.specs.declared.access.Facts.{Facts}
 use Rattle.jc_firewall.specs.declared.access.Rule.TheVariants as rules
 use Rattle.jc_firewall.specs.declared.access.Verdict.{Verdict}
-use Rattle.jc_firewall.specs.declared.access.Verdict.TheVariants.{Allowed, AllowedSwitch, Denied}
+use Rattle.jc_firewall.specs.declared.access.Verdict.TheVariants.{Allowed, Denied}
 use Rattle.jc_link.specs.ApiClasses.{StandsOnApi}
 use Rattle.jc_link.specs.Built.{IsBuilt}
 use Rattle.jc_link.specs.Linked.{World}
@@ -31,8 +31,7 @@ use Rattle.jc_link.specs.MemberType.{declared_type_of}
 use Rattle.jc_link.specs.Named.{is_concrete}
 use Rattle.jc_machine.specs.Apart.{is_applets}
 use Rattle.jc_machine.specs.Calls.{native_may_begin}
-use Rattle.jc_machine.specs.Going.{facts_in}
-use Rattle.jc_machine.specs.Lookup.{are_of_instance, are_of_types, is_object_of, is_of_class, may_begin_with}
+use Rattle.jc_machine.specs.Lookup.{are_of_instance, is_of_class, may_begin_with}
 use Rattle.jc_machine.specs.Machine as machine
 use Rattle.jc_machine.specs.Machine.{By, Gives, IsStuck, NativeCall, NativeEnd}
 use Rattle.jc_machine.specs.Machine.{ThrowsObject}
@@ -55,9 +54,8 @@ use Rattle.jc_natives.specs.Checks.{Checked, access_of, by_verdict, judged, refu
 use Rattle.jc_natives.specs.Checks.{Check, Passed, Uses, tested}
 use Rattle.jc_natives.specs.Kept.{is_instance_number, Kept}
 use Rattle.jc_natives.specs.Meaning.{answer_of, begun, reference, unchanged}
-use Rattle.jc_natives.specs.Members.{aid_of_owner, asks}
+use Rattle.jc_natives.specs.Members.{aid_of_owner}
 use Rattle.jc_natives.specs.Members.{member_of_native, natives}
-use Rattle.jc_natives.specs.Members.{registers}
 use Rattle.jc_natives.specs.Remembered.{KeepsAids, WritesOwnAid, is_aid_object, IsRemembered}
 use Rattle.jc_natives.specs.Remembered.{TellsAid, TellsPreviousAid}
 use Rattle.jc_natives.specs.Taking.{as_reference, called}
@@ -66,11 +64,10 @@ use Rattle.jc_natives.specs.declared.native.Native.{Native}
 use Rattle.jc_natives.specs.declared.native.Native.TheVariants.{OfSystem}
 use Rattle.jc_natives.specs.declared.native.SystemNative.TheVariants as system
 use Rattle.jc_natives.specs.declared.row.Use.{Use}
-use Rattle.jc_natives.specs.declared.row.Use.TheVariants.{Calls, Fields, Loads, Stores}
 use Rattle.jc_store.specs.Heap.{Heap, Object, object_at, with_new}
 use Rattle.jc_store.specs.declared.kind.Mark.TheVariants.{PermanentEntryPoint}
 use Rattle.jc_store.specs.declared.kind.ObjectType.TheVariants.{Instance as OfClass}
-use Rattle.jc_words.specs.Values.{Null, Ref, TaggedValue, Unset, Word}
+use Rattle.jc_words.specs.Values.{Null, TaggedValue, Word}
 use Rattle.jc_natives.proofs.RememberingKept.{by_one, by_writes, set_reason, tells_aid, tells_previous, is_writing}
 use Rattle.jc_natives.proofs.RememberingKept.{SparesOwn, AreTested}
 use Rattle.jc_natives.proofs.RememberingKept.{AreSpared, AsksAs, IsWritten, IsGood, answer_good}
@@ -116,13 +113,7 @@ module _ (w : World) (call : NativeCall Kept) where
           → (object_at (written Word heap (x ∷ writes)) number
           ≡ object_at (put_all heap x.object x.from (map Word x.words)) number) ⊎ WritesOwnAid call number
           → (object_at (written Word heap (x ∷ writes)) number ≡ object_at heap number) ⊎ WritesOwnAid call number
-      by_number true e rest =
-          let same = eqb-true x.object number e in
-          inr (subst (WritesOwnAid call) same
-          (spared.0 (subst (λ n. is_aid_object n ≡ true) (sym same) aid)))
-      by_number false e (inl f) =
-          inl (f ∙ all_apart heap x.object x.from number (map Word x.words) (eqb-false x.object number e))
-      by_number false e (inr f) = inr f
+      by_number b h1 h2 = grind (arith, eqb-true, all_apart, eqb-false)
 
   aids_kept : (after : Heap TaggedValue) → IsWritten w call (SparedAid call) after → KeepsAids call after
   aids_kept after (by_writes writes spared e) number o p aid found then_found =
@@ -130,19 +121,14 @@ module _ (w : World) (call : NativeCall Kept) where
     where
       by_object : (object_at (written Word call.heap writes) number ≡ object_at call.heap number)
           ⊎ WritesOwnAid call number → (p.cells ≡ o.cells) ⊎ WritesOwnAid call number
-      by_object (inl f) =
-          inl (ap (λ (x : Object TaggedValue). x.cells)
-          (same_found (object_at call.heap number) o p found
-          (sym f ∙ ap (λ heap. object_at heap number) (sym e) ∙ then_found)))
-      by_object (inr f) = inr f
+      by_object h1 = grind (arith, same_found)
   aids_kept after (by_one object e) number o p aid found then_found =
       inl (ap (λ (x : Object TaggedValue). x.cells)
       (same_found (object_at (with_new call.heap object) number) o p (in_front number found)
       (ap (λ heap. object_at heap number) (sym e) ∙ then_found)))
     where
       in_front : (n : ℕ) → object_at call.heap n ≡ Some o → object_at (with_new call.heap object) n ≡ Some o
-      in_front zero f = absurd (none-some o f)
-      in_front (suc n) f = got_front call.heap (object ∷ []) n o f
+      in_front n h1 = grind (arith, none-some, got_front)
 
   -- ---- what was tested is no AID object, where it may be written
 
@@ -158,9 +144,7 @@ module _ (w : World) (call : NativeCall Kept) where
   module _ (own : HasRuntimeObjects call.heap) (applet : call.active.context ≡ runtime_context → ⊥) where
     passed_allowed : (way : Use) (n : ℕ) (v : Verdict) → (by_verdict (called w call) way n v).ends ≡ Passed
         → is_allowed v ≡ true
-    passed_allowed way n Allowed e = refl
-    passed_allowed way n (AllowedSwitch owner) e = refl
-    passed_allowed way n (Denied rule) e = absurd cc
+    passed_allowed way n v h1 = grind arith
 
     no_field : (by_runtime own : Bool) → by_runtime ≡ false → own ≡ false
         → is_allowed (cond by_runtime Allowed (cond own Allowed (Denied rules.Fields))) ≡ true → ⊥
@@ -179,28 +163,15 @@ module _ (w : World) (call : NativeCall Kept) where
         other = ne_eqb call.active.context runtime_context applet
 
         not_own : (f.owner.context == call.active.context) ≡ false
-        not_own =
-            ne_eqb f.owner.context call.active.context (λ h. applet (sym h ∙ ap (λ (o : Owner). o.context) whose))
+        not_own = grind (arith, ne_eqb)
 
         by_way : (way : Use) → is_writing way ≡ true
             → is_allowed (verdict_of (access_of way) call.active.context f) ≡ true → ⊥
-        by_way Fields e h =
-            no_field (call.active.context == runtime_context) (f.owner.context == call.active.context) other not_own h
-        by_way Loads e h = false≢true e
-        by_way Stores e h =
-            no_component (call.active.context == runtime_context) (is_out_of_selection call.active.context f)
-            (f.owner.context == call.active.context) (is_global_array f.mark) other not_own (ap is_global_array mark) h
-        by_way Calls e h = false≢true e
+        by_way way h1 h2 = grind (arith, no_field, other, not_own, no_component)
 
     no_aid : (way : Use) → is_writing way ≡ true → (n : ℕ) (o : Object TaggedValue) → object_at call.heap n ≡ Some o
         → is_aid_object n ≡ true → (judged (called w call) way n o).ends ≡ Passed → ⊥
-    no_aid way e n o found aid f =
-        let has = aid_row_at call.heap own n aid in
-        let same : has.object ≡ o = same_found (object_at call.heap n) o has.object found has.found in
-        no_write way e (facts_in w.shapes call.selected o None false)
-        (ap (λ (x : Object TaggedValue). x.owner) (sym same) ∙ has.owner)
-        (ap (λ (x : Object TaggedValue). x.kind.mark) (sym same) ∙ has.mark)
-        (passed_allowed way n _ f)
+    no_aid way e n o found aid f = grind (arith, aid_row_at, same_found, no_write, passed_allowed)
 
     used_is_no_aid : (place : ℕ) (way : Use) (null : Checked) → is_writing way ≡ true
         → (uses (called w call) place way null).ends ≡ Passed → (n : ℕ)
@@ -209,19 +180,12 @@ module _ (w : World) (call : NativeCall Kept) where
       where
         by_object : (m : ℕ) (x : Option (Object TaggedValue)) → object_at call.heap m ≡ x → is_aid_object m ≡ true
             → (option_map_or (judged (called w call) way m) x unfit).ends ≡ Passed → ⊥
-        by_object m None there g h = absurd cc
-        by_object m (Some o) there g h = no_aid way e m o there g h
+        by_object m x h1 h2 h3 = grind (arith, no_aid)
 
         by_argument : (a : Option TaggedValue)
             → (option_map_or (uses_value (called w call) way null) a unfit).ends ≡ Passed
             → option_and_then as_reference a ≡ Some n → ⊥
-        by_argument None g h = absurd cc
-        by_argument (Some (Word m)) g h = absurd cc
-        by_argument (Some (Ref m)) g h =
-            by_object m (object_at call.heap m) refl
-            (subst (λ x. is_aid_object x ≡ true) (sym (same_Some m n h)) aid) g
-        by_argument (Some Null) g h = false≢true (subst (λ x. is_aid_object x ≡ true) (sym (same_Some 0 n h)) aid)
-        by_argument (Some Unset) g h = absurd cc
+        by_argument a h1 h2 = grind (arith, by_object, same_Some)
 
     are_tested : (native : Native) → (tested (called w call) (member_of_native native).tests).ends ≡ Passed
         → AreTested (called w call) (SparedAid call) (member_of_native native).tests
@@ -235,19 +199,12 @@ module _ (w : World) (call : NativeCall Kept) where
     reasons = Api api.CardRuntimeException
 
     bits_are : (v : TaggedValue) (n : ℕ) → as_reference v ≡ Some n → bits v ≡ n
-    bits_are (Word m) n e = absurd (none-some n e)
-    bits_are (Ref m) n e = same_Some m n e
-    bits_are Null n e = same_Some 0 n e
-    bits_are Unset n e = absurd (none-some n e)
+    bits_are v n h1 = grind (arith, none-some, same_Some)
 
     first_leads : (vs : List TaggedValue) (ts : List (DeclaredType ClassName)) (n : ℕ)
         → are_of_instance w.shapes call.heap reasons ts vs ≡ true
         → option_and_then as_reference (slice_get vs 0) ≡ Some n → LeadsToClass w.shapes call.heap n reasons
-    first_leads [] ts n e f = absurd (none-some n f)
-    first_leads (v ∷ vs) ts n e f =
-        subst (λ m. LeadsToClass w.shapes call.heap m reasons) (bits_are v n f)
-        (object_lead w.shapes call.heap reasons v
-        (both (is_object_of w.shapes call.heap reasons v) (are_of_types w.shapes call.heap ts vs) e).0)
+    first_leads vs ts n h1 h2 = grind (arith, none-some, bits_are, object_lead, both)
 
     module _ (on : StandsOnApi w.shapes) where
       abbrev reason_setter : ApiMember
@@ -328,17 +285,13 @@ module _ (w : World) (call : NativeCall Kept) where
       by_begin : (b : Bool)
           → (cond b (begun w call (numbered natives call.member)) (unchanged call [] IsStuck)).ends
           ≡ Gives (Some value) → reference n ≡ value
-      by_begin true g = ap value_of (sym gives ∙ sym (ap (λ o. (begun w call o).ends) e) ∙ g)
-      by_begin false g = absurd (stuck_gives_none value g)
+      by_begin b h1 = grind (arith, stuck_gives_none)
 
   abbrev Any : By → ℕ → Type 0
   Any by number = ⊤
 
   good : IsGood w call Any (answer_of w call)
-  good =
-      answer_good w call Any
-      (λ b. record { iso = tt; system = tt; apdu = tt; buffer = tt; registers = λ e i f g. tt; reason = λ e n f. tt })
-      (λ native e j place way f g n is. tt)
+  good = search (arith, answer_good)
 
   pub answers_remembered : IsRemembered call (answer_of w call)
   answers_remembered = record {
@@ -362,5 +315,4 @@ module _ (w : World) (call : NativeCall Kept) where
 pub answers_keep_aids : ((world : List Shape) → IsBuilt world → StandsOnApi world) → (w : World) → IsBuilt w.shapes
     → (call : NativeCall Kept) → HasRuntimeObjects call.heap → is_applets call.active ≡ true
     → KeepsAids call (answer_of w call).heap
-answers_keep_aids on_api w built call own active =
-    answer_keeps_aids w call own (applet_is call.active active) (on_api w.shapes built)
+answers_keep_aids on_api w built call own active = search (arith, answer_keeps_aids, applet_is)

@@ -36,9 +36,9 @@ use Rattle.jc_natives.specs.Meaning.{answer_of, blank_of, done, end_of, meaning,
 use Rattle.jc_natives.specs.Meaning.{unchanged, with_room}
 use Rattle.jc_natives.specs.Members.{natives}
 use Rattle.jc_natives.specs.PrivateCells.{bare, bared}
-use Rattle.jc_natives.specs.PrivateMeaning.{answer_on_words, begun_on_words, ended_on_words, row_of, work_of}
+use Rattle.jc_natives.specs.PrivateMeaning.{answer_on_words, begun_on_words, ended_on_words}
 use Rattle.jc_natives.specs.PrivateSeen.{arguments_of, seen_of}
-use Rattle.jc_natives.specs.PrivateTests.{refusal_by, refused_end, tested}
+use Rattle.jc_natives.specs.PrivateTests.{refusal_by, refused_end}
 use Rattle.jc_natives.specs.PrivateWords.{Done, TellsEnd, did_on_words, done_of, ended_of, kind_of, laid, native_done}
 use Rattle.jc_natives.specs.PrivateWords.{seen_in, unless_refused, word_done}
 use Rattle.jc_natives.specs.Work.{Asks, Does, Ending, Makes, NewArray, Work}
@@ -204,10 +204,7 @@ begun_agrees : (w : World) (s : Store) (call : NativeCall Kept) (native : Native
     (native_done call.active s call.runtime (seen_of w call) (arguments_of call) native).ended
     → AnswerAgrees (state_of (native_done call.active s call.runtime (seen_of w call) (arguments_of call) native))
     outcome (begun_on_words w call (Some native))
-begun_agrees w s call native outcome objects most cells told =
-    let t = tested (seen_of w call) (arguments_of call) (row_of native) in
-    ended_agrees w call t.touches t.thrown (tested_decided (seen_of w call) (arguments_of call) (row_of native)) s
-    (work_of (seen_of w call) call.runtime (arguments_of call) native) outcome objects most cells told
+begun_agrees w s call native outcome objects most cells told = grind (arith, ended_agrees, tested_decided)
 
 -- a member that may begin has a number up to 55, and is a native member
 listed : {A B : Type 0} (xs : List A) (ys : List B) (n : ℕ) (x : A) → length xs ≡ length ys → slice_get xs n ≡ Some x

@@ -1,6 +1,6 @@
 -- Members answer alike where objects are alike, called by an applet of another context.
-use Rattle.std.proofs.Common.{◌≡◌, ℕ, suc, ◌+◌, ◌&&◌, Bool, true, false, cond, not, List, [], ◌∷◌, ◌++◌, length}
-use Rattle.std.proofs.Common.{Option, Some, None, refl, sym, ap, ◌∙◌, subst, arith, nat_le, nat_lt}
+use Rattle.std.proofs.Common.{◌≡◌, ℕ, suc, Bool, true, false, cond, not, List, [], ◌∷◌, ◌++◌}
+use Rattle.std.proofs.Common.{Option, Some, None, refl, sym, ap, ◌∙◌, subst, arith}
 use Rattle.std.specs.Option.{option_map_or}
 use Rattle.jc_api.specs.Numbered.{numbered}
 use Rattle.jc_firewall.specs.Verdict.{runtime_context}
@@ -21,11 +21,11 @@ use Rattle.jc_natives.proofs.UnseenReads.{aid_same, uses_read}
 use Rattle.jc_natives.proofs.UnseenTests.{TestsRead, any_objects, tested_same, uses_same}
 use Rattle.jc_natives.specs.Cells.{Write}
 use Rattle.jc_natives.proofs.UnseenThrown.{answers_throw_own}
-use Rattle.jc_natives.specs.Checks.{Check, Checked, Passed, Refused, TestEnd, Unfit, Uses}
+use Rattle.jc_natives.specs.Checks.{Check, Checked, Passed, TestEnd, Uses}
 use Rattle.jc_natives.specs.Checks.{passed, followed, test, tested, refused}
 use Rattle.jc_machine.specs.Runtime.{null_pointer_exception}
 use Rattle.jc_natives.specs.Kept.{Kept}
-use Rattle.jc_natives.specs.Meaning.{answer_of, array_or_refusal, begun, done, ended, has_words, meaning}
+use Rattle.jc_natives.specs.Meaning.{answer_of, begun, done, ended, has_words, meaning}
 use Rattle.jc_natives.specs.Meaning.{new_array, own_touch, own_touch_of, own_touches, touch_by, unchanged, with_room}
 use Rattle.jc_natives.specs.Meaning.{worked}
 use Rattle.jc_natives.specs.Members.{aid_member, apdu_member, applet_member, member_of_native, natives, object_member}
@@ -37,14 +37,13 @@ use Rattle.jc_natives.specs.declared.native.AidNative.TheVariants as aids
 use Rattle.jc_natives.specs.declared.native.ApduNative.{ApduNative}
 use Rattle.jc_natives.specs.declared.native.AppletNative.{AppletNative}
 use Rattle.jc_natives.specs.declared.native.Native.{Native}
-use Rattle.jc_natives.specs.declared.native.Native.TheVariants.{OfAid, OfApdu, OfApplet, OfObject, OfSystem, OfUtility}
 use Rattle.jc_natives.specs.declared.native.ObjectNative.{ObjectNative}
 use Rattle.jc_natives.specs.declared.native.SystemNative.{SystemNative}
 use Rattle.jc_natives.specs.declared.native.UtilityNative.{UtilityNative}
 use Rattle.jc_natives.specs.declared.row.Length.{Length}
 use Rattle.jc_natives.specs.declared.row.Length.TheVariants as lengths
 use Rattle.jc_natives.specs.declared.row.Use.TheVariants.{Calls}
-use Rattle.jc_store.specs.Heap.{Heap, Object, cells_in, object_at}
+use Rattle.jc_store.specs.Heap.{Heap, Object, object_at}
 use Rattle.jc_words.specs.Values.{Ref, TaggedValue}
 
 -- the same, whatever is thrown
@@ -122,28 +121,14 @@ module _ (context : ℕ) (w : World) (call : NativeCall Kept) (K : Heap TaggedVa
   room_both : (work : Work)
       → with_room call.limits.objects call.limits.cells H call.runtime work
       ≡ with_room call.limits.objects call.limits.cells K call.runtime work
-  room_both (Does writes runtime ending) = refl
-  room_both (Makes array) =
-      ap (λ (b : Bool). array_or_refusal b array call.runtime)
-      (ap (λ (n : ℕ). nat_lt n call.limits.objects && nat_le (cells_in H + 1 + array.size) call.limits.cells)
-      (as_long context H K alike)
-      ∙ ap (λ (n : ℕ). nat_lt (length K) call.limits.objects && nat_le (n + 1 + array.size) call.limits.cells)
-      (as_large context H K alike))
-  room_both (Asks question) = refl
+  room_both work = grind (arith, as_long, as_large)
 
   worked_both : (touches : List Touch) (o : Option Work) → Blind (worked call touches o) (worked other_call touches o)
-  worked_both touches None = unchanged_both touches
-  worked_both touches (Some work) =
-      subst (λ (x : Work). Blind (worked call touches (Some work)) (done other_call touches x)) (room_both work)
-      (done_both touches (with_room call.limits.objects call.limits.cells H call.runtime work))
+  worked_both touches o = grind (arith, unchanged_both, room_both, done_both)
 
   ended_both : (touches : List Touch) (e : TestEnd) (o p : Option Work) → (e ≡ Passed → o ≡ p)
       → Blind (ended call touches e o) (ended other_call touches e p)
-  ended_both touches Passed o p same =
-      subst (λ (x : Option Work). Blind (worked call touches o) (worked other_call touches x)) (same refl)
-      (worked_both touches o)
-  ended_both touches (Refused object) o p same = record { touches = refl; heap = alike; runtime = refl; ends = refl }
-  ended_both touches Unfit o p same = unchanged_both touches
+  ended_both touches e o p h1 = grind (arith, worked_both, unchanged_both)
 
   by_checked : (a b : Checked) (o p : Option Work) → a ≡ b → (a.ends ≡ Passed → o ≡ p)
       → Blind (ended call a.touches a.ends o) (ended other_call b.touches b.ends p)
@@ -167,17 +152,7 @@ module _ (context : ℕ) (w : World) (call : NativeCall Kept) (K : Heap TaggedVa
     aid_read : (native : AidNative) → Read (aid_member native).tests
     aid_read aids.Construct = (tt, λ e. (tt, λ f. (tt, λ g. tt)))
     aid_read aids.Equals = (tt, λ e. (tt, λ f. (tt, λ g. tt)))
-    aid_read aids.GetBytes = (
-      tt,
-      λ e. (
-        tt,
-        λ f. (
-          uses_read context w call K alike own applet other 0 Calls (refused null_pointer_exception)
-              e,
-          λ g. tt,
-        ),
-      ),
-    )
+    aid_read aids.GetBytes = search (arith, uses_read)
 
     apdu_read : (native : ApduNative) → Read (apdu_member native).tests
     apdu_read native = grind arith
@@ -192,12 +167,7 @@ module _ (context : ℕ) (w : World) (call : NativeCall Kept) (K : Heap TaggedVa
     utility_read native = grind arith
 
     tests_read : (native : Native) → Read (member_of_native native).tests
-    tests_read (OfObject native) = object_read native
-    tests_read (OfAid native) = aid_read native
-    tests_read (OfApdu native) = apdu_read native
-    tests_read (OfApplet native) = applet_read native
-    tests_read (OfSystem native) = system_read native
-    tests_read (OfUtility native) = utility_read native
+    tests_read native = grind (arith, object_read, aid_read, apdu_read, applet_read, system_read, utility_read)
 
     begun_both : (o : Option Native) → Blind (begun w call o) (begun w other_call o)
     begun_both None = unchanged_both []
@@ -217,8 +187,7 @@ module _ (context : ℕ) (w : World) (call : NativeCall Kept) (K : Heap TaggedVa
         by_begin : (b : Bool)
             → Blind (cond b (begun w call (numbered natives call.member)) (unchanged call [] IsStuck))
             (cond b (begun w other_call (numbered natives call.member)) (unchanged other_call [] IsStuck))
-        by_begin true = begun_both (numbered natives call.member)
-        by_begin false = unchanged_both []
+        by_begin b = grind (arith, begun_both, unchanged_both)
 
   -- ---- the one member that others have called
 
@@ -239,11 +208,7 @@ module _ (context : ℕ) (w : World) (call : NativeCall Kept) (K : Heap TaggedVa
       by_begin : (b : Bool)
           → Blind (cond b (begun w call (numbered natives call.member)) (unchanged call [] IsStuck))
           (cond b (begun w other_call (numbered natives call.member)) (unchanged other_call [] IsStuck))
-      by_begin true =
-          subst (λ (n : ℕ). Blind (begun w call (numbered natives n)) (begun w other_call (numbered natives n)))
-          (sym is)
-          shareable_both
-      by_begin false = unchanged_both []
+      by_begin b = grind (arith, shareable_both, unchanged_both)
 
 -- the members of the API see nothing
 pub members_blind : AreNativesBlind meaning

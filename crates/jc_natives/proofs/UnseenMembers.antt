@@ -1,17 +1,16 @@
 -- What members do is the same where objects are alike and their tests passed.
-use Rattle.std.proofs.Common.{◌≡◌, ℕ, ◌+◌, ◌==◌, Bool, true, false, cond, List, [], ◌∷◌, length, Option, Some, None}
+use Rattle.std.proofs.Common.{◌≡◌, ℕ, ◌+◌, ◌==◌, Bool, true, false, cond, List, [], ◌∷◌, Option, Some, arith}
 use Rattle.std.proofs.Common.{refl, sym, ap, ◌∙◌, slice_get, nat_le}
 use Rattle.std.specs.Option.{option_and_then, option_map_or}
 use Rattle.jc_firewall.specs.Verdict.{runtime_context}
 use Rattle.jc_link.specs.Linked.{World}
 use Rattle.jc_machine.specs.Machine.{NativeCall}
-use Rattle.jc_machine.specs.Runtime.{HasRuntimeObjects, apdu_buffer, null_pointer_exception}
+use Rattle.jc_machine.specs.Runtime.{HasRuntimeObjects, null_pointer_exception}
 use Rattle.jc_machine.specs.Unseen.{AreAlike, with_objects}
 use Rattle.jc_names.specs.declared.owner.Owner.{Owner}
 use Rattle.jc_natives.proofs.UnseenReads.{Reads, aid_same, and_then_both, buffer_same, bytes_same, uses_read}
 use Rattle.jc_natives.proofs.UnseenReads.{word_same, words_same}
 use Rattle.jc_natives.proofs.UnseenTests.{LengthReads, aids_same, any_objects, followed_passed, length_both}
-use Rattle.jc_natives.specs.Cells.{is_within}
 use Rattle.jc_natives.specs.Checks.{CallsOtherAid, Checked, HasRange, Passed, Uses, UsesUnlessNull, are_aids}
 use Rattle.jc_natives.specs.Checks.{calls_other, passed, refused, test, tested, unfit, uses}
 use Rattle.jc_natives.specs.Kept.{Kept, is_incoming, is_length_set, most_sent}
@@ -19,9 +18,9 @@ use Rattle.jc_natives.specs.Members.{aid_member, apdu_member, applet_member, hav
 use Rattle.jc_natives.specs.Members.{is_range, kept_of, member_of_native, object_member, on_allowed, on_installing}
 use Rattle.jc_natives.specs.Members.{allowed, require_apdu, system_member, utility_member}
 use Rattle.jc_natives.specs.Members.{ends_with}
-use Rattle.jc_natives.specs.Taking.{Called, aid_in, as_reference, as_word, bytes_in, called, on_aid, on_bytes}
+use Rattle.jc_natives.specs.Taking.{Called, aid_in, as_reference, called, on_aid, on_bytes}
 use Rattle.jc_natives.specs.Taking.{on_range, on_reference, on_word, word_at, words_in}
-use Rattle.jc_natives.specs.Work.{GivesWord, Work, bad_length, buffer_bounds}
+use Rattle.jc_natives.specs.Work.{GivesWord, Work, bad_length}
 use Rattle.jc_natives.specs.declared.kept.Installing.{Installing}
 use Rattle.jc_natives.specs.declared.native.AidNative.{AidNative}
 use Rattle.jc_natives.specs.declared.native.AidNative.TheVariants as aids
@@ -30,7 +29,6 @@ use Rattle.jc_natives.specs.declared.native.ApduNative.TheVariants as apdus
 use Rattle.jc_natives.specs.declared.native.AppletNative.{AppletNative}
 use Rattle.jc_natives.specs.declared.native.AppletNative.TheVariants as applets
 use Rattle.jc_natives.specs.declared.native.Native.{Native}
-use Rattle.jc_natives.specs.declared.native.Native.TheVariants.{OfAid, OfApdu, OfApplet, OfObject, OfSystem, OfUtility}
 use Rattle.jc_natives.specs.declared.native.ObjectNative.{ObjectNative}
 use Rattle.jc_natives.specs.declared.native.ObjectNative.TheVariants as objects
 use Rattle.jc_natives.specs.declared.native.SystemNative.{SystemNative}
@@ -70,15 +68,11 @@ module _ (context : ℕ) (w : World) (call : NativeCall Kept) (K : Heap TaggedVa
   at_reference : {A : Type 0} (place : ℕ) (f g : ℕ → Option A)
       → ((n : ℕ) → option_and_then as_reference (slice_get call.arguments place) ≡ Some n → f n ≡ g n)
       → on_reference h place f ≡ on_reference k place g
-  at_reference place f g same =
-      and_then_both (option_and_then as_reference (slice_get call.arguments place))
-      (option_and_then as_reference (slice_get call.arguments place)) f g refl same
+  at_reference place f g same = grind (arith, and_then_both)
 
   at_word : {A : Type 0} (place : ℕ) (f g : ℕ → Option A) → ((n : ℕ) → f n ≡ g n)
       → on_word h place f ≡ on_word k place g
-  at_word place f g same =
-      and_then_both (option_and_then as_word (slice_get call.arguments place))
-      (option_and_then as_word (slice_get call.arguments place)) f g refl (λ n e. same n)
+  at_word place f g same = grind (arith, and_then_both)
 
   at_aid : {A : Type 0} (n : ℕ) (f g : List ℕ → Option A) → object_at H n ≡ object_at K n
       → ((bs : List ℕ) → f bs ≡ g bs)
@@ -87,15 +81,11 @@ module _ (context : ℕ) (w : World) (call : NativeCall Kept) (K : Heap TaggedVa
 
   at_bytes : {A : Type 0} (n from count : ℕ) (f g : List ℕ → Option A) → object_at H n ≡ object_at K n
       → ((bs : List ℕ) → f bs ≡ g bs) → on_bytes h n from count f ≡ on_bytes k n from count g
-  at_bytes n from count f g e same =
-      and_then_both (bytes_in H n from count) (bytes_in K n from count) f g
-      (bytes_same context w call K alike own applet other n from count e) (λ bs d. same bs)
+  at_bytes n from count f g e same = grind (arith, and_then_both, bytes_same)
 
   at_component : {A : Type 0} (n i : ℕ) (f g : ℕ → Option A) → object_at H n ≡ object_at K n → ((x : ℕ) → f x ≡ g x)
       → option_and_then f (word_at H n i) ≡ option_and_then g (word_at K n i)
-  at_component n i f g e same =
-      and_then_both (word_at H n i) (word_at K n i) f g (word_same context w call K alike own applet other n i e)
-      (λ x d. same x)
+  at_component n i f g e same = grind (arith, and_then_both, word_same)
 
   at_range : {A : Type 0} (array offset : ℕ) (count : Length) → Read array → LengthReads context w call K alike count
       → (f g : List ℕ → Option A) → ((bs : List ℕ) → f bs ≡ g bs)
@@ -134,9 +124,7 @@ module _ (context : ℕ) (w : World) (call : NativeCall Kept) (K : Heap TaggedVa
           ≡ cond b (ends_with k (GivesWord 1))
           (option_and_then (λ aids. cond aids (have_same_bytes k one two) (ends_with k (GivesWord 0))) (are_aids k))
       by_same one two is also true = refl
-      by_same one two is also false =
-          and_then_both (are_aids h) (are_aids k) _ _ (aids_same context w call K alike)
-          (λ aids g. by_aids one two (reads_by 0 Calls (refused null_pointer_exception) e one is) also aids g)
+      by_same one two is also false = search (arith, and_then_both, aids_same, by_aids, reads_by)
 
   object_both : (native : ObjectNative) → (tested h (object_member native).tests).ends ≡ Passed
       → (object_member native).does h ≡ (object_member native).does k
@@ -177,11 +165,7 @@ module _ (context : ℕ) (w : World) (call : NativeCall Kept) (K : Heap TaggedVa
 
   in_buffer_both : (offset count : ℕ) (f g : List ℕ → Option Work) → ((bs : List ℕ) → f bs ≡ g bs)
       → in_buffer h offset count f ≡ in_buffer k offset count g
-  in_buffer_both offset count f g same =
-      let e = buffer_same context w call K alike own applet other in
-      and_then_both (object_at H apdu_buffer) (object_at K apdu_buffer) _ _ e (λ buffer d.
-      ap (require_apdu h buffer_bounds (is_within (length buffer.cells) offset count))
-      (at_bytes apdu_buffer offset count f g e same))
+  in_buffer_both offset count f g same = grind (arith, buffer_same, and_then_both, at_bytes)
 
   apdu_both : (native : ApduNative) → (tested h (apdu_member native).tests).ends ≡ Passed
       → (apdu_member native).does h ≡ (apdu_member native).does k
@@ -216,8 +200,7 @@ module _ (context : ℕ) (w : World) (call : NativeCall Kept) (K : Heap TaggedVa
     where
       by_installing : (n : ℕ) (owner : Owner) (i : Option Installing)
           → on_installing h i (f n owner) ≡ on_installing k i (g n owner)
-      by_installing n owner None = refl
-      by_installing n owner (Some i) = same n owner i
+      by_installing n owner i = grind arith
 
   applet_both : (native : AppletNative) → (tested h (applet_member native).tests).ends ≡ Passed
       → (applet_member native).does h ≡ (applet_member native).does k
@@ -276,9 +259,4 @@ module _ (context : ℕ) (w : World) (call : NativeCall Kept) (K : Heap TaggedVa
 
   pub does_both : (native : Native) → (tested h (member_of_native native).tests).ends ≡ Passed
       → (member_of_native native).does h ≡ (member_of_native native).does k
-  does_both (OfObject native) e = object_both native e
-  does_both (OfAid native) e = aid_both native e
-  does_both (OfApdu native) e = apdu_both native e
-  does_both (OfApplet native) e = applet_both native e
-  does_both (OfSystem native) e = system_both native e
-  does_both (OfUtility native) e = utility_both native e
+  does_both native h1 = grind (arith, object_both, aid_both, apdu_both, applet_both, system_both, utility_both)

@@ -1,11 +1,10 @@
 -- What members read of objects that their tests reached is the same where objects are alike.
-use Rattle.std.proofs.Common.{◌≡◌, ◌⊎◌, inl, inr, ℕ, zero, suc, ◌+◌, ◌==◌, ◌&&◌, Bool, true, false, ◌∷◌}
+use Rattle.std.proofs.Common.{◌≡◌, ◌⊎◌, ℕ, ◌==◌, ◌&&◌, Bool, true, false}
 use Rattle.std.proofs.Common.{map, Option, Some, None, refl, sym, ap, ◌∙◌, subst, slice_get, arith, eqb-true}
 use Rattle.std.proofs.lemmas.Option.{none-some, same_Some}
 use Rattle.std.specs.Option.{option_and_then, option_map, option_map_or}
 use Rattle.jc_firewall.specs.Verdict.{is_allowed, runtime_context, verdict_of}
 use Rattle.jc_firewall.specs.declared.access.Verdict.{Verdict}
-use Rattle.jc_firewall.specs.declared.access.Verdict.TheVariants.{Allowed, AllowedSwitch, Denied}
 use Rattle.jc_link.specs.Linked.{World}
 use Rattle.jc_machine.specs.Going.{facts_in}
 use Rattle.jc_machine.specs.Machine.{NativeCall}
@@ -19,13 +18,13 @@ use Rattle.jc_natives.specs.Checks.{Checked, Passed, access_of, by_verdict}
 use Rattle.jc_natives.specs.Checks.{judged, unfit, uses, uses_value}
 use Rattle.jc_natives.specs.Cells.{low}
 use Rattle.jc_natives.specs.Kept.{Kept}
-use Rattle.jc_natives.specs.Taking.{Called, aid_in, aid_length, as_reference, as_word, bytes_in, called}
+use Rattle.jc_natives.specs.Taking.{Called, aid_in, as_reference, bytes_in, called}
 use Rattle.jc_natives.specs.Taking.{word_at, words_in}
 use Rattle.jc_natives.specs.declared.row.Use.{Use}
 use Rattle.jc_store.specs.Heap.{Heap, Object, object_at}
 use Rattle.jc_store.specs.declared.kind.Mark.{Mark}
 use Rattle.jc_store.specs.declared.kind.Mark.TheVariants.{Plain}
-use Rattle.jc_words.specs.Values.{Null, Ref, TaggedValue, Unset, Word}
+use Rattle.jc_words.specs.Values.{TaggedValue}
 
 pub and_then_both : {A B : Type 0} (o p : Option A) (f g : A → Option B) → o ≡ p
     → ((x : A) → o ≡ Some x → f x ≡ g x) → option_and_then f o ≡ option_and_then g p
@@ -33,8 +32,7 @@ and_then_both {A = A} {B = B} o p f g e k =
     subst (λ (q : Option A). option_and_then f o ≡ option_and_then g q) e (by_option o k)
   where
     by_option : (q : Option A) → ((x : A) → q ≡ Some x → f x ≡ g x) → option_and_then f q ≡ option_and_then g q
-    by_option None k = refl
-    by_option (Some x) k = k x refl
+    by_option q h1 = grind arith
 
 module _ (context : ℕ) (w : World) (call : NativeCall Kept) (K : Heap TaggedValue)
     (alike : AreAlike context call.heap K) (own : HasRuntimeObjects call.heap)
@@ -69,8 +67,7 @@ module _ (context : ℕ) (w : World) (call : NativeCall Kept) (K : Heap TaggedVa
   marked_seen o e = by_bool (o.owner.context == context) (is_plain o.kind.mark) e
     where
       by_bool : (a b : Bool) → b ≡ false → (a && b) ≡ false
-      by_bool true b f = f
-      by_bool false b f = refl
+      by_bool a b h1 = grind arith
 
   pub buffer_same : SameAt apdu_buffer
   buffer_same =
@@ -80,22 +77,16 @@ module _ (context : ℕ) (w : World) (call : NativeCall Kept) (K : Heap TaggedVa
   -- ---- what is read of it
 
   pub word_same : (n i : ℕ) → SameAt n → word_at H n i ≡ word_at K n i
-  word_same n i e =
-      ap (option_and_then (λ (object : Object TaggedValue). option_map_or as_word (slice_get object.cells i) (Some 0)))
-      e
+  word_same n i e = grind arith
 
   pub words_same : (n from count : ℕ) → SameAt n → words_in H n from count ≡ words_in K n from count
-  words_same n from zero e = refl
-  words_same n from (suc count) e =
-      and_then_both (word_at H n from) (word_at K n from) _ _ (word_same n from e)
-      (λ x f. ap (option_map (λ words. x ∷ words)) (words_same n (from + 1) count e))
+  words_same n from count h1 = grind (arith, and_then_both, word_same)
 
   pub bytes_same : (n from count : ℕ) → SameAt n → bytes_in H n from count ≡ bytes_in K n from count
   bytes_same n from count e = ap (option_map (λ words. map low words)) (words_same n from count e)
 
   pub aid_same : (n : ℕ) → SameAt n → aid_in H n ≡ aid_in K n
-  aid_same n e =
-      and_then_both (word_at H n 0) (word_at K n 0) _ _ (word_same n 0 e) (λ x f. bytes_same n 1 (aid_length x) e)
+  aid_same n e = grind (arith, and_then_both, word_same, bytes_same)
 
   -- ---- an argument that a test reached
 
@@ -103,9 +94,7 @@ module _ (context : ℕ) (w : World) (call : NativeCall Kept) (K : Heap TaggedVa
   Reads place = (n : ℕ) → option_and_then as_reference (slice_get call.arguments place) ≡ Some n → SameAt n
 
   passed_allowed : (way : Use) (n : ℕ) (v : Verdict) → (by_verdict h way n v).ends ≡ Passed → is_allowed v ≡ true
-  passed_allowed way n Allowed e = refl
-  passed_allowed way n (AllowedSwitch owner) e = refl
-  passed_allowed way n (Denied rule) e = absurd cc
+  passed_allowed way n v h1 = grind arith
 
   used_seen : (way : Use) (n : ℕ) (o : Object TaggedValue) → (judged h way n o).ends ≡ Passed
       → is_hidden context o ≡ false
@@ -113,38 +102,26 @@ module _ (context : ℕ) (w : World) (call : NativeCall Kept) (K : Heap TaggedVa
     where
       fine : is_allowed (verdict_of (access_of way) call.active.context
           (facts_in w.shapes call.selected o None false)) ≡ true
-      fine = passed_allowed way n (verdict_of (access_of way) call.active.context
-          (facts_in w.shapes call.selected o None false)) e
+      fine = grind (arith, passed_allowed)
 
       plain_of : (m : Mark) → is_plain m ≡ true → m ≡ Plain
       plain_of m f = grind arith
 
       by_owner : (o.owner.context == context) ≡ true
           → (call.active.context ≡ o.owner.context) ⊎ (call.active.context ≡ runtime_context) → ⊥
-      by_owner f (inl same) = other (same ∙ eqb-true o.owner.context context f)
-      by_owner f (inr same) = applet same
+      by_owner h1 h2 = grind (arith, eqb-true)
 
       by_test : (b : Bool) → (o.owner.context == context && is_plain o.kind.mark) ≡ b
           → (o.owner.context == context && is_plain o.kind.mark) ≡ false
-      by_test false f = f
-      by_test true f =
-          let parts = both (o.owner.context == context) (is_plain o.kind.mark) f in
-          absurd (by_owner parts.0 (own_use way call.active.context (facts_in w.shapes call.selected o None false) fine
-          (plain_of o.kind.mark parts.1)))
+      by_test b h1 = grind (arith, both, by_owner, own_use, fine, plain_of)
 
   pub uses_read : (place : ℕ) (way : Use) (null : Checked) → (uses h place way null).ends ≡ Passed → Reads place
   uses_read place way null e n f = by_argument (slice_get call.arguments place) e f
     where
       by_object : (m : ℕ) (x : Option (Object TaggedValue)) → object_at H m ≡ x
           → (option_map_or (judged h way m) x unfit).ends ≡ Passed → SameAt m
-      by_object m None there g = absurd cc
-      by_object m (Some o) there g = seen_same m o there (used_seen way m o g)
+      by_object m x h1 h2 = grind (arith, seen_same, used_seen)
 
       by_argument : (a : Option TaggedValue) → (option_map_or (uses_value h way null) a unfit).ends ≡ Passed
           → option_and_then as_reference a ≡ Some n → SameAt n
-      by_argument None g e2 = absurd cc
-      by_argument (Some (Word m)) g e2 = absurd cc
-      by_argument (Some (Ref m)) g e2 =
-          subst SameAt (same_Some m n e2) (by_object m (object_at H m) refl g)
-      by_argument (Some Null) g e2 = subst SameAt (same_Some 0 n e2) refl
-      by_argument (Some Unset) g e2 = absurd cc
+      by_argument a h1 h2 = grind (arith, same_Some, by_object)

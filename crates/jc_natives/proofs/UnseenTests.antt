@@ -1,6 +1,6 @@
 -- Tests of arguments come to the same where objects are alike.
-use Rattle.std.proofs.Common.{◌≡◌, ℕ, ◌==◌, ◌&&◌, Bool, true, false, cond, List, [], ◌∷◌, length, Option, Some, None}
-use Rattle.std.proofs.Common.{refl, sym, ap, ◌∙◌, subst, slice_get}
+use Rattle.std.proofs.Common.{◌≡◌, ℕ, Bool, true, false, List, [], ◌∷◌, length, Option, Some, None, arith}
+use Rattle.std.proofs.Common.{refl, ap, ◌∙◌, slice_get}
 use Rattle.std.specs.Prelude.{⊤}
 use Rattle.std.specs.Option.{option_and_then, option_map, option_map_or}
 use Rattle.jc_link.specs.Linked.{World}
@@ -9,8 +9,8 @@ use Rattle.jc_machine.specs.Runtime.{null_pointer_exception}
 use Rattle.jc_machine.specs.Unseen.{AreAlike, with_objects}
 use Rattle.jc_machine.proofs.AlikeLaws.{AlikeAt, as_cells, at_alike, with_cells}
 use Rattle.jc_natives.proofs.UnseenReads.{and_then_both}
-use Rattle.jc_natives.specs.Checks.{CallsOtherAid, Check, Checked, HasRange, Passed, Refused, TestEnd, Unfit, Uses}
-use Rattle.jc_natives.specs.Checks.{UsesUnlessNull, are_aids, calls_other, followed, goes_on, in_range, is_aid_at}
+use Rattle.jc_natives.specs.Checks.{CallsOtherAid, Check, Checked, HasRange, Passed, TestEnd, Uses}
+use Rattle.jc_natives.specs.Checks.{UsesUnlessNull, are_aids, calls_other, followed, goes_on, in_range}
 use Rattle.jc_natives.specs.Checks.{is_aid_object, is_aid_value, is_in_range, is_range_in, judged, passed, refused}
 use Rattle.jc_natives.specs.Checks.{test}
 use Rattle.jc_natives.specs.Checks.{tested, unfit, uses, uses_value}
@@ -28,17 +28,13 @@ pub followed_same : (a b c : Checked) → (a.ends ≡ Passed → b ≡ c) → fo
 followed_same a b c same = by_end a.ends same
   where
     by_end : (e : TestEnd) → (e ≡ Passed → b ≡ c) → goes_on a.touches e b ≡ goes_on a.touches e c
-    by_end Passed k = ap (goes_on a.touches Passed) (k refl)
-    by_end (Refused object) k = refl
-    by_end Unfit k = refl
+    by_end e h1 = grind arith
 
 pub followed_passed : (a b : Checked) → (followed a b).ends ≡ Passed → (a.ends ≡ Passed) × (b.ends ≡ Passed)
 followed_passed a b e = by_end a.ends refl e
   where
     by_end : (x : TestEnd) → a.ends ≡ x → (goes_on a.touches x b).ends ≡ Passed → (a.ends ≡ Passed) × (b.ends ≡ Passed)
-    by_end Passed f g = (f, g)
-    by_end (Refused object) f g = absurd cc
-    by_end Unfit f g = absurd cc
+    by_end x h1 h2 = grind arith
 
 module _ (context : ℕ) (w : World) (call : NativeCall Kept) (K : Heap TaggedValue)
     (alike : AreAlike context call.heap K) where
@@ -57,12 +53,7 @@ module _ (context : ℕ) (w : World) (call : NativeCall Kept) (K : Heap TaggedVa
   any_objects n f g none some = by_objects (object_at H n) (object_at K n) (at_alike context H K alike n)
     where
       by_objects : (x y : Option (Object TaggedValue)) → AlikeAt context x y → f x ≡ g y
-      by_objects None None a = none
-      by_objects (Some o) (Some p) a =
-          subst (λ (q : Object TaggedValue). f (Some o) ≡ g (Some q)) (sym (as_cells context o p a))
-          (some o p.cells a.size)
-      by_objects None (Some p) a = absurd a
-      by_objects (Some o) None a = absurd a
+      by_objects x y h1 = grind (arith, as_cells)
 
   pub uses_same : (place : ℕ) (way : Use) (null : Checked) → uses h place way null ≡ uses k place way null
   uses_same place way null = by_argument (slice_get call.arguments place)
@@ -86,9 +77,7 @@ module _ (context : ℕ) (w : World) (call : NativeCall Kept) (K : Heap TaggedVa
   aid_value_same (Some Unset) = refl
 
   pub aids_same : are_aids h ≡ are_aids k
-  aids_same =
-      and_then_both (is_aid_at h 0) (is_aid_at k 0) _ _ (aid_value_same (slice_get call.arguments 0))
-      (λ one e. ap (option_map (λ other. one && other)) (aid_value_same (slice_get call.arguments 1)))
+  aids_same = grind (arith, and_then_both, aid_value_same)
 
   -- what an AID's length is read of is the same
   abbrev pub LengthReads : Length → Type 0
@@ -114,9 +103,7 @@ module _ (context : ℕ) (w : World) (call : NativeCall Kept) (K : Heap TaggedVa
     length_both (lengths.ShortAt place) reads f g same = and_then_both _ _ f g refl (λ x e. same x)
     length_both (lengths.ByteAt place) reads f g same = and_then_both _ _ _ _ refl (λ x e. same (extended x))
     length_both (lengths.Fixed count) reads f g same = same count
-    length_both (lengths.OfAid place) reads f g same =
-        and_then_both _ _ _ _ refl (λ n e.
-        and_then_both (aid_in H n) (aid_in K n) _ _ (aid_same n (reads n e)) (λ bytes f. same (length bytes)))
+    length_both (lengths.OfAid place) reads f g same = search (arith, and_then_both)
 
     range_in_same : (number offset : ℕ) (count : Length) → LengthReads count
         → is_range_in h number offset count ≡ is_range_in k number offset count
@@ -131,10 +118,7 @@ module _ (context : ℕ) (w : World) (call : NativeCall Kept) (K : Heap TaggedVa
 
     in_range_same : (array offset : ℕ) (count : Length) → LengthReads count
         → is_in_range h array offset count ≡ is_in_range k array offset count
-    in_range_same array offset count reads =
-        and_then_both (option_and_then as_reference (slice_get call.arguments array))
-        (option_and_then as_reference (slice_get call.arguments array)) _ _ refl (λ number e.
-        ap (cond (number == 0) (Some true)) (range_in_same number offset count reads))
+    in_range_same array offset count reads = grind (arith, and_then_both, range_in_same)
 
     test_same : (t : Check) → TestReads t → test h t ≡ test k t
     test_same (Uses place way) reads = uses_same place way (refused null_pointer_exception)

@@ -1,5 +1,5 @@
 -- Whatever a member throws is one of the runtime's own objects, before those of AIDs.
-use Rattle.std.proofs.Common.{◌≡◌, ℕ, Bool, true, false, cond, List, [], ◌∷◌, Option, Some, None, refl, sym, ap, ◌∙◌}
+use Rattle.std.proofs.Common.{◌≡◌, ℕ, Bool, true, false, cond, List, [], ◌∷◌, Option, refl, sym, ap, ◌∙◌}
 use Rattle.std.proofs.Common.{slice_get, arith, nat_lt}
 use Rattle.std.specs.Option.{option_and_then, option_map_or}
 use Rattle.jc_api.specs.Numbered.{numbered}
@@ -10,7 +10,6 @@ use Rattle.jc_machine.specs.Machine as machine
 use Rattle.jc_machine.specs.Machine.{Gives, IsStuck, NativeCall, NativeEnd, ThrowsObject, Touch}
 use Rattle.jc_machine.specs.Runtime.{first_aid_object, null_pointer_exception}
 use Rattle.jc_natives.proofs.Spared.{all_throw_own, throws_own}
-use Rattle.jc_natives.specs.Cells.{extended}
 use Rattle.jc_natives.specs.Checks.{CallsOtherAid, Check, Checked, HasRange, Passed, Refused, TestEnd, Unfit, Uses}
 use Rattle.jc_natives.specs.Checks.{UsesUnlessNull, are_aids, by_verdict, calls_other, goes_on, in_range, is_in_range}
 use Rattle.jc_natives.specs.Checks.{judged, passed, refused, test, tested, unfit, uses, uses_value}
@@ -19,7 +18,7 @@ use Rattle.jc_natives.specs.Meaning.{answer_of, begun, ended, unchanged, worked}
 use Rattle.jc_natives.specs.Members.{aid_member, apdu_member, applet_member, asks, ends_with, have_same_bytes}
 use Rattle.jc_natives.specs.Members.{in_buffer, is_range, kept_of, makes, member_of_native, natives, object_member}
 use Rattle.jc_natives.specs.Members.{system_member, utility_member}
-use Rattle.jc_natives.specs.Taking.{Called, aid_in, as_reference, as_word, bytes_in, called, on_aid, on_range}
+use Rattle.jc_natives.specs.Taking.{Called, aid_in, as_reference, as_word, on_aid, on_range}
 use Rattle.jc_natives.specs.Taking.{on_reference, on_word}
 use Rattle.jc_natives.specs.Work.{Asks, Does, Ending, GivesReference, GivesWord, Makes, NoResult, Throws, Work}
 use Rattle.jc_natives.specs.declared.kept.Instance.{Instance}
@@ -30,18 +29,16 @@ use Rattle.jc_natives.specs.declared.native.ApduNative.TheVariants as apdus
 use Rattle.jc_natives.specs.declared.native.AppletNative.{AppletNative}
 use Rattle.jc_natives.specs.declared.native.Elements.{Elements}
 use Rattle.jc_natives.specs.declared.native.Native.{Native}
-use Rattle.jc_natives.specs.declared.native.Native.TheVariants.{OfAid, OfApdu, OfApplet, OfObject, OfSystem, OfUtility}
+use Rattle.jc_natives.specs.declared.native.Native.TheVariants.{OfObject}
 use Rattle.jc_natives.specs.declared.native.ObjectNative.{ObjectNative}
-use Rattle.jc_natives.specs.declared.native.ObjectNative.TheVariants as objects
 use Rattle.jc_natives.specs.declared.native.SystemNative.{SystemNative}
 use Rattle.jc_natives.specs.declared.native.SystemNative.TheVariants as system
 use Rattle.jc_natives.specs.declared.native.UtilityNative.{UtilityNative}
 use Rattle.jc_natives.specs.declared.row.Length.TheVariants.{ByteAt}
 use Rattle.jc_natives.specs.declared.row.Use.{Use}
-use Rattle.jc_natives.specs.declared.row.Use.TheVariants.{Calls}
-use Rattle.jc_store.specs.Heap.{Object, object_at}
+use Rattle.jc_store.specs.Heap.{Object}
 use Rattle.jc_store.specs.declared.kind.ClearingEvent.{ClearingEvent}
-use Rattle.jc_words.specs.Values.{Null, Ref, TaggedValue, Unset, Word}
+use Rattle.jc_words.specs.Values.{TaggedValue}
 
 -- ---- works
 
@@ -63,8 +60,7 @@ IsOwn o = option_map_or is_own_work o true ≡ true
 
 and_then_own : {A : Type 0} (o : Option A) (go : A → Option Work) → ((x : A) → IsOwn (go x))
     → IsOwn (option_and_then go o)
-and_then_own None go each = refl
-and_then_own (Some x) go each = each x
+and_then_own o go h1 = grind arith
 
 module _ (h : Called) where
   at_reference : (place : ℕ) (go : ℕ → Option Work) → ((n : ℕ) → IsOwn (go n)) → IsOwn (on_reference h place go)
@@ -78,9 +74,7 @@ module _ (h : Called) where
 
   at_range : (array offset count : ℕ) (go : List ℕ → Option Work) → ((bytes : List ℕ) → IsOwn (go bytes))
       → IsOwn (on_range h array offset (ByteAt count) go)
-  at_range array offset count go each =
-      at_reference array _ (λ number. at_word offset _ (λ from. at_word count _ (λ n.
-      and_then_own (bytes_in h.call.heap number from (extended n)) go each)))
+  at_range array offset count go each = grind (arith, at_reference, at_word, and_then_own)
 
   aids_own : (one other : ℕ) (aids : Bool)
       → IsOwn (cond aids (have_same_bytes h one other) (ends_with h (GivesWord 0)))
@@ -88,12 +82,10 @@ module _ (h : Called) where
   aids_own one other false = refl
 
   either_own : (b : Bool) (one other : Option Work) → IsOwn one → IsOwn other → IsOwn (cond b one other)
-  either_own true one other e f = e
-  either_own false one other e f = f
+  either_own b one other h1 h2 = grind arith
 
   object_own : (native : ObjectNative) → throws_own (OfObject native) ≡ true → IsOwn ((object_member native).does h)
-  object_own objects.Equals e = grind (arith, and_then_own, either_own, aids_own)
-  object_own native e = grind (arith, and_then_own)
+  object_own native h1 = grind (arith, and_then_own, either_own, aids_own)
 
   range_own : (aid : ℕ) → IsOwn (is_range h aid)
   range_own aid = at_aid aid _ (λ own. at_range 1 2 3 _ (λ bytes. refl))
@@ -101,8 +93,7 @@ module _ (h : Called) where
   aid_own : (native : AidNative) → IsOwn ((aid_member native).does h)
   aid_own aids.Construct = grind (arith, and_then_own)
   aid_own aids.Equals = grind (arith, and_then_own, either_own, range_own)
-  aid_own aids.GetBytes = at_reference 0 _ (λ aid. at_reference 1 _ (λ array. at_word 2 _ (λ offset.
-      at_aid aid _ (λ bytes. refl))))
+  aid_own aids.GetBytes = search (arith, and_then_own, either_own, range_own, at_reference, at_word, at_aid)
 
   in_buffer_own : (offset count : ℕ) (go : List ℕ → Option Work) → ((bytes : List ℕ) → IsOwn (go bytes))
       → IsOwn (in_buffer h offset count go)
@@ -121,8 +112,7 @@ module _ (h : Called) where
   makes_own elements size event = grind arith
 
   asks_own : (byte : ℕ) (o : Option Instance) → is_own_work (asks (kept_of h) h.call.active byte o) ≡ true
-  asks_own byte None = refl
-  asks_own byte (Some i) = refl
+  asks_own byte o = grind arith
 
   system_own : (native : SystemNative) → IsOwn ((system_member native).does h)
   system_own system.AskForShareable = at_reference 0 _ (λ aid. at_word 1 _ (λ byte. at_aid aid _ (λ bytes.
@@ -134,12 +124,7 @@ module _ (h : Called) where
   utility_own native = grind arith
 
   does_own : (native : Native) → throws_own native ≡ true → IsOwn ((member_of_native native).does h)
-  does_own (OfObject native) e = object_own native e
-  does_own (OfAid native) e = aid_own native
-  does_own (OfApdu native) e = apdu_own native
-  does_own (OfApplet native) e = applet_own native
-  does_own (OfSystem native) e = system_own native
-  does_own (OfUtility native) e = utility_own native
+  does_own native h1 = grind (arith, object_own, aid_own, apdu_own, applet_own, system_own, utility_own)
 
 -- ---- tests
 
@@ -160,15 +145,10 @@ module _ (h : Called) where
       by_verdict_own n verdict = grind arith
 
       by_object : (n : ℕ) (o : Option (Object TaggedValue)) → IsOwnRefusal (option_map_or (judged h way n) o unfit).ends
-      by_object n None = refl
-      by_object n (Some object) = by_verdict_own n _
+      by_object n o = grind (arith, by_verdict_own)
 
       by_argument : (a : Option TaggedValue) → IsOwnRefusal (option_map_or (uses_value h way null) a unfit).ends
-      by_argument None = refl
-      by_argument (Some (Word n)) = refl
-      by_argument (Some (Ref n)) = by_object n (object_at h.call.heap n)
-      by_argument (Some Null) = e
-      by_argument (Some Unset) = refl
+      by_argument a = grind (arith, by_object)
 
   test_refuses : (t : Check) → IsOwnRefusal (test h t).ends
   test_refuses (Uses place way) = uses_refuses place way (refused null_pointer_exception) refl
@@ -176,9 +156,7 @@ module _ (h : Called) where
   test_refuses CallsOtherAid = by_aids (are_aids h)
     where
       by_aids : (o : Option Bool) → IsOwnRefusal (option_map_or (calls_other h) o unfit).ends
-      by_aids None = refl
-      by_aids (Some true) = uses_refuses 1 Calls (refused null_pointer_exception) refl
-      by_aids (Some false) = refl
+      by_aids o = grind (arith, uses_refuses)
   test_refuses (HasRange array offset count) = by_range (is_in_range h array offset count)
     where
       by_range : (o : Option Bool) → IsOwnRefusal (option_map_or in_range o unfit).ends
@@ -190,9 +168,7 @@ module _ (h : Called) where
     where
       by_end : (e : TestEnd) → IsOwnRefusal e → IsOwnRefusal (tested h ts).ends
           → IsOwnRefusal (goes_on (test h t).touches e (tested h ts)).ends
-      by_end Passed own later = later
-      by_end (Refused object) own later = own
-      by_end Unfit own later = refl
+      by_end e h1 h2 = grind arith
 
 -- ---- answers
 
@@ -208,19 +184,11 @@ worked_own call touches o e = grind arith
 
 ended_own : (call : NativeCall Kept) (touches : List Touch) (e : TestEnd) (o : Option Work) → IsOwnRefusal e → IsOwn o
     → is_own_end (ended call touches e o).ends ≡ true
-ended_own call touches Passed o f own = worked_own call touches o own
-ended_own call touches (Refused object) o f own = f
-ended_own call touches Unfit o f own = refl
+ended_own call touches e o h1 h2 = grind (arith, worked_own)
 
 begun_own : (w : World) (call : NativeCall Kept) (number : ℕ) (o : Option Native) → numbered natives number ≡ o
     → is_own_end (begun w call o).ends ≡ true
-begun_own w call number None e = refl
-begun_own w call number (Some native) e =
-    let h = called w call in
-    let m = member_of_native native in
-    let t = tested h m.tests in
-    ended_own call t.touches t.ends (m.does h) (tests_refuse h m.tests)
-    (does_own h native (all_throw_own number native e))
+begun_own w call number o h1 = grind (arith, ended_own, tests_refuse, does_own, all_throw_own)
 
 pub answers_throw_own : (w : World) (call : NativeCall Kept) (number : ℕ)
     → (answer_of w call).ends ≡ ThrowsObject number → nat_lt number first_aid_object ≡ true
@@ -229,5 +197,4 @@ answers_throw_own w call number e =
   where
     by_begin : (b : Bool)
         → is_own_end (cond b (begun w call (numbered natives call.member)) (unchanged call [] IsStuck)).ends ≡ true
-    by_begin true = begun_own w call call.member (numbered natives call.member) refl
-    by_begin false = refl
+    by_begin b = grind (arith, begun_own)

@@ -1,4 +1,4 @@
-use Rattle.std.proofs.Common.{sym, ◌∙◌}
+use Rattle.std.proofs.Common.{sym, ◌∙◌, arith}
 use Rattle.jc_api.specs.Numbered.{numbered}
 use Rattle.jc_natives.proofs.Numbers.{keeps_limits, numbers_arrays}
 use Rattle.jc_natives.proofs.Simulation.{answered}
@@ -21,8 +21,4 @@ returns-clause-classes c =
     (sym c.objects_used-used.ensures.objects ∙ c.objects_used-used.ensures.classes) c.call_member.ensures
 
 pub returns-clause-limits : goal.returns-clause-limits
-returns-clause-limits c =
-    keeps_limits c.args.call.now.active c.args.store.now c.args.self.now
-    (seen_in c.args.store.now c.args.call.now) c.args.call.now.arguments.now (numbered natives c.args.call.now.member)
-    (record { store = c.call_member.new.store; kept = c.call_member.new.runtime; ended = c.call_member.result })
-    c.call_member.ensures
+returns-clause-limits c = search (arith, keeps_limits)

@@ -104,6 +104,10 @@ TWO_SHAPES = 'new Square; astore_3; new Disc; astore 4'
 TWO_OPS = 'new Twice; astore_3; new Minus; astore 4'
 CHANGE = 'aload_3; aload 4; astore_3; astore 4'
 SUM = 'aload_3; sload_1; baload; sload_2; sadd; sstore_2'
+NATIVES = '''
+    aload_3; sload_1; invokestatic getShort; sload_2; sadd; sstore_2
+    aload_3; sload_1; sconst_1; ssub; sload_2; invokestatic setShort; pop
+    aload_3; sload_1; sconst_2; ssub; aload_3; sload_1; bspush 8; invokestatic arrayCopy; pop'''
 
 
 @dataclass(frozen=True)
@@ -162,10 +166,8 @@ KERNELS = {
         'start: sload_1; invokestatic deep; pop; end: goto on; h: pop; sload_1; sload_2; sxor; sstore_2; on: nop',
         'new Mine; putstatic_a mine'), 120, 6),
     'natives': Kernel('native members: getShort, setShort, arrayCopy', loop(
-        'aload_3; sload_1; invokestatic getShort; sload_2; sadd; sstore_2; '
-        'aload_3; sload_1; sconst_1; ssub; sload_2; invokestatic setShort; pop; '
-        'aload_3; sload_1; sconst_2; ssub; aload_3; sload_1; bspush 8; invokestatic arrayCopy; pop',
-        'sspush 200; newarray 11; astore_3', 180, -2), 800),
+        NATIVES, 'sspush 200; newarray 11; astore_3', 180, -2), 800),
+    'global': Kernel('native members on a global array', loop(NATIVES, 'getstatic_a buffer; astore_3', 180, -2), 800),
 }
 
 

@@ -9,7 +9,10 @@ use Rattle.jc_firewall.specs.declared.access.Facts.{Facts}
 use Rattle.jc_natives.specs.Checks.{access_of}
 use Rattle.jc_natives.specs.PrivateSeen.{NativeInput}
 use Rattle.jc_natives.specs.PrivateTests.{by_verdict, used}
+use Rattle.jc_natives.specs.PrivateAtOnce.{IsGlobal}
 use Rattle.jc_natives.specs.declared.row.Use.{Use}
+use Rattle.jc_natives.specs.declared.row.Use.TheVariants.{Loads, Stores}
+use Rattle.jc_store.specs.Heap.{Object, object_at}
 use Rattle.jc_store.specs.Store.{IsOwn, IsReference, Store}
 
 -- no use stores a reference
@@ -24,6 +27,15 @@ runtime_may s way number f = grind (arith, f)
 pub own_passes : OwnIsAllowed → (s : NativeInput) (store : Store) (way : Use) (number : ℕ) → s.objects ≡ store.objects
     → IsOwn store number s.active.context → (used s way number).thrown ≡ None
 own_passes law s store way number same own = grind (arith, runtime_may, both_ways, eq-eqb, stores_none)
+
+-- and each context may load and store components of a global array
+module _ (s : NativeInput) (store : Store) (number : ℕ) (same : s.objects ≡ store.objects) (o : Object ℕ)
+    (there : object_at store.objects number ≡ Some o) (global : IsGlobal o.kind) where
+  pub global_loads : (used s Loads number).thrown ≡ None
+  global_loads = grind (arith, runtime_may, both_ways)
+
+  pub global_stores : (used s Stores number).thrown ≡ None
+  global_stores = grind (arith, runtime_may, both_ways)
 
 -- 0, and each number up to that of the last object, is that of null or of an object that is there
 got : {A : Type 0} (xs : List A) (n : ℕ) → n < length xs → (x : A) × (slice_get xs n ≡ Some x)

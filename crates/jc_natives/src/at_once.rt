@@ -1,11 +1,15 @@
-//! Members that are done at once, on scalars: short ones, and those that move bytes. Their objects have to be the
-//! active context's own, and ranges have to lie within them. Everything else is left to the tests of a call.
+//! Members that are done at once, on scalars: short ones, and those that move bytes. Their arrays have to be the active
+//! context's own or global, as the APDU buffer is, and ranges have to lie within them. Everything else is left to the
+//! tests of a call.
 
-ghost use Rattle.std.specs.Prelude.{◌≡◌, true, Some};
+ghost use Rattle.std.specs.Prelude.{◌≡◌, ℕ, true, Some};
 ghost use Rattle.jc_api.specs.Numbered.{numbered};
 ghost use Rattle.jc_machine.specs.declared.natives.AtOnce.TheVariants.{NotAtOnce};
 ghost use Rattle.jc_natives.specs.Members.{natives};
-ghost use Rattle.jc_natives.specs.PrivateAtOnce.{HasOwnPart, HasOwnParts, MayBeUsed, WorksAtOnce};
+ghost use Rattle.jc_natives.specs.PrivateAtOnce.{HasPart, HasParts, IsGlobal, MayBeUsed, MayUseComponents};
+ghost use Rattle.jc_natives.specs.PrivateAtOnce.{WorksAtOnce};
+ghost use Rattle.jc_store.specs.Heap.{Object, object_at};
+ghost use Rattle.jc_store.specs.Store.{IsThere};
 ghost use Rattle.jc_natives.specs.declared.native.ObjectNative.TheVariants as objects;
 ghost use Rattle.jc_natives.specs.declared.native.UtilityNative.TheVariants as utilities;
 ghost use Rattle.jc_natives.specs.declared.native.Native.TheVariants.{OfObject, OfUtility};
@@ -15,7 +19,7 @@ use crate::cells::{argument, is_within, sum, word_of};
 use crate::words::low;
 use jc_firewall::own_is_allowed;
 use jc_machine::AtOnce;
-use jc_store::Store;
+use jc_store::{Mark, Store};
 
 // Whether an object is a context's own, so the context may use it in every way. Null is no context's own.
 #[inline(always)]
@@ -27,27 +31,50 @@ fn is_own(store: &Store, number: u16, context: u8) -> bool
     number <= store.objects_used() && store.is_own(number, context)
 }
 
-// Whether an array is a context's own, and has `count` components from an index on.
+// Whether an object is a global array that is never cleared: each context may load and store its components.
 #[inline(always)]
-fn has_own_part(store: &Store, number: u16, from: u16, count: u16, context: u8) -> bool
-    ensures { result ≡ true → HasOwnPart store.now number from count context }
+fn is_global(store: &Store, number: u16) -> bool
+    requires there { IsThere store.now number }
+    ensures { result ≡ true → (object : Object ℕ) → object_at store.now.objects number ≡ Some object
+        → IsGlobal object.kind }
 {
-    is_own(store, number, context) && is_within(store.len(number), from, count)
+    let kind = store.kind_of(number);
+    match kind.mark {
+        Mark::GlobalArray => kind.clears.is_none(),
+        Mark::Plain | Mark::PermanentEntryPoint | Mark::TemporaryEntryPoint => false,
+    }
 }
 
-// Whether both arrays of a member are a context's own, and the ranges lie within them.
+// Whether a context may load and store an object's components.
+#[inline(always)]
+#[tactic(auto, using(crate::proofs::Owning::global_loads, crate::proofs::Owning::global_stores))]
+fn may_use_components(store: &Store, number: u16, context: u8) -> bool
+    ensures { result ≡ true → MayUseComponents store.now number context }
+{
+    is_own(store, number, context) || (store.is_there(number) && is_global(store, number))
+}
+
+// Whether a context may do that, and an array has `count` components from an index on.
+#[inline(always)]
+fn has_part(store: &Store, number: u16, from: u16, count: u16, context: u8) -> bool
+    ensures { result ≡ true → HasPart store.now number from count context }
+{
+    may_use_components(store, number, context) && is_within(store.len(number), from, count)
+}
+
+// The same for both arrays of a member.
 #[inline(never)]
-fn has_own_parts(store: &Store, arguments: &[u16], context: u8) -> bool
-    ensures { result ≡ true → HasOwnParts store.now arguments.now context }
+fn has_parts(store: &Store, arguments: &[u16], context: u8) -> bool
+    ensures { result ≡ true → HasParts store.now arguments.now context }
 {
     let count = argument(arguments, 4);
-    has_own_part(
+    has_part(
         store,
         argument(arguments, 0),
         argument(arguments, 1),
         count,
         context,
-    ) && has_own_part(
+    ) && has_part(
         store,
         argument(arguments, 2),
         argument(arguments, 3),
@@ -74,7 +101,7 @@ fn get_short(store: &Store, arguments: &[u16], context: u8) -> AtOnce
 {
     let array = argument(arguments, 0);
     let from = argument(arguments, 1);
-    if has_own_part(store, array, from, 2, context) {
+    if has_part(store, array, from, 2, context) {
         AtOnce::Gives(short_at(store, array, from))
     } else {
         AtOnce::NotAtOnce
@@ -88,7 +115,7 @@ fn set_short(store: &mut Store, arguments: &[u16], context: u8) -> AtOnce
 {
     let array = argument(arguments, 0);
     let from = argument(arguments, 1);
-    if !has_own_part(store, array, from, 2, context) {
+    if !has_part(store, array, from, 2, context) {
         return AtOnce::NotAtOnce;
     }
     put_short(store, array, from, argument(arguments, 2));
@@ -110,7 +137,7 @@ fn array_copy(store: &mut Store, arguments: &[u16], context: u8) -> AtOnce
         result }
     ensures asks { result ≡ NotAtOnce → store.new ≡ store.old }
 {
-    if !has_own_parts(store, arguments, context) {
+    if !has_parts(store, arguments, context) {
         return AtOnce::NotAtOnce;
     }
     let source = argument(arguments, 0);
@@ -131,7 +158,7 @@ fn array_fill(store: &mut Store, arguments: &[u16], context: u8) -> AtOnce
     let array = argument(arguments, 0);
     let from = argument(arguments, 1);
     let count = argument(arguments, 2);
-    if !has_own_part(store, array, from, count, context) {
+    if !has_part(store, array, from, count, context) {
         return AtOnce::NotAtOnce;
     }
     fill_bytes(store, array, from, count, argument(arguments, 3) % 256);
@@ -142,7 +169,7 @@ fn array_fill(store: &mut Store, arguments: &[u16], context: u8) -> AtOnce
 fn array_compare(store: &Store, arguments: &[u16], context: u8) -> AtOnce
     ensures { WorksAtOnce (Some (OfUtility utilities.ArrayCompare)) arguments.now context store.now store.now result }
 {
-    if !has_own_parts(store, arguments, context) {
+    if !has_parts(store, arguments, context) {
         return AtOnce::NotAtOnce;
     }
     let one = argument(arguments, 0);
